@@ -1,0 +1,5 @@
+//! A fork-join lock for many short parallel rounds: a leader hands lists of items to its rounds, and outputs come back
+//! in the order of the items.
+#![tactic(auto)]
+
+pub mod lock;

@@ -1,0 +1,3 @@
+//! Locks: a caller opens one for a kind of job, and hands lists of items to its rounds.
+
+pub mod job;

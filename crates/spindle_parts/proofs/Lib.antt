@@ -1,0 +1,5 @@
+pub mod Lists
+pub mod Parties
+pub mod Fates
+pub mod Soundness
+pub mod Frames

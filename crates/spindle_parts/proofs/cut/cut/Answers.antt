@@ -1,0 +1,91 @@
+use Rattle.std.proofs.Common.{◌≡◌, ℕ, ◌+◌, ◌≤◌, ◌<◌, ◌-◌, ◌++◌, ◌∷◌, [], length, take, drop, arith, rules, vec_capacity, vec_len, Vec, subst, sym, map, get_or, List, ◌∙◌, ap, append_assoc, min, length-append, reverse, refl, add-one}
+use Rattle.std.proofs.lemmas.List.{take-append-drop, take_all, drop_all, drop_more, length-take, get_or_default, append-nil}
+use Rattle.spindle_parts.specs.declared.cut.Piece.{Piece}
+use Rattle.spindle_parts.specs.Pieces.{joined, counted, total, cut_lengths, lengths_of}
+use Rattle.spindle_parts.proofs.Lists.{total-lengths, total_last, map_snoc, reverse_snoc, back_snoc, map-reverse, nil_if}
+use Rattle.std.proofs.lemmas.Grind.{common_steps}
+use Rattle.spindle_parts.proofs.cut.cut.Goals as goal
+
+pub loop-done-init : goal.loop-done-init
+loop-done-init g c =
+    let ls : List ℕ = c.in_ok-lengths.lengths.items in
+    let n : length ls ≤ c.len-count.result - 0 = omega (arith, c.len-count.ensures, c.in_ok-lengths.lengths.ok.0) in
+    record {
+      joined = rw (c.in_ok-pieces.ensures.items) (append-nil c.args.items.now.items);
+      lengths = rw (c.in_ok-pieces.ensures.items, drop_all (c.len-count.result - 0) ls n) refl;
+      numbers = rw (c.in_ok-pieces.ensures.items) refl;
+      left =
+          let some : 0 < vec_len c.args.items.now = search rules in
+          let jobs : 0 < c.args.n_jobs = c.requires some in
+          let t : total (cut_lengths (vec_len c.args.items.now) c.args.n_jobs) ≡ vec_len c.args.items.now = total-lengths (vec_len c.args.items.now) (min (vec_len c.args.items.now) c.args.n_jobs) (omega arith) in
+          let b : ls ≡ cut_lengths (vec_len c.args.items.now) c.args.n_jobs = search rules in
+          let a : length c.args.items.now.items ≡ vec_len c.args.items.now = sym c.args.items.now.ok.0 in
+          rw (take_all (c.len-count.result - 0) ls n) (a ∙ sym t ∙ ap total (sym b));
+      len = search rules;
+      room = search rules;
+      block = refl;
+    }
+
+pub overflow_sub-at : goal.overflow_sub-at
+overflow_sub-at g c =
+    let ls : List ℕ = c.in_ok-lengths.lengths.items in
+    let n : ℕ = c.len-count.result in
+    let d : ℕ = c.loop-done.done in
+    let i : ℕ = n - 1 - d in
+    let k : n - d ≡ i + 1 = omega arith in
+    let h : i < length ls = omega (arith, c.len-count.ensures, c.in_ok-lengths.lengths.ok.0) in
+    let r : c.index.result.now ≡ get_or ls i 0 = c.index.ensures ∙ get_or_default ls i c.index.result.now 0 h in
+    let t : length c.loop-done.items.items ≡ total (take i ls) + get_or ls i 0 = c.loop-done.invariant.left ∙ ap (λ m. total (take m ls)) k ∙ total_last ls i h in
+    omega (arith, r, t, c.len-in-loop-done.ensures, c.loop-done.items.ok.0)
+
+pub loop-done-preserved : goal.loop-done-preserved
+loop-done-preserved g c =
+    let P : Type 0 = Piece g.row.T.Denot in
+    let f : P → List g.row.T.Denot = λ p. p.items.items in
+    let ls : List ℕ = c.in_ok-lengths.lengths.items in
+    let n : ℕ = c.len-count.result in
+    let d : ℕ = c.loop-done.done in
+    let i : ℕ = n - 1 - d in
+    let k : n - d ≡ i + 1 = omega arith in
+    let k' : n - (d + 1) ≡ i = omega arith in
+    let h : i < length ls = omega (arith, c.len-count.ensures, c.in_ok-lengths.lengths.ok.0) in
+    let r : c.index.result.now ≡ get_or ls i 0 = c.index.ensures ∙ get_or_default ls i c.index.result.now 0 h in
+    let t : length c.loop-done.items.items ≡ total (take i ls) + get_or ls i 0 = c.loop-done.invariant.left ∙ ap (λ m. total (take m ls)) k ∙ total_last ls i h in
+    let at : ℕ = c.len-in-loop-done.result - c.index.result.now in
+    let p : P = record { number = i; items = c.in-Ok.run' } in
+    let ps : List P = c.loop-done.pieces.items in
+    let e : c.push_reserved.new.self.items ≡ ps ++ p ∷ [] = c.push_reserved.ensures.items in
+    let m : vec_len c.in-Ok.run' ≡ get_or ls i 0 = omega (arith, c.in-Ok.ensures.tail_len, r, t, c.len-in-loop-done.ensures, c.loop-done.items.ok.0) in
+    record {
+      joined = rw (e, back_snoc f ps p, c.in-Ok.ensures.items, c.in-Ok.ensures.tail, sym (append_assoc (take at c.loop-done.items.items) (drop at c.loop-done.items.items) (joined (reverse (map f ps)))), take-append-drop at c.loop-done.items.items) c.loop-done.invariant.joined;
+      lengths =
+          rw (e, map_snoc (λ (q : P). vec_len q.items) ps p, reverse_snoc (map (λ (q : P). vec_len q.items) ps) (vec_len c.in-Ok.run'), k', drop_more ls i 0 h, m) (ap (λ z. get_or ls i 0 ∷ z) (c.loop-done.invariant.lengths ∙ ap (λ z. drop z ls) k));
+      numbers =
+          rw (e, map_snoc (λ (q : P). q.number) ps p, reverse_snoc (map (λ (q : P). q.number) ps) i, k', add-one d) (ap (λ z. i ∷ z) (c.loop-done.invariant.numbers ∙ ap (λ z. counted z d) k));
+      left =
+          let l : length c.split_off.new.self.items ≡ total (take i ls) = omega (arith, c.in-Ok.ensures.len, c.split_off.new.self.ok.0, r, t, c.len-in-loop-done.ensures, c.loop-done.items.ok.0) in
+          l ∙ ap (λ z. total (take z ls)) (sym k');
+      len = search rules;
+      room = search rules;
+      block = search rules;
+    }
+
+pub returns-clause-joined : goal.returns-clause-joined
+returns-clause-joined g c =
+    let f : Piece g.row.T.Denot → List g.row.T.Denot = λ p. p.items.items in
+    let z : c.len-count.result - c.loop-done.done ≡ 0 = omega arith in
+    let none : c.loop-done.items.items ≡ [] = nil_if c.loop-done.items.items (c.loop-done.invariant.left ∙ ap (λ m. total (take m c.in_ok-lengths.lengths.items)) z) in
+    let j : joined (reverse (map f c.loop-done.pieces.items)) ≡ c.args.items.now.items = rw none at c.loop-done.invariant.joined in
+    rw (c.reverse.ensures.items, map-reverse f c.loop-done.pieces.items) j
+
+pub returns-clause-lengths : goal.returns-clause-lengths
+returns-clause-lengths g c =
+    let z : c.len-count.result - c.loop-done.done ≡ 0 = omega arith in
+    let b : c.in_ok-lengths.lengths.items ≡ cut_lengths (vec_len c.args.items.now) c.args.n_jobs = search rules in
+    rw (c.reverse.ensures.items, map-reverse (λ (p : Piece g.row.T.Denot). vec_len p.items) c.loop-done.pieces.items) (c.loop-done.invariant.lengths ∙ ap (λ m. drop m c.in_ok-lengths.lengths.items) z ∙ b)
+
+pub returns-clause-numbers : goal.returns-clause-numbers
+returns-clause-numbers g c =
+    let z : c.len-count.result - c.loop-done.done ≡ 0 = omega arith in
+    let b : c.loop-done.done ≡ vec_len c.reverse.new.self = sym (c.reverse.ensures.len ∙ c.loop-done.invariant.len) in
+    rw (c.reverse.ensures.items, map-reverse (λ (p : Piece g.row.T.Denot). p.number) c.loop-done.pieces.items) (c.loop-done.invariant.numbers ∙ ap (λ m. counted m c.loop-done.done) z ∙ ap (λ m. counted 0 m) b)

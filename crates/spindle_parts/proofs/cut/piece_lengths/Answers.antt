@@ -1,0 +1,12 @@
+use Rattle.std.proofs.Common.{◌≡◌, ℕ, ◌+◌, ◌-◌, ◌≤◌, ◌<◌, ◌++◌, ◌∷◌, [], replicate, append_assoc, arith, sym, ap, ◌∙◌}
+use Rattle.std.proofs.lemmas.List.{replicate_more}
+use Rattle.spindle_parts.proofs.cut.piece_lengths.Goals as goal
+
+-- one more at the end of the second run
+second_more : (a b : ℕ) (x y : ℕ) → a ≤ b → replicate a x ++ replicate (b + 1 - a) y ≡ (replicate a x ++ replicate (b - a) y) ++ y ∷ []
+second_more a b x y h =
+    let e : b + 1 - a ≡ b - a + 1 = omega arith in
+    rw e (ap (λ t. replicate a x ++ t) (sym (replicate_more (b - a) y)) ∙ sym (append_assoc (replicate a x) (replicate (b - a) y) (y ∷ [])))
+
+pub loop-number-2-preserved : goal.loop-number-2-preserved
+loop-number-2-preserved c = grind (arith, second_more)

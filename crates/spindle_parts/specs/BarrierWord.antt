@@ -1,0 +1,7 @@
+-- The barrier word of a state.
+use Rattle.std.specs.Prelude.{◌≡◌, ◌≢◌, ◌⊎◌, ℕ, zero, suc, ◌+◌, ◌*◌, ◌%◌, ◌<◌, ◌≤◌, Bool, true, false, ◌||◌, ◌==◌, List, [], ◌∷◌, ◌++◌, Option, Some, None, if◌then◌else◌}
+use Rattle.spindle_parts.specs.State.{State, inside, members}
+
+-- members that are in, members, and the lowest bit of the round number, each in its field
+abbrev pub word : State → ℕ
+word s = inside s.parties + 65536 * members s.parties + 2147483648 * (s.round % 2)

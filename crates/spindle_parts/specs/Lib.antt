@@ -1,0 +1,6 @@
+pub mod Pieces
+pub mod State
+pub mod Steps
+pub mod Runs
+pub mod BarrierWord
+pub mod Trail

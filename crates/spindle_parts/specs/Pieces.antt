@@ -1,0 +1,24 @@
+-- The pieces of a list.
+use Rattle.std.specs.Prelude.{ℕ, ◌+◌, ◌/◌, ◌%◌, ◌<◌, ◌-◌, List, [], ◌∷◌, ◌++◌, min, replicate, zero, suc}
+
+-- the lengths of the pieces: the first `len % m` are one longer, where m is the smaller of len and n_jobs
+abbrev pub lengths_of : (len m : ℕ) → List ℕ
+lengths_of len m = replicate (len % m) (len / m + 1) ++ replicate (m - len % m) (len / m)
+
+abbrev pub cut_lengths : (len n_jobs : ℕ) → List ℕ
+cut_lengths len n_jobs = lengths_of len (min len n_jobs)
+
+-- the lists joined in order
+abbrev pub joined : {T : Type 0} → List (List T) → List T
+joined [] = []
+joined (x ∷ xs) = x ++ joined xs
+
+-- the numbers from `from` on
+abbrev pub counted : (from n : ℕ) → List ℕ
+counted from zero = []
+counted from (suc n) = from ∷ counted (from + 1) n
+
+-- the sum
+abbrev pub total : List ℕ → ℕ
+total [] = 0
+total (x ∷ xs) = x + total xs

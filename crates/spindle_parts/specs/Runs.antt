@@ -1,0 +1,17 @@
+-- Runs: lists of events, each allowed where it stands.
+use Rattle.std.specs.Prelude.{◌≡◌, ◌≢◌, ◌⊎◌, ℕ, zero, suc, ◌+◌, ◌*◌, ◌%◌, ◌<◌, ◌≤◌, Bool, true, false, ◌||◌, ◌==◌, List, [], ◌∷◌, ◌++◌, Option, Some, None, if◌then◌else◌}
+use Rattle.spindle_parts.specs.State.{State, fresh, times}
+use Rattle.spindle_parts.specs.Steps.{Event, Allowed, after}
+
+-- a run, the newest event first
+abbrev pub state : List Event → State
+state [] = fresh
+state (e ∷ es) = after (state es) e
+
+abbrev pub IsRun : List Event → Type 0
+IsRun [] = Unit {0}
+IsRun (e ∷ es) = Allowed (state es) e × IsRun es
+
+-- what is true after any run of the rounds
+abbrev pub IsOnce : State → Type 0
+IsOnce s = (q k : ℕ) → (times k (s.rounds q).begun ≤ 1) × (times k (s.rounds q).finished ≤ times k (s.rounds q).begun)

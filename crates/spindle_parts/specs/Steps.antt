@@ -1,0 +1,94 @@
+-- The events of a round: by whom each is, when it is allowed, and what it changes.
+use Rattle.std.specs.Prelude.{◌≡◌, ◌≢◌, ◌⊎◌, ℕ, zero, suc, ◌+◌, ◌*◌, ◌%◌, ◌<◌, ◌≤◌, Bool, true, false, ◌||◌, ◌==◌, List, [], ◌∷◌, ◌++◌, Option, Some, None, if◌then◌else◌}
+use Rattle.spindle_parts.specs.State.{Status, Out, In, Arrived, Party, Round, State, no_set, put, party_of, put_party, inside, members, times, wake, now, party, change, change_round, Free}
+
+pub data Event : Type 0 where
+  Join : (p : ℕ) → Event
+  Publish : (p n : ℕ) → Event
+  PublishTry : (p n : ℕ) → Event
+  Take : (p : ℕ) (some : ℕ → Bool) → Event
+  Begin : (p k : ℕ) → Event
+  Finish : (p : ℕ) → Event
+  Stop : (p : ℕ) → Event
+  See : (p : ℕ) → Event
+  PutBack : (p : ℕ) → Event
+  Arrive : (p : ℕ) → Event
+  Leave : (p : ℕ) → Event
+  Exit : (p : ℕ) → Event
+  Clear : (p : ℕ) → Event
+  End : (p : ℕ) → Event
+
+abbrev pub by : Event → ℕ
+by (Join p) = p
+by (Publish p n) = p
+by (PublishTry p n) = p
+by (Take p some) = p
+by (Begin p k) = p
+by (Finish p) = p
+by (Stop p) = p
+by (See p) = p
+by (PutBack p) = p
+by (Arrive p) = p
+by (Leave p) = p
+by (Exit p) = p
+by (Clear p) = p
+by (End p) = p
+
+abbrev pub IsPublishable : State → ℕ → ℕ → Type 0
+IsPublishable s p n = (p ≡ 0) × ((party s p).status ≡ In) × (s.published ≡ None) × (2 ≤ n) × (n ≤ 4294967295)
+
+-- nothing is left for the party p
+abbrev pub IsIdle : State → ℕ → Type 0
+IsIdle s p = ((k : ℕ) → (party s p).taken k ≡ false) × ((party s p).running ≡ None)
+
+abbrev pub Allowed : State → Event → Type 0
+Allowed s (Join p) = ((party s p).status ≡ Out) × (s.closer ≡ None) × (members s.parties < 32767)
+Allowed s (Publish p n) = IsPublishable s p n
+Allowed s (PublishTry p n) = IsPublishable s p n
+Allowed s (Take p some) = (s.published ≢ None) × ((party s p).status ≡ In) × ((now s).seen p ≡ false) × ((k : ℕ) × (some k ≡ true)) × ((k : ℕ) → some k ≡ true → Free s k)
+Allowed s (Begin p k) = ((party s p).status ≡ In) × ((now s).seen p ≡ false) × ((party s p).running ≡ None) × ((party s p).taken k ≡ true)
+Allowed s (Finish p) = (k : ℕ) × ((party s p).running ≡ Some k)
+Allowed s (Stop p) = ((k : ℕ) × ((party s p).running ≡ Some k)) × ((now s).stoppable ≡ true)
+Allowed s (See p) = ((party s p).status ≡ In) × ((now s).stopped ≡ true)
+Allowed s (PutBack p) = ((party s p).status ≡ In) × ((now s).seen p ≡ true) × ((party s p).running ≡ None)
+Allowed s (Arrive p) = ((party s p).status ≡ In) × IsIdle s p × (s.published ≢ None → ((k : ℕ) → Free s k → ⊥) ⊎ ((now s).stopped ≡ true))
+Allowed s (Leave p) = ((party s p).status ≡ Arrived) × (s.closer ≡ None) × (p ≡ 0 → s.published ≡ None)
+Allowed s (Exit p) = ((party s p).status ≡ In) × IsIdle s p × (p ≡ 0 → s.published ≡ None)
+Allowed s (Clear p) = s.closer ≡ Some p
+Allowed s (End p) = (s.closer ≡ Some p) × (s.published ≡ None)
+
+abbrev pub ended_by : Option ℕ → List ℕ
+ended_by None = []
+ended_by (Some k) = k ∷ []
+
+-- the closer after the party p has gone or arrived
+abbrev pub closer_after : State → List Party → ℕ → Option ℕ
+closer_after s ps p = if inside ps == 0 then Some p else s.closer
+
+abbrev pub arrived : State → ℕ → List Party → State
+arrived s p ps = record { round = s.round; parties = ps; closer = closer_after s ps p; published = s.published; rounds = s.rounds }
+
+abbrev pub left : State → ℕ → List Party → State
+left s p ps = if members ps == 0 then record { round = s.round + 1; parties = ps; closer = s.closer; published = s.published; rounds = s.rounds } else arrived s p ps
+
+abbrev pub with_status : Status → Party → Party
+with_status t x = record { status = t; running = x.running; taken = x.taken }
+
+abbrev pub publish : State → Bool → ℕ → State
+publish s b n = record { round = s.round; parties = s.parties; closer = s.closer; published = Some n; rounds = put s.rounds s.round (record (now s) { jobs = n; stoppable = b }) }
+
+abbrev pub after : State → Event → State
+after s (Join p) = change s p (with_status In (party s p))
+after s (Publish p n) = publish s false n
+after s (PublishTry p n) = publish s true n
+after s (Take p some) = change s p (record (party s p) { taken = λ k. (party s p).taken k || some k })
+after s (Begin p k) = change (change_round s (record (now s) { begun = (now s).begun ++ k ∷ [] })) p (record (party s p) { running = Some k; taken = put (party s p).taken k false })
+after s (Finish p) = change (change_round s (record (now s) { finished = (now s).finished ++ ended_by (party s p).running })) p (record (party s p) { running = None })
+after s (Stop p) = change_round s (record (now s) { stopped = true; seen = put (now s).seen p true })
+after s (See p) = change_round s (record (now s) { seen = put (now s).seen p true })
+after s (PutBack p) = change s p (record (party s p) { taken = no_set })
+after s (Arrive p) = arrived s p (put_party s.parties p (with_status Arrived (party s p)))
+after s (Leave p) = change s p (with_status Out (party s p))
+after s (Exit p) = left s p (put_party s.parties p (with_status Out (party s p)))
+after s (Clear p) = record { round = s.round; parties = s.parties; closer = s.closer; published = None; rounds = s.rounds }
+after s (End p) = record { round = s.round + 1; parties = wake s.parties; closer = None; published = s.published; rounds = s.rounds }
