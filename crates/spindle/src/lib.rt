@@ -2,4 +2,9 @@
 //! in the order of the items.
 #![tactic(auto)]
 
+pub mod lists;
 pub mod lock;
+
+pub use lists::SharedList;
+pub use lists::run::ListRun;
+pub use lists::same::EqualIsSame;
