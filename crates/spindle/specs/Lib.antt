@@ -1,0 +1,3 @@
+pub mod Leaders
+pub mod Locks
+pub mod Rounds
