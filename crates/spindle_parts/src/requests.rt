@@ -24,6 +24,8 @@ use plays::{
 use std::alloc::Global;
 
 pub mod plays;
+#[cfg(test)]
+mod tests;
 
 const REQUESTS: usize = 0;
 
@@ -48,6 +50,7 @@ pub struct Requests {
 }
 
 /// What an attempt to take a place found.
+#[derive(Clone, Copy, Debug, PartialEq, Eq)]
 pub enum TakePlace {
     /// The place is the caller's.
     Taken,
