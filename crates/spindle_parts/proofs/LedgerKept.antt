@@ -10,7 +10,7 @@ use Rattle.atomic_table.proofs.Lists.{at_set}
 use Rattle.spindle_parts.specs.declared.trail.Trace.{Trace}
 use Rattle.spindle_parts.specs.declared.requests.plays.Kind.{Kind}
 use Rattle.spindle_parts.specs.declared.requests.plays.Account.{Account}
-use Rattle.spindle_parts.specs.Ledger.{place_word, gain, cost, opened, removed, IsCredit, opened_at, removed_at, unfilled, total, Balanced}
+use Rattle.spindle_parts.specs.Ledger.{place_word, IsFlag, gain, cost, opened, removed, IsCredit, opened_at, removed_at, unfilled, total, Balanced}
 use Rattle.spindle_parts.specs.LedgerSteps.{noted}
 
 abbrev pub Log : Type 0
@@ -84,20 +84,19 @@ module _ (slots : ℕ) where
     removed_after j = sum_by_trails (onto j (λ y. removed y.kind y.found)) s.views id me.0 c x at
 
     kept : c + cost x.kind ≡ me.0.credit + gain x.kind x.found → ((j : ℕ) → j < slots → removed_at j V ≤ opened_at j V) → ((j : ℕ) → j < slots → get_or W (place_word j) 0 ≡ unfilled V j % 2 ^ 64)
-        → get_or W 0 0 ≡ (total (unfilled V) slots + sum_by (λ v. v.credit) V) % 2 ^ 64 → get_or W 8 0 ≤ 1 → get_or W 16 0 ≤ 1 → Result
-    kept credit below places requests exit rest = record {
+        → get_or W 0 0 ≡ (total (unfilled V) slots + sum_by (λ v. v.credit) V) % 2 ^ 64 → ((j : ℕ) → IsFlag j → get_or W j 0 ≤ 1) → Result
+    kept credit below places requests flags = record {
       wide = length-set s.words i new ∙ r.wide;
       credits = λ p v e. ⊎_elim (λ (h : (p ≡ id) × (noted c x me.0 ≡ v)). subst IsCredit h.1 (credit_after credit)) (λ (h : (p ≢ id) × (get_elem? s.views p ≡ some v)). r.credits p v h.1) (at_set s.views id p (noted c x me.0) v e);
       never_below = below;
       places = places;
       requests = requests;
-      exit = exit;
-      rest = rest;
+      flags = flags;
     }
 
     -- a step that opens no place and removes none
     pub elsewhere : c + cost x.kind ≡ me.0.credit + gain x.kind x.found → opened x.kind ≡ 0 → removed x.kind x.found ≡ 0 → ((j : ℕ) → get_or W (place_word j) 0 ≡ get_or s.words (place_word j) 0)
-        → ((t t' : ℕ) → get_or s.words 0 0 ≡ t % 2 ^ 64 → t' + me.0.credit ≡ t + c → get_or W 0 0 ≡ t' % 2 ^ 64) → get_or W 8 0 ≤ 1 → get_or W 16 0 ≤ 1 → Result
+        → ((t t' : ℕ) → get_or s.words 0 0 ≡ t % 2 ^ 64 → t' + me.0.credit ≡ t + c → get_or W 0 0 ≡ t' % 2 ^ 64) → ((j : ℕ) → IsFlag j → get_or W j 0 ≤ 1) → Result
     elsewhere credit none_opened none_removed others requests = kept credit
         (λ j lt. let a = opened_after j in let b = removed_after j in let z = no_opened j in let y = no_removed j in let h = r.never_below j lt in omega arith)
         (λ j lt. others j ∙ r.places j lt ∙ ap (λ (z : ℕ). z % 2 ^ 64) (sym (as_before j)))
@@ -126,8 +125,7 @@ module _ (slots : ℕ) where
         (λ ne. other (place_word j) (λ e. ne (omega arith)) ∙ r.places j lt ∙ ap (λ (z : ℕ). z % 2 ^ 64) (sym (as_before j ne))))
         (let sums = sum_by_seat (λ v. v.credit) s.views id me.0 (noted c x me.0) at in let parts = total_but (unfilled V) (unfilled s.views) slots k low (λ j lt ne. as_before j ne) in
         other 0 (λ e. omega arith) ∙ r.requests ∙ ap (λ (z : ℕ). z % 2 ^ 64) (omega arith))
-        (subst (λ (z : ℕ). z ≤ 1) (sym (other 8 (λ e. omega arith))) r.exit)
-        (subst (λ (z : ℕ). z ≤ 1) (sym (other 16 (λ e. omega arith))) r.rest)
+        (λ j f. subst (λ (z : ℕ). z ≤ 1) (sym (other j (λ e. ⊎_elim (λ (h : j ≡ 8). omega arith) (λ (h : j ≡ 16). omega arith) f))) (r.flags j f))
       where
         apart : (j : ℕ) → j ≢ k → x.word ≢ place_word j
         apart j ne e = ne (let t = there in omega arith)

@@ -1,6 +1,6 @@
 -- The ledger of helper requests: what each step moves, and what the words and the seats of a table show of it.
 -- Counts are natural numbers with no upper bound; a word shows its count modulo 2^64.
-use Rattle.std.specs.Prelude.{◌≡◌, ℕ, zero, suc, ◌+◌, ◌-◌, ◌*◌, ◌%◌, ◌^◌, ◌<◌, ◌≤◌, List, length, sum_by, slice_index, if◌then◌else◌, ◌==◌}
+use Rattle.std.specs.Prelude.{◌≡◌, ◌⊎◌, ℕ, zero, suc, ◌+◌, ◌-◌, ◌*◌, ◌%◌, ◌^◌, ◌<◌, ◌≤◌, List, length, sum_by, slice_index, if◌then◌else◌, ◌==◌}
 use mathlib.Core.Option.{some}
 use lib.ListN.{get_elem?}
 use Rattle.atomic_table.specs.Table.{State}
@@ -11,6 +11,10 @@ use Rattle.spindle_parts.specs.declared.requests.plays.Account.{Account}
 -- the word of the places of the child slot i
 abbrev pub place_word : ℕ → ℕ
 place_word i = 24 + 8 * i
+
+-- the words of the two flags: exit announced, rest announced
+abbrev pub IsFlag : ℕ → Type 0
+IsFlag word = (word ≡ 8) ⊎ (word ≡ 16)
 
 -- what a step of a kind adds to its seat's credit, by the value that it found
 abbrev pub gain : Kind → ℕ → ℕ
@@ -64,5 +68,4 @@ pub record Balanced (slots : ℕ) (s : State (Unit {0}) Account) : Type 0 where
   pub never_below : (i : ℕ) → i < slots → removed_at i s.views ≤ opened_at i s.views
   pub places : (i : ℕ) → i < slots → slice_index s.words (place_word i) ≡ unfilled s.views i % 2 ^ 64
   pub requests : slice_index s.words 0 ≡ (total (unfilled s.views) slots + sum_by (λ v. v.credit) s.views) % 2 ^ 64
-  pub exit : slice_index s.words 8 ≤ 1
-  pub rest : slice_index s.words 16 ≤ 1
+  pub flags : (word : ℕ) → IsFlag word → slice_index s.words word ≤ 1

@@ -6,6 +6,7 @@ use Rattle.spindle_parts.specs.Trail.{trace}
 use Rattle.spindle_parts.specs.declared.requests.plays.Kind.{Kind}
 use Rattle.spindle_parts.specs.declared.requests.plays.Kind.TheVariants as kind
 use Rattle.spindle_parts.specs.declared.requests.plays.Account.{Account}
+use Rattle.spindle_parts.specs.Ledger.{IsFlag}
 use Rattle.spindle_parts.specs.declared.requests.TakePlace.{TakePlace}
 use Rattle.spindle_parts.specs.declared.requests.TakePlace.TheVariants as answer
 
@@ -63,10 +64,7 @@ closing word found v = noted (v.credit + found) (trace word kind.Close found 0) 
 
 -- what each kind of step tells its seat
 abbrev pub loaded : Step (Unit {0}) → Seated → ℕ → Seated → Type 0
-loaded st m found m' = (m'.1 ≡ m.1) × (m'.0 ≡ loading st.word found m.0)
-
-abbrev pub read_flag : Step (Unit {0}) → Seated → ℕ → Seated → Type 0
-read_flag st m found m' = loaded st m found m' × (found ≤ 1)
+loaded st m found m' = (m'.1 ≡ m.1) × (m'.0 ≡ loading st.word found m.0) × (IsFlag st.word → found ≤ 1)
 
 abbrev pub announced : Step (Unit {0}) → Seated → ℕ → Seated → Type 0
 announced st m flag m' = (m'.1 ≡ m.1) × (m'.0 ≡ announcing st.word flag m.0)

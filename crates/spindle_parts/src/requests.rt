@@ -12,15 +12,13 @@
 //! Each seat has a credit, which contracts alone see: the requests that it still has to place or to take back.
 //! Between any two steps requests are the unfilled places and the credits of all seats. That holds exactly while
 //! they are fewer than 2^64 together, and modulo 2^64 in any case, since a word wraps.
-ghost use Rattle.std.specs.Prelude.{◌≡◌, ℕ, ◌+◌, ◌*◌, ◌^◌, ◌<◌, ◌≤◌, [], IfOk, OnErr, IsErrOf, if◌then◌else◌};
-ghost use Rattle.spindle_parts.specs.Ledger.{place_word};
-ghost use Rattle.spindle_parts.specs.LedgerSteps.{TookBy, blank, loading, announcing, asking, subtracting, installing, closing};
+ghost use Rattle.std.specs.Prelude.{◌≡◌, ◌≢◌, ℕ, ◌+◌, ◌*◌, ◌^◌, ◌<◌, ◌≤◌, [], IfOk, OnErr, IsErrOf, if◌then◌else◌};
+ghost use Rattle.spindle_parts.specs.Ledger.{place_word, IsFlag};
+ghost use Rattle.spindle_parts.specs.LedgerSteps.{TookBy, blank, loading, announcing, asking, subtracting, installing, taking, missing, closing};
 
 use crate::fault::Fault;
 use atomic_table::Table;
-use plays::{
-    Account, Announces, Another, Asks, Closes, Installs, Ledger, Loads, ReadsFlag, Subtracts, Takes,
-};
+use plays::{Account, Announces, Another, Asks, Closes, Installs, Ledger, Loads, Subtracts, Takes};
 use std::alloc::Global;
 
 pub mod plays;
@@ -46,7 +44,8 @@ pub type Seat = atomic_table::Seat<(), Account>;
 #[derive(Drop)]
 pub struct Requests {
     table: Table<(), Account, u64, Ledger, Global>,
-    ghost sized: { (table.shared.table_id.words ≡ 24 + 8 * table.shared.key) × (table.shared.key < 2 ^ 60) },
+    ghost sized: { table.shared.table_id.words ≡ place_word table.shared.key },
+    ghost small: { table.shared.key < 2 ^ 60 },
 }
 
 /// What an attempt to take a place found.
@@ -71,7 +70,7 @@ impl Requests {
         ensures slots { IfOk result (λ r. slot_count r.0 ≡ slots) }
         ensures memory { OnErr result (IsErrOf result Fault.Memory) }
     {
-        // Where the sum is capped there is no room for it.
+        // Where the count is capped no allocator has room for it.
         let count = slots.saturating_mul(LINE).saturating_add(PLACES);
         let mut words = Vec::from_elem(alloc, 0u64, count)?;
         words[REST] = 1;
@@ -95,21 +94,19 @@ impl Requests {
         ensures seat { IsSameSeat seat.old seat.new }
         ensures step { (found : ℕ) × (seat.new.me.0 ≡ asking n found seat.old.me.0) }
     {
-        self.table
-            .shared
-            .fetch_add::<Asks>(seat, REQUESTS, n as u64);
+        let words = &self.table.shared;
+        words.fetch_add::<Asks>(seat, REQUESTS, n as u64);
     }
 
-    /// Takes `n` requests back that the seat answers for: it asked for them, took their place or closed it.
+    /// Takes `n` requests back that the seat answers for: it asked for them, took their places or closed them.
     pub fn subtract(&self, seat: &mut Seat, n: usize)
         requires seat { IsSeatOf self.now seat.old }
         requires credit { n ≤ seat.old.me.0.credit }
         ensures seat { IsSameSeat seat.old seat.new }
         ensures step { (found : ℕ) × (seat.new.me.0 ≡ subtracting n found seat.old.me.0) }
     {
-        self.table
-            .shared
-            .fetch_sub::<Subtracts>(seat, REQUESTS, n as u64);
+        let words = &self.table.shared;
+        words.fetch_sub::<Subtracts>(seat, REQUESTS, n as u64);
     }
 
     /// Opens `n` places at the slot, for requests that the seat answers for.
@@ -120,9 +117,8 @@ impl Requests {
         ensures seat { IsSameSeat seat.old seat.new }
         ensures step { (found : ℕ) × (seat.new.me.0 ≡ installing (place_word slot) n found seat.old.me.0) }
     {
-        self.table
-            .shared
-            .fetch_add::<Installs>(seat, PLACES + LINE * slot, n as u64);
+        let words = &self.table.shared;
+        words.fetch_add::<Installs>(seat, PLACES + LINE * slot, n as u64);
     }
 
     /// Tries once to fill a place of the slot. Who took one answers for its request.
@@ -132,16 +128,11 @@ impl Requests {
         ensures seat { IsSameSeat seat.old seat.new }
         ensures step { TookBy (place_word slot) result seat.old.me.0 seat.new.me.0 }
     {
-        let word = PLACES + LINE * slot;
-        let unfilled = self.table.shared.load::<Loads>(seat, word);
+        let unfilled = self.load(seat, PLACES + LINE * slot);
         if unfilled == 0 {
             return TakePlace::None;
         }
-        let found = self
-            .table
-            .shared
-            .compare_exchange::<Takes>(seat, word, unfilled, unfilled - 1);
-        if found == unfilled {
+        if self.exchange_place(seat, slot, unfilled) == unfilled {
             TakePlace::Taken
         } else {
             TakePlace::Again
@@ -155,9 +146,8 @@ impl Requests {
         ensures seat { IsSameSeat seat.old seat.new }
         ensures step { seat.new.me.0 ≡ closing (place_word slot) result seat.old.me.0 }
     {
-        self.table
-            .shared
-            .swap::<Closes>(seat, PLACES + LINE * slot, 0) as usize
+        let words = &self.table.shared;
+        words.swap::<Closes>(seat, PLACES + LINE * slot, 0) as usize
     }
 
     /// How many helpers are asked for: unfilled places and credits together.
@@ -166,7 +156,7 @@ impl Requests {
         ensures seat { IsSameSeat seat.old seat.new }
         ensures step { seat.new.me.0 ≡ loading 0 result seat.old.me.0 }
     {
-        self.table.shared.load::<Loads>(seat, REQUESTS)
+        self.load(seat, REQUESTS)
     }
 
     /// Says whether the helpers are to end.
@@ -175,9 +165,7 @@ impl Requests {
         ensures seat { IsSameSeat seat.old seat.new }
         ensures step { seat.new.me.0 ≡ announcing 8 (if exit then 1 else 0) seat.old.me.0 }
     {
-        self.table
-            .shared
-            .store::<Announces>(seat, EXIT, exit as u64);
+        self.store_flag(seat, EXIT, exit);
     }
 
     /// Says whether idle helpers are to rest at once.
@@ -186,9 +174,7 @@ impl Requests {
         ensures seat { IsSameSeat seat.old seat.new }
         ensures step { seat.new.me.0 ≡ announcing 16 (if rest then 1 else 0) seat.old.me.0 }
     {
-        self.table
-            .shared
-            .store::<Announces>(seat, REST, rest as u64);
+        self.store_flag(seat, REST, rest);
     }
 
     /// Whether the helpers are to end.
@@ -197,7 +183,7 @@ impl Requests {
         ensures seat { IsSameSeat seat.old seat.new }
         ensures step { seat.new.me.0 ≡ loading 8 (if result then 1 else 0) seat.old.me.0 }
     {
-        self.table.shared.load::<ReadsFlag>(seat, EXIT) == 1
+        self.load(seat, EXIT) == 1
     }
 
     /// Whether idle helpers are to rest at once.
@@ -206,6 +192,40 @@ impl Requests {
         ensures seat { IsSameSeat seat.old seat.new }
         ensures step { seat.new.me.0 ≡ loading 16 (if result then 1 else 0) seat.old.me.0 }
     {
-        self.table.shared.load::<ReadsFlag>(seat, REST) == 1
+        self.load(seat, REST) == 1
+    }
+
+    fn load(&self, seat: &mut Seat, word: usize) -> u64
+        requires seat { IsSeatOf self.now seat.old }
+        requires word { word < place_word (slot_count self.now) }
+        ensures seat { IsSameSeat seat.old seat.new }
+        ensures step { seat.new.me.0 ≡ loading word result seat.old.me.0 }
+        ensures flag { IsFlag word → result ≤ 1 }
+    {
+        self.table.shared.load::<Loads>(seat, word)
+    }
+
+    fn store_flag(&self, seat: &mut Seat, word: usize, flag: bool)
+        requires seat { IsSeatOf self.now seat.old }
+        requires word { IsFlag word }
+        ensures seat { IsSameSeat seat.old seat.new }
+        ensures step { seat.new.me.0 ≡ announcing word (if flag then 1 else 0) seat.old.me.0 }
+    {
+        self.table
+            .shared
+            .store::<Announces>(seat, word, flag as u64);
+    }
+
+    /// Lowers the slot's places by 1 if they are `unfilled`, and says what they were.
+    fn exchange_place(&self, seat: &mut Seat, slot: usize, unfilled: u64) -> u64
+        requires seat { IsSeatOf self.now seat.old }
+        requires slot { slot < slot_count self.now }
+        requires positive { 0 < unfilled }
+        ensures seat { IsSameSeat seat.old seat.new }
+        ensures hit { result ≡ unfilled → seat.new.me.0 ≡ taking (place_word slot) result seat.old.me.0 }
+        ensures miss { result ≢ unfilled → seat.new.me.0 ≡ missing (place_word slot) result seat.old.me.0 }
+    {
+        let words = &self.table.shared;
+        words.compare_exchange::<Takes>(seat, PLACES + LINE * slot, unfilled, unfilled - 1)
     }
 }
