@@ -1,5 +1,5 @@
 -- What the table asks of each kind of step on the ledger, of a fresh table, and of a new seat.
-use Rattle.std.proofs.Common.{◌≡◌, ◌≢◌, ⊎_elim, ℕ, zero, suc, ◌+◌, ◌-◌, ◌%◌, ◌^◌, ◌<◌, ◌≤◌, if◌then◌else◌, ◌==◌, Bool, true, false, eqb, List, [], ◌∷◌, ◌++◌, length, get_or, set, get_or-set_same, get_or-set_other, sum_by, sym, refl, ap, ◌∙◌, subst, arith}
+use Rattle.std.proofs.Common.{◌≡◌, ◌≢◌, ⊎_elim, ℕ, zero, suc, ◌+◌, ◌-◌, ◌%◌, ◌^◌, ◌<◌, ◌≤◌, Bool, true, false, eqb, List, [], ◌∷◌, ◌++◌, length, get_or, set, get_or-set_same, get_or-set_other, sum_by, sym, refl, ap, ◌∙◌, subst, arith}
 use Rattle.std.proofs.lemmas.List.Sums.{sum_by_push}
 use mathlib.Core.Logic.{dite}
 use native.Mathlib.Decide.{ℕ_discrete}
@@ -14,7 +14,7 @@ use Rattle.spindle_parts.specs.Trail.{trace}
 use Rattle.spindle_parts.specs.declared.requests.plays.Kind.{Kind}
 use Rattle.spindle_parts.specs.declared.requests.plays.Kind.TheVariants.{Load, Announce, Ask, Subtract, Install, Take, Miss, Close}
 use Rattle.spindle_parts.specs.declared.requests.plays.Account.{Account}
-use Rattle.spindle_parts.specs.Ledger.{place_word, IsFlag, gain, cost, opened, removed, IsCredit, opened_at, removed_at, unfilled, total}
+use Rattle.spindle_parts.specs.Ledger.{place_word, IsFlag, gain, cost, opened, removed, IsCredit, onto, opened_at, removed_at, unfilled, total}
 use Rattle.spindle_parts.specs.LedgerSteps.{noted, blank, loading, announcing, asking, subtracting, installing, taking, missing, closing, loaded, announced, asked, subtracted, installed, taken, closed}
 use Rattle.spindle_parts.proofs.LedgerKept.{M, Table, Rule, total_same, elsewhere, at_slot}
 
@@ -95,10 +95,10 @@ module _ (slots : ℕ) where
   }
     where
       opened_still : (j : ℕ) → opened_at j (s.views ++ blank ∷ []) ≡ opened_at j s.views
-      opened_still j = adds_none (λ u. sum_by (λ x. if x.word == place_word j then opened x.kind else 0) u.trail) s.views refl
+      opened_still j = adds_none (λ u. sum_by (onto j (λ x. opened x.kind)) u.trail) s.views refl
 
       removed_still : (j : ℕ) → removed_at j (s.views ++ blank ∷ []) ≡ removed_at j s.views
-      removed_still j = adds_none (λ u. sum_by (λ x. if x.word == place_word j then removed x.kind x.found else 0) u.trail) s.views refl
+      removed_still j = adds_none (λ u. sum_by (onto j (λ x. removed x.kind x.found)) u.trail) s.views refl
 
       as_before : (j : ℕ) → unfilled (s.views ++ blank ∷ []) j ≡ unfilled s.views j
       as_before j = let a = opened_still j in let b = removed_still j in omega arith

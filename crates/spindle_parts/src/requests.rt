@@ -1,5 +1,5 @@
-//! The ledger of helper requests: how many helpers the nested locks of a lock still ask for, where their places
-//! are, and the two flags that its helpers read.
+//! The ledger of helper requests: how many helpers the nested locks of a lock still ask for, where
+//! their places are, and the two flags that the lock's helpers read.
 //!
 //! | word | holds | changed by |
 //! |---|---|---|
@@ -8,12 +8,14 @@
 //! | 16 | 1 while rest is announced, else 0 | `announce_rest` |
 //! | 24 + 8 i | the unfilled places of child slot i | `install`, `try_take_place`, `close` |
 //!
-//! Eight words are a cache line, so that words of different writers share none. The words between aren't used.
-//! Each seat has a credit, which contracts alone see: the requests that it still has to place or to take back.
-//! Between any two steps requests are the unfilled places and the credits of all seats. That holds exactly while
-//! they are fewer than 2^64 together, and modulo 2^64 in any case, since a word wraps.
+//! Eight words are a cache line, so no two words that are used share one. Each seat has a credit,
+//! which contracts alone see: the requests that it has to place or to take back. Between any two
+//! steps requests are the unfilled places and the credits of all seats together, modulo 2^64 since
+//! a word wraps, and exactly while these are fewer than 2^64.
 ghost use Rattle.std.specs.Prelude.{◌≡◌, ◌≢◌, ℕ, ◌+◌, ◌*◌, ◌^◌, ◌<◌, ◌≤◌, [], IfOk, OnErr, IsErrOf, if◌then◌else◌};
-ghost use Rattle.spindle_parts.specs.Ledger.{place_word, IsFlag};
+ghost use Rattle.spindle_parts.specs.Ledger.{place_word, IsFlag, standing, Balanced, IsExact};
+ghost use Rattle.spindle_parts.specs.declared.requests.plays.Account.{Account};
+ghost use Rattle.atomic_table.specs.Table.{State};
 ghost use Rattle.spindle_parts.specs.LedgerSteps.{TookBy, blank, loading, announcing, asking, subtracting, installing, taking, missing, closing};
 
 use crate::fault::Fault;
@@ -62,9 +64,8 @@ pub enum TakePlace {
 impl Requests {
     ghost use Rattle.spindle_parts.specs.LedgerSeats.{slot_count, IsSeatOf, IsSameSeat};
 
-    /// A ledger with nothing asked for and no place open. Rest is announced, exit isn't, as a fresh lock has it.
-    ///
-    /// The seat that comes with it is the leader's. `Memory` where there is no room for the words.
+    /// A ledger with nothing asked for and no place open. As a fresh lock has it, rest is announced
+    /// and exit isn't. The seat is the leader's. `Memory` where there is no room for the words.
     pub fn new(alloc: Global, slots: usize) -> Result<(Requests, Seat), Fault>
         ensures seat { IfOk result (λ r. IsSeatOf r.0 r.1 × (r.1.id ≡ 0) × (r.1.me ≡ (blank, []))) }
         ensures slots { IfOk result (λ r. slot_count r.0 ≡ slots) }
@@ -88,7 +89,8 @@ impl Requests {
         self.table.shared.split_seat::<Another>(seat)
     }
 
-    /// Asks for `n` helpers more. They are the seat's to place by `install` or to take back by `subtract`.
+    /// Asks for `n` helpers more. The seat answers for them: it may `install` them as places, or
+    /// `subtract` them again.
     pub fn ask(&self, seat: &mut Seat, n: usize)
         requires { IsSeatOf self.now seat.old }
         ensures seat { IsSameSeat seat.old seat.new }
@@ -98,7 +100,8 @@ impl Requests {
         words.fetch_add::<Asks>(seat, REQUESTS, n as u64);
     }
 
-    /// Takes `n` requests back that the seat answers for: it asked for them, took their places or closed them.
+    /// Takes `n` requests back that the seat answers for: it asked for them, or took or closed
+    /// their places.
     pub fn subtract(&self, seat: &mut Seat, n: usize)
         requires seat { IsSeatOf self.now seat.old }
         requires credit { n ≤ seat.old.me.0.credit }
@@ -139,7 +142,8 @@ impl Requests {
         }
     }
 
-    /// Takes all unfilled places out of the slot and says how many they were. The seat answers for their requests.
+    /// Takes all unfilled places out of the slot, and says how many they were. The seat answers for
+    /// their requests.
     pub fn close(&self, seat: &mut Seat, slot: usize) -> usize
         requires seat { IsSeatOf self.now seat.old }
         requires slot { slot < slot_count self.now }
@@ -229,3 +233,9 @@ impl Requests {
         words.compare_exchange::<Takes>(seat, PLACES + LINE * slot, unfilled, unfilled - 1)
     }
 }
+
+/// While fewer than 2^64 requests stand, the words show requests and unfilled places as they are.
+pub fn exact_while_few()
+    ensures { (slots : ℕ) (s : State (Unit {0}) Account) → Balanced slots s
+        → standing slots s.views < 2 ^ 64 → IsExact slots s }
+{}

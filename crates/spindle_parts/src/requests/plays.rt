@@ -1,4 +1,4 @@
-//! What a seat at the ledger knows, the rule of its table, and what each kind of step tells its seat.
+//! What a seat at the ledger knows, the rule of its table, and what each kind of step tells it.
 //!
 //! These types are for contracts and proofs alone: no value of them is made.
 ghost use Rattle.spindle_parts.specs.Ledger.{Balanced};

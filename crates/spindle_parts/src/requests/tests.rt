@@ -111,7 +111,7 @@ impl Tally {
     }
 }
 
-/// One thread at the ledger, which draws its steps at random and never owes more than its seat's credit.
+/// One thread at the ledger. It draws its steps at random, and owes no more than its seat's credit.
 #[derive(Drop)]
 struct Clerk<'a> {
     books: &'a Requests,
