@@ -118,7 +118,8 @@ impl Requests {
         requires slot { slot < slot_count self.now }
         requires credit { n ≤ seat.old.me.0.credit }
         ensures seat { IsSameSeat seat.old seat.new }
-        ensures step { (found : ℕ) × (seat.new.me.0 ≡ installing (place_word slot) n found seat.old.me.0) }
+        ensures step { (found : ℕ)
+            × (seat.new.me.0 ≡ installing (place_word slot) n found seat.old.me.0) }
     {
         let words = &self.table.shared;
         words.fetch_add::<Installs>(seat, PLACES + LINE * slot, n as u64);
@@ -226,8 +227,10 @@ impl Requests {
         requires slot { slot < slot_count self.now }
         requires positive { 0 < unfilled }
         ensures seat { IsSameSeat seat.old seat.new }
-        ensures hit { result ≡ unfilled → seat.new.me.0 ≡ taking (place_word slot) result seat.old.me.0 }
-        ensures miss { result ≢ unfilled → seat.new.me.0 ≡ missing (place_word slot) result seat.old.me.0 }
+        ensures hit { result ≡ unfilled
+            → seat.new.me.0 ≡ taking (place_word slot) result seat.old.me.0 }
+        ensures miss { result ≢ unfilled
+            → seat.new.me.0 ≡ missing (place_word slot) result seat.old.me.0 }
     {
         let words = &self.table.shared;
         words.compare_exchange::<Takes>(seat, PLACES + LINE * slot, unfilled, unfilled - 1)

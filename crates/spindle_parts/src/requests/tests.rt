@@ -82,6 +82,23 @@ fn flags_are_as_last_stored(rt: HostRuntime) -> Result<(), Fail> {
 }
 
 #[test]
+fn counts_wrap_at_the_end_of_a_word(rt: HostRuntime) -> Result<(), Fail> {
+    let (books, mut seat) = Requests::new(rt.alloc(), 1)?;
+    books.ask(&mut seat, usize::MAX);
+    books.install(&mut seat, 0, usize::MAX);
+    assert_eq!(rt; books.requests(&mut seat), u64::MAX);
+    books.ask(&mut seat, 3);
+    assert_eq!(rt; books.requests(&mut seat), 2);
+    books.install(&mut seat, 0, 1);
+    assert!(rt; books.try_take_place(&mut seat, 0) == TakePlace::None);
+    books.install(&mut seat, 0, 2);
+    assert_eq!(rt; books.close(&mut seat, 0), 2);
+    books.subtract(&mut seat, 2);
+    assert_eq!(rt; books.requests(&mut seat), 0);
+    Ok(())
+}
+
+#[test]
 fn too_many_slots_have_no_room(rt: HostRuntime) {
     for slots in [usize::MAX, usize::MAX / 8, 1 << 60, 1 << 57] {
         match Requests::new(rt.alloc(), slots) {
