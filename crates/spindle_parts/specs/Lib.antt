@@ -4,3 +4,4 @@ pub mod Steps
 pub mod Runs
 pub mod BarrierWord
 pub mod Trail
+pub mod ThreadNumbers
