@@ -5,3 +5,4 @@ pub mod Runs
 pub mod BarrierWord
 pub mod Trail
 pub mod ThreadNumbers
+pub mod ChildSlot

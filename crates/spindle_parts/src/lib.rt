@@ -6,6 +6,7 @@ ghost use Rattle.std.specs.Prelude.{◌≡◌, ℕ, List};
 ghost use Rattle.spindle_parts.specs.Steps.{Event};
 ghost use Rattle.spindle_parts.specs.Runs.{state, IsRun, IsOnce};
 
+pub mod aarc_imp;
 pub mod cut;
 pub mod fault;
 pub mod numbers;

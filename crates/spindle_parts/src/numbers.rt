@@ -45,6 +45,7 @@ impl Model for Numbers {
 }
 
 /// What came of one try for a number.
+#[derive(Clone, Copy, PartialEq, Eq, Debug)]
 pub enum Take {
     Taken(usize),
     /// Each number below the lock's threads was read as used.
