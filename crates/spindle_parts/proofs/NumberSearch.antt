@@ -10,7 +10,7 @@ use Rattle.spindle_parts.specs.declared.numbers.plays.Holding.TheVariants.{Nothi
 use Rattle.spindle_parts.specs.declared.numbers.plays.View.{View}
 use Rattle.spindle_parts.specs.declared.numbers.Take.{Take}
 use Rattle.spindle_parts.specs.declared.numbers.Take.TheVariants.{Taken, AllInUse, Again}
-use Rattle.spindle_parts.specs.ThreadNumbers.{NumberTable, IsSeatOf, IsSameSeat, loading, reading, searching, WasUsed, IsLeastUnused, IsTake, IsExchange, word_count}
+use Rattle.spindle_parts.specs.ThreadNumbers.{holding_after, NumberTable, IsSeatOf, IsSameSeat, loading, reading, searching, WasUsed, IsLeastUnused, IsTake, IsExchange, word_count}
 
 pub reading-holding : (found : ℕ → ℕ) (n : ℕ) (v : View) → (reading found n v).holding ≡ v.holding
 reading-holding found zero v = refl
@@ -56,11 +56,17 @@ take_answer threads t found (Taken u) v w lt least e = subst (λ (z : ℕ). IsTa
 take_answer threads t found AllInUse v w lt least e = absurd e
 take_answer threads t found Again v w lt least e = (found, t, e.0, lt, least, e.1, e.2)
 
+-- only a number that is taken changes what the seat has
+pub take_holding : (threads : ℕ) (a : Take) (v w : View) → v.holding ≡ Nothing → IsTake threads a v w → w.holding ≡ holding_after a
+take_holding threads (Taken t) v w none_yet h = ap (λ u. u.holding) h.3
+take_holding threads AllInUse v w none_yet h = ap (λ u. u.holding) h.2 ∙ (reading-holding h.0 (word_count threads) v ∙ none_yet)
+take_holding threads Again v w none_yet h = ap (λ u. u.holding) h.6 ∙ (reading-holding h.0 (suc (h.1 / 32)) v ∙ none_yet)
+
 -- the number taken is below the threads
-pub take_below : (threads : ℕ) (a : Take) (v w : View) → v.holding ≡ Nothing → IsTake threads a v w → (k : ℕ) → w.holding ≡ Has k → k < threads
-take_below threads (Taken t) v w none_yet h k has = let e : Has t ≡ Has k = sym (ap (λ u. u.holding) h.3) ∙ has in let same : t ≡ k = cc in let lt = h.1 in omega arith
-take_below threads AllInUse v w none_yet h k has = let e : Nothing ≡ Has k = sym none_yet ∙ (sym (reading-holding h.0 (word_count threads) v) ∙ (sym (ap (λ u. u.holding) h.2) ∙ has)) in absurd cc
-take_below threads Again v w none_yet h k has = let e : Nothing ≡ Has k = sym none_yet ∙ (sym (reading-holding h.0 (suc (h.1 / 32)) v) ∙ (sym (ap (λ u. u.holding) h.6) ∙ has)) in absurd cc
+pub take_below : (threads : ℕ) (a : Take) (v w : View) → IsTake threads a v w → w.holding ≡ holding_after a → (k : ℕ) → w.holding ≡ Has k → k < threads
+take_below threads (Taken t) v w h after k has = let e : Has t ≡ Has k = sym after ∙ has in let same : t ≡ k = cc in let lt = h.1 in omega arith
+take_below threads AllInUse v w h after k has = let e : Nothing ≡ Has k = sym after ∙ has in absurd cc
+take_below threads Again v w h after k has = let e : Nothing ≡ Has k = sym after ∙ has in absurd cc
 
 -- the number b of the word i is tried, whose word was found as x
 module _ (threads i b x : ℕ) (found : ℕ → ℕ) (low : b < 32) (below : 32 * i + b < threads) (unset : bit_at x b ≡ 0) (ones : (c : ℕ) → c < b → bit_at x c ≡ 1) (read : ReadTo threads i found) where

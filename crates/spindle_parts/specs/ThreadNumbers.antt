@@ -126,6 +126,12 @@ IsTake threads Again v w =
     (found : ℕ → ℕ) × (t other : ℕ) × (t < threads) × IsLeastUnused found t
     × (other ≢ found (t / 32)) × (w ≡ missing (place_of t) other (searching found t v))
 
+-- what a seat that had no number has after an answer
+abbrev pub holding_after : Take → Holding
+holding_after (Taken t) = Has t
+holding_after AllInUse = Nothing
+holding_after Again = Nothing
+
 -- what an answer of the exchange for t says, whose word was read as `word`
 abbrev pub IsExchange : (t word : ℕ) → Take → View → View → Type 0
 IsExchange t word (Taken u) v w = (u ≡ t) × (w ≡ taking t word v)

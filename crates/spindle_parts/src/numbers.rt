@@ -3,12 +3,14 @@
 //! Bit 0 of word 0 is set from the start and is the leader's. The words stand a cache line apart, since threads with
 //! numbers of different words change them.
 ghost use Rattle.std.specs.Prelude.{◌≡◌, ℕ, ◌%◌, ◌<◌, ◌≤◌, IfOk, OnErr, IsErrOf, []};
-ghost use Rattle.spindle_parts.specs.ThreadNumbers.{IsSeatOf, IsTake, IsExchange, IsSameSeat, leader_view, outsider_view, giving};
+ghost use Rattle.spindle_parts.specs.ThreadNumbers.{IsSeatOf, IsTake, IsExchange, IsSameSeat, leader_view, outsider_view, holding_after, giving};
 ghost use Rattle.spindle_parts.specs.declared.numbers.plays.Holding.TheVariants.{Nothing, Has};
 ghost use Rattle.std.specs.Int.{bit_at};
 ghost use Rattle.spindle_parts.specs.declared.fault.Fault.TheVariants.{Memory};
 
 mod plays;
+#[cfg(test)]
+mod tests;
 
 use crate::fault::Fault;
 use atomic_table::Table;
@@ -76,7 +78,7 @@ impl Numbers {
     }
 
     /// A seat with no number, for another thread.
-    pub fn split_seat(&self, seat: &mut Seat) -> Seat
+    pub fn new_seat(&self, seat: &mut Seat) -> Seat
         requires { IsSeatOf self.now seat.old }
         ensures old { IsSeatOf self.now seat.new × IsSameSeat seat.old seat.new × (seat.new.me.0 ≡ seat.old.me.0) }
         ensures new { IsSeatOf self.now result × (result.me ≡ (outsider_view, [])) }
@@ -89,6 +91,7 @@ impl Numbers {
         requires seated { IsSeatOf self.now seat.old }
         requires no_number { seat.old.me.0.holding ≡ Nothing }
         ensures seat { IsSeatOf self.now seat.new × IsSameSeat seat.old seat.new }
+        ensures number { seat.new.me.0.holding ≡ holding_after result }
         ensures answer { IsTake self.now.threads result seat.old.me.0 seat.new.me.0 }
     {
         for index in 0..self.threads.div_ceil(BITS) {
@@ -127,6 +130,7 @@ impl Numbers {
         requires seated { IsSeatOf self.now seat.old }
         requires own { seat.old.me.0.holding ≡ Has number }
         ensures seat { IsSeatOf self.now seat.new × IsSameSeat seat.old seat.new }
+        ensures number { seat.new.me.0.holding ≡ Nothing }
         ensures given { (found : ℕ) × (seat.new.me.0 ≡ giving number found seat.old.me.0) }
     {
         let bit = 1u64 << number % BITS;

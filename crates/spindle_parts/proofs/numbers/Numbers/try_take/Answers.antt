@@ -6,7 +6,7 @@ use Rattle.std.proofs.lemmas.Nat.Bits.{bit_at-trailing_ones}
 use Rattle.spindle_parts.specs.State.{put}
 use Rattle.spindle_parts.specs.ThreadNumbers.{loading, reading}
 use Rattle.spindle_parts.proofs.NumbersKept.{loads}
-use Rattle.spindle_parts.proofs.NumberSearch.{ReadTo, reading-holding, reading_next, read_next, try_answer, take_below, then_same, still_seated}
+use Rattle.spindle_parts.proofs.NumberSearch.{ReadTo, reading-holding, reading_next, read_next, try_answer, take_holding, take_below, then_same, still_seated}
 use Rattle.spindle_parts.proofs.numbers.Numbers.try_take.Goals as goal
 use Rattle.spindle_parts.proofs.numbers.Numbers.try_take.Goals.{else-unused-lt-BITS-via-then-unused-lt-BITS+else-number-self, else-unused-lt-BITS-via-else-unused-lt-BITS}
 
@@ -34,11 +34,14 @@ returns-then-number-self-clause-answer c =
     let all : ReadTo c.args.self.now.threads c.loop-index.index read.0 = subst (λ n. ReadTo n c.loop-index.index read.0) same read.1 in
     try_answer _ _ _ _ _ c.if-unused-lt-BITS.true (omega arith) (ap (bit_at c.load-word.result) unused ∙ ones.1) (λ k lt. ones.2 k (omega arith)) all _ _ _ _ (c.load-word.ensures.2.1 ∙ ap (loading (8 * c.loop-index.index) c.load-word.result) read.2) c.exchange.ensures.answer
 
+pub returns-then-number-self-clause-number : goal.returns-then-number-self-clause-number
+returns-then-number-self-clause-number c = take_holding _ _ _ _ c.requires.no_number (returns-then-number-self-clause-answer c)
+
 pub returns-then-number-self-clause-seat : goal.returns-then-number-self-clause-seat
 returns-then-number-self-clause-seat c =
     let load = c.load-word.ensures in
     let same = then_same c.loop-index.invariant.seat (then_same record { table = load.0; id = load.1; slots = load.2.0 } c.exchange.ensures.seat) in
-    (still_seated _ _ _ c.requires.seated same (take_below _ _ _ _ c.requires.no_number (returns-then-number-self-clause-answer c)), same)
+    (still_seated _ _ _ c.requires.seated same (take_below _ _ _ _ (returns-then-number-self-clause-answer c) (returns-then-number-self-clause-number c)), same)
 
 pub loop-index-preserved : goal.loop-index-preserved
 loop-index-preserved c =
@@ -62,9 +65,8 @@ loop-index-preserved c =
       );
     }
 
+pub returns-clause-number : goal.returns-clause-number
+returns-clause-number c = let read = c.loop-index.invariant.read in ap (λ v. v.holding) read.2 ∙ (reading-holding read.0 c.loop-index.index c.args.seat.now.me.0 ∙ c.requires.no_number)
+
 pub returns-clause-seat : goal.returns-clause-seat
-returns-clause-seat c =
-    let read = c.loop-index.invariant.read in
-    let holding = ap (λ v. v.holding) read.2 ∙ (reading-holding read.0 c.loop-index.index c.args.seat.now.me.0 ∙ c.requires.no_number) in
-    let same = c.loop-index.invariant.seat in
-    (still_seated _ _ _ c.requires.seated same (λ k has. absurd (let z = sym holding ∙ has in cc)), same)
+returns-clause-seat c = let same = c.loop-index.invariant.seat in (still_seated _ _ _ c.requires.seated same (λ k has. absurd (let z = sym (returns-clause-number c) ∙ has in cc)), same)
