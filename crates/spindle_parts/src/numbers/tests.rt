@@ -67,7 +67,9 @@ impl<'a> Desk<'a> {
         }
     }
 
-    fn try_once(&mut self) -> Take {
+    fn try_once(&mut self) -> Take
+        ensures { self.new.numbers ≡ self.old.numbers }
+    {
         let mut seat = self.new_seat();
         self.numbers.try_take(&mut seat)
     }
@@ -98,6 +100,18 @@ struct Worker<'a> {
     ghost idle: { seat.me.0.holding ≡ Nothing },
 }
 
+/// Whether nobody else has the number, while the caller has it.
+fn is_held_alone(holders: &[AtomicU64], number: usize) -> bool {
+    match holders.get(number) {
+        Some(holder) => {
+            let others = holder.fetch_add(1, Ordering::SeqCst);
+            thread::yield_now();
+            holder.fetch_sub(1, Ordering::SeqCst) == 1 && others == 0
+        }
+        None => false,
+    }
+}
+
 /// How often a number was taken, and how often one that another thread had.
 #[derive(Clone, Copy)]
 struct Done {
@@ -109,22 +123,10 @@ impl<'a> Worker<'a> {
     fn turn(&mut self) {
         if let Take::Taken(number) = self.numbers.try_take(&mut self.seat) {
             self.done.taken = self.done.taken.wrapping_add(1);
-            if !self.holds_alone(number) {
+            if !is_held_alone(self.holders, number) {
                 self.done.twice = self.done.twice.wrapping_add(1);
             }
             self.numbers.give(&mut self.seat, number);
-        }
-    }
-
-    /// Whether nobody else has the number, while this thread has it.
-    fn holds_alone(&self, number: usize) -> bool {
-        match self.holders.get(number) {
-            Some(holder) => {
-                let others = holder.fetch_add(1, Ordering::SeqCst);
-                thread::yield_now();
-                holder.fetch_sub(1, Ordering::SeqCst) == 1 && others == 0
-            }
-            None => false,
         }
     }
 
@@ -141,15 +143,15 @@ impl<'a> Worker<'a> {
 fn taken_at_once<R: Threads + Sync>(rt: &R, alloc: Global, threads: usize) -> Result<Done, Fault>
     requires { (1 ≤ threads) × (threads ≤ 32767) × IsSync R.row }
 {
+    let mut holders = Vec::with_capacity(alloc, threads)?;
+    for _ in 0..threads {
+        holders.push(AtomicU64::new(0))?;
+    }
     let (numbers, leader) = Numbers::new(alloc, threads)?;
     let mut desk = Desk {
         numbers: &numbers,
         leader,
     };
-    let mut holders = Vec::with_capacity(alloc, threads)?;
-    for _ in 0..threads {
-        holders.push(AtomicU64::new(0))?;
-    }
     let mut workers = Vec::with_capacity(alloc, WORKERS)?;
     for _ in 0..WORKERS {
         workers.push(desk.hire(holders.as_slice()))?;
@@ -180,11 +182,11 @@ fn the_most_threads_have_a_number_each(rt: HostRuntime) -> Result<(), Fail> {
     };
     desk.take_all(&rt, 32766);
     let mut last = desk.new_seat();
-    let taken = numbers.try_take(&mut last);
+    let taken = desk.numbers.try_take(&mut last);
     assert!(rt; taken == Take::Taken(32766));
     assert!(rt; desk.try_once() == Take::AllInUse);
     if let Take::Taken(number) = taken {
-        numbers.give(&mut last, number);
+        desk.numbers.give(&mut last, number);
         assert!(rt; desk.try_once() == Take::Taken(32766));
     }
     Ok(())
