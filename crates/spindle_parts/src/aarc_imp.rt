@@ -5,6 +5,7 @@
 //! `TAKEN` while one thread writes the value or takes it. The slot has cache lines of its own.
 ghost use Rattle.std.specs.Prelude.{◌≡◌, ◌%◌, ◌<◌, ◌+◌, Option, Some, IsSomeAnd, IsSome, IfSome, IfOk, IfErr};
 ghost use Rattle.counted_slot.specs.Counting.{readers, IsTurn};
+
 #[cfg(test)]
 mod tests;
 

@@ -86,7 +86,10 @@ fn a_slot_shows_and_hands_out_what_was_put_in(rt: HostRuntime) {
     assert!(rt; seen(&slot).is_none());
     assert!(rt; slot.compare_exchange_null(a).is_ok());
     assert!(rt; !slot.is_null() && !slot.is_free());
-    assert!(rt; slot.compare_exchange_null(b).is_err_and(|back| back.number == 1));
+    assert!(rt;
+        slot.compare_exchange_null(b)
+            .is_err_and(|back| back.number == 1)
+    );
     assert!(rt; drops[0].load(Ordering::SeqCst) == 0 && drops[1].load(Ordering::SeqCst) == 1);
     assert!(rt; seen(&slot) == Some(0));
     assert!(rt; cleared(&rt, &slot) == Some(0));

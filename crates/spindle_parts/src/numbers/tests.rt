@@ -63,7 +63,10 @@ impl<'a> Desk<'a> {
     fn take_all(&mut self, rt: &impl Abort, end: usize) {
         for number in 1..end {
             let mut seat = self.new_seat();
-            assert!(rt; self.numbers.try_take(&mut seat) == Take::Taken(number), "at {number}");
+            assert!(rt;
+                self.numbers.try_take(&mut seat) == Take::Taken(number),
+                "at {number}"
+            );
         }
     }
 

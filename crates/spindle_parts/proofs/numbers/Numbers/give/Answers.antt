@@ -1,5 +1,5 @@
 -- The step gives the number back.
-use Rattle.std.proofs.Common.{rules, ap, arith, ◌<◌, ◌∙◌, sym}
+use Rattle.std.proofs.Common.{rules, ap, arith, ◌∙◌, sym}
 use Rattle.spindle_parts.proofs.NumbersKept.{gives}
 use Rattle.spindle_parts.proofs.numbers.Numbers.give.Goals as goal
 
