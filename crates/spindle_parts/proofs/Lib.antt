@@ -5,3 +5,5 @@ pub mod Soundness
 pub mod Frames
 pub mod LedgerKept
 pub mod LedgerMoves
+mod NumbersKept
+mod NumberSearch

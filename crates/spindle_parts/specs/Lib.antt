@@ -7,3 +7,5 @@ pub mod Trail
 pub mod Ledger
 pub mod LedgerSteps
 pub mod LedgerSeats
+pub mod ThreadNumbers
+pub mod ChildSlot

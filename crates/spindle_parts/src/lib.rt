@@ -6,9 +6,11 @@ ghost use Rattle.std.specs.Prelude.{◌≡◌, ℕ, List};
 ghost use Rattle.spindle_parts.specs.Steps.{Event};
 ghost use Rattle.spindle_parts.specs.Runs.{state, IsRun, IsOnce};
 
+pub mod aarc_imp;
 pub mod cut;
 pub mod fault;
 pub mod requests;
+pub mod numbers;
 pub mod trail;
 
 /// In every run no number of a round begins or finishes twice.
