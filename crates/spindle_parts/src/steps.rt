@@ -3,6 +3,8 @@
 //! One thread plays every party. A step's tests are made in the order of the step table (docs/FORMATS.md), and the first
 //! that fails names the refusal.
 
+ghost use Rattle.spindle_parts.specs.EverySchedule.{EverySchedule};
+
 use crate::fault::Fault;
 use std::alloc::Global;
 
@@ -126,6 +128,11 @@ impl Machine {
         }
     }
 }
+
+/// What is true after every schedule, for every number of parties, rounds and counters.
+pub fn every_schedule()
+    ensures { EverySchedule }
+{}
 
 fn answer(outcome: Result<(), Why>, registers: &Registers) -> Reply {
     match outcome {
