@@ -9,3 +9,5 @@ pub mod LedgerSteps
 pub mod LedgerSeats
 pub mod ThreadNumbers
 pub mod ChildSlot
+pub mod Machine
+pub mod EverySchedule

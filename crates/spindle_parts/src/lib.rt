@@ -11,9 +11,7 @@ pub mod cut;
 pub mod fault;
 pub mod requests;
 pub mod numbers;
+pub mod cut;
+pub mod fault;
+pub mod steps;
 pub mod trail;
-
-/// In every run no number of a round begins or finishes twice.
-pub fn every_run()
-    ensures { (es : List Event) → IsRun es → IsOnce (state es) }
-{}
