@@ -1,7 +1,7 @@
 use Rattle.std.proofs.Common.{◌≡◌, ℕ, ◌+◌, ◌<◌, List, [], ◌∷◌, ◌++◌, length, take, drop, get_or, map, refl, ap, sym, ◌∙◌, subst, append_assoc, zero-add, add_assoc, replicate, ◌*◌, ◌-◌, ◌/◌, ◌%◌, ◌≤◌, zero, suc, arith, add-zero, add-one}
 use Rattle.std.proofs.lemmas.List.{reverse-append, map-append}
 use Rattle.std.proofs.Common.{reverse}
-use Rattle.std.proofs.lemmas.List.{take_more, append-nil}
+use Rattle.std.proofs.lemmas.List.{take_more, drop_more, length-drop, append-nil}
 use Rattle.std.proofs.Math.Seq.{drop-cons}
 use Rattle.std.specs.List.{AllZip}
 use Rattle.spindle_parts.specs.Pieces.{joined, counted, total, lengths_of}
@@ -67,7 +67,7 @@ total-lengths len m h =
     rw (e, a, b) (sums len m (len / m) (len % m) (omega arith) (omega arith))
 
 -- one more number
-counted_suc : (from n : ℕ) → counted from (suc n) ≡ counted from n ++ (from + n) ∷ []
+pub counted_suc : (from n : ℕ) → counted from (suc n) ≡ counted from n ++ (from + n) ∷ []
 counted_suc from zero = rw add-zero refl
 counted_suc from (suc n) =
     let e : from + suc n ≡ from + 1 + n = omega arith in
@@ -110,3 +110,18 @@ nil_if (x ∷ xs) e = absurd (omega (arith, e))
 -- the sum up to a place and of it
 pub total_last : (ls : List ℕ) (i : ℕ) → i < length ls → total (take (i + 1) ls) ≡ total (take i ls) + get_or ls i 0
 total_last ls i h = rw (take_more ls i 0 h, total-append (take i ls) (get_or ls i 0 ∷ [])) (ap (λ n. total (take i ls) + n) (add-zero (get_or ls i 0)))
+
+-- where a list goes on with x after n elements, it has more than n
+longer : {A : Type 0} (xs : List A) (n : ℕ) (x : A) (ys : List A) → drop n xs ≡ x ∷ ys → n < length xs
+longer xs n x ys e = omega (arith, length-drop n xs, ap length e)
+
+-- one more is taken there
+pub taken_next : {A : Type 0} (xs : List A) (n : ℕ) (x : A) (ys : List A) → drop n xs ≡ x ∷ ys → take (n + 1) xs ≡ take n xs ++ x ∷ []
+taken_next xs n x ys e =
+    let m = drop_more xs n x (longer xs n x ys e) in
+    let t = take_more xs n x (longer xs n x ys e) in
+    cc
+
+-- one more is dropped there
+pub dropped_next : {A : Type 0} (xs : List A) (n : ℕ) (x : A) (ys : List A) → drop n xs ≡ x ∷ ys → drop (n + 1) xs ≡ ys
+dropped_next xs n x ys e = let m = drop_more xs n x (longer xs n x ys e) in cc
