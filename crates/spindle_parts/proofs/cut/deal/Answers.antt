@@ -1,8 +1,8 @@
 -- Dealing: each hand has room for what it gets, and gets what is its own.
-use Rattle.std.proofs.Common.{◌≡◌, ℕ, ◌+◌, ◌-◌, ◌*◌, ◌/◌, ◌%◌, ◌<◌, ◌≤◌, ◌∷◌, [], ◌++◌, map, take, drop, set, min, reverse, replicate, get_or, List, Vec, Global, vec_len, vec_capacity, arith, rules, sym, ap, ◌∙◌, length, append_assoc, refl}
+use Rattle.std.proofs.Common.{◌≡◌, ℕ, ◌+◌, ◌-◌, ◌*◌, ◌/◌, ◌<◌, ◌≤◌, [], ◌++◌, map, take, drop, set, min, reverse, replicate, get_or, List, Vec, Global, vec_len, vec_capacity, arith, rules, sym, ap, ◌∙◌, length, refl}
 use Rattle.std.proofs.lemmas.List.{get_or-map, length-map, length-drop, length-take, drop-drop, map-set, set-get_or, length-reverse, take_at, drop_all, nil_from_length, append-nil}
 use Rattle.std.proofs.lemmas.Simd.{map-map}
-use Rattle.std.proofs.Math.Nat.{min-le_left, min-le_right}
+use Rattle.std.proofs.Math.Nat.{min-le_left}
 use Rattle.spindle_parts.specs.declared.cut.Piece.{Piece}
 use Rattle.spindle_parts.specs.Pieces.{counted, dealt, lengths_of}
 use Rattle.spindle_parts.proofs.Deals.{length-lengths_of, fits, own_run, own_left, hand_empty, hands_next, map-dealt_all, dealt_all}

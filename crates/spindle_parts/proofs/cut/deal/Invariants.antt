@@ -1,5 +1,5 @@
 -- Dealing: what is left of the common runs and of the rest, and what the hands hold.
-use Rattle.std.proofs.Common.{◌≡◌, ◌+◌, ◌-◌, ◌*◌, ◌++◌, [], map, take, drop, reverse, replicate, vec_len, vec_capacity}
+use Rattle.std.proofs.Common.{◌≡◌, ◌-◌, ◌*◌, ◌++◌, [], map, take, drop, reverse, replicate, vec_len, vec_capacity}
 use Rattle.spindle_parts.specs.Pieces.{counted, dealt, lengths_of}
 use Rattle.spindle_parts.proofs.cut.deal.Given as goal
 

@@ -1,5 +1,5 @@
 -- Making the empty hands: one more, of the next length.
-use Rattle.std.proofs.Common.{◌≡◌, ℕ, ◌+◌, ◌<◌, ◌≤◌, ◌%◌, ◌∷◌, [], ◌++◌, map, take, replicate, get_or, List, Vec, Global, vec_capacity, arith, rules, sym, ap, ◌∙◌, length}
+use Rattle.std.proofs.Common.{◌≡◌, ℕ, ◌<◌, [], get_or, List, Vec, Global, vec_capacity, arith, rules, sym, ◌∙◌, length}
 use Rattle.std.proofs.lemmas.List.{map_push, take_more, replicate_more}
 use Rattle.spindle_parts.specs.declared.cut.Piece.{Piece}
 use Rattle.spindle_parts.specs.Pieces.{lengths_of}

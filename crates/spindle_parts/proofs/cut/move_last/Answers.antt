@@ -1,5 +1,5 @@
 -- Moving pieces to a hand: the last of the list is the next of it read backwards.
-use Rattle.std.proofs.Common.{◌≡◌, ◌+◌, ◌∷◌, [], ◌++◌, reverse, take, drop, List, arith, sym, ap, ◌∙◌, append_assoc}
+use Rattle.std.proofs.Common.{◌≡◌, ◌∷◌, [], reverse, take, drop, List, arith, sym, ap, ◌∙◌, append_assoc}
 use Rattle.spindle_parts.specs.declared.cut.Piece.{Piece}
 use Rattle.spindle_parts.proofs.Lists.{reverse_snoc, taken_next, dropped_next}
 use Rattle.spindle_parts.proofs.cut.move_last.Goals as goal
