@@ -2,8 +2,12 @@
 //! in the order of the items.
 #![tactic(auto)]
 
+pub mod lists;
 pub mod lock;
 
+pub use lists::SharedList;
+pub use lists::run::ListRun;
+pub use lists::same::EqualIsSame;
 pub use lock::with_lock;
 pub use spindle_parts::cut;
 pub use spindle_parts::fault::Fault;

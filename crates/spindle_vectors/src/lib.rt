@@ -3,6 +3,7 @@
 #![tactic(auto)]
 
 pub mod callers;
+pub mod chunks;
 #[cfg(test)]
 mod jobs;
 #[cfg(test)]

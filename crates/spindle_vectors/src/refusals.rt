@@ -4,12 +4,15 @@
 //! them for each N from 1 on. With memory for all, they show the full answers.
 
 ghost use Rattle.std.specs.Prelude.{◌<◌};
+ghost use denote.Param.Send.{IsSync};
 
 use crate::jobs::{Calls, Counting, Square};
 use spindle::lock::{Limits, Pool};
 use spindle::{DEFAULT_PAUSE_LIMIT, DEFAULT_SPIN_LIMIT, Fault, with_lock};
 use std::alloc::Global;
+use std::sync::Wait;
 use std::sync::atomic::{AtomicUsize, Ordering};
+use std::thread::Threads;
 
 const LIMITS: Limits = Limits {
     spin: DEFAULT_SPIN_LIMIT,
@@ -30,16 +33,19 @@ fn are_seven_squares(squares: &[u128]) -> bool {
 
 #[test]
 fn a_refused_round_has_run_no_job(rt: HostRuntime) -> Result<(), Fault> {
-    play_seven_items(&rt, 1)?;
-    play_seven_items(&rt, 3)?;
-    play_seven_items(&rt, 7)
+    play_seven_items(&rt, rt.alloc(), 1)?;
+    play_seven_items(&rt, rt.alloc(), 3)?;
+    play_seven_items(&rt, rt.alloc(), 7)
 }
 
 // Squares seven items in so many jobs; where that is refused, no job was run, and the same call again answers.
-fn play_seven_items(rt: &HostRuntime, jobs: usize) -> Result<(), Fault>
+fn play_seven_items<H: Threads + Wait + Abort + Sync>(
+    rt: &H,
+    alloc: Global,
+    jobs: usize,
+) -> Result<(), Fault>
     requires { 0 < jobs }
 {
-    let alloc = rt.alloc();
     let calls = Calls::new();
     let run = AtomicUsize::new(0);
     let pool = Pool::new(4, LIMITS, Counting { calls: &calls });
@@ -49,7 +55,8 @@ fn play_seven_items(rt: &HostRuntime, jobs: usize) -> Result<(), Fault>
         &pool,
         4,
         |leader| -> Result<(), Fault>
-            requires { 0 < jobs }
+            requires jobs { 0 < jobs }
+            requires sync { IsSync H.row }
         {
             run.fetch_add(1, Ordering::SeqCst);
             let squares = match leader.for_each(rt, alloc, jobs, seven_items(alloc)?) {
