@@ -10,6 +10,7 @@ use crate::jobs::{Calls, Counting, Square};
 use spindle::lock::{Limits, Pool};
 use spindle::{DEFAULT_PAUSE_LIMIT, DEFAULT_SPIN_LIMIT, Fault, with_lock};
 use std::alloc::Global;
+use std::process::Abort;
 use std::sync::Wait;
 use std::sync::atomic::{AtomicUsize, Ordering};
 use std::thread::Threads;
