@@ -1,0 +1,5 @@
+-- The definitions that contracts of this crate cite.
+pub mod Leaders
+pub mod Locks
+pub mod Rounds
+pub mod Same

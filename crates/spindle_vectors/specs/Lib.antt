@@ -1,0 +1,1 @@
+-- The definitions that the examples cite: none yet.
