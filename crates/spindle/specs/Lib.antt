@@ -3,3 +3,7 @@ pub mod Same
 pub mod Leaders
 pub mod Locks
 pub mod Rounds
+pub mod Leaders
+pub mod Locks
+pub mod Rounds
+pub mod Same

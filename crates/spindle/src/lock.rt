@@ -1,17 +1,17 @@
 //! Locks: a caller opens one for a kind of job, and hands lists of items to its rounds.
 //!
-//! `job` has what a user writes, `pool` what a lock is opened with, `root` the opening, `leader` the rounds and
-//! `context` what a job is given.
+//! Read `job` first, which has what a user writes; `pool` has what a lock is opened with, `root` the opening, `leader`
+//! the rounds, and `context` what a job is given.
 
-pub mod context;
-pub mod crew;
-pub mod gate;
-pub mod job;
-pub mod leader;
-pub mod limits;
-pub mod nest;
-pub mod pool;
-pub mod root;
+mod context;
+mod crew;
+mod gate;
+mod job;
+mod leader;
+mod limits;
+mod nest;
+mod pool;
+mod root;
 
 pub use context::JobCx;
 pub use gate::{Gate, NoGate};
