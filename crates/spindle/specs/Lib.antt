@@ -1,2 +1,4 @@
 -- The definitions that contracts of this crate cite.
 pub mod Same
+pub mod Done
+pub mod Outputs
