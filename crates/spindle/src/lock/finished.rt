@@ -58,11 +58,6 @@ impl<J: Job> Finished<J> {
         ensures outputs { result.items ≡ self.outputs }
         ensures answers { AllZip J.meets self.inputs result.items }
     {
-        let Finished {
-            number: _,
-            inputs: _,
-            outputs,
-        } = self;
-        outputs
+        self.outputs
     }
 }
