@@ -2,3 +2,6 @@
 pub mod Same
 pub mod Done
 pub mod Outputs
+pub mod Leaders
+pub mod Locks
+pub mod Rounds

@@ -8,3 +8,12 @@ pub mod lock;
 pub use lists::SharedList;
 pub use lists::run::ListRun;
 pub use lists::same::EqualIsSame;
+pub use lock::with_lock;
+pub use spindle_parts::cut;
+pub use spindle_parts::fault::Fault;
+
+/// How many pauses an idle party makes before it sleeps, where a user has no wish of his own.
+pub const DEFAULT_SPIN_LIMIT: u32 = 65536;
+
+/// How many of these pauses make one turn, after which an idle party looks again.
+pub const DEFAULT_PAUSE_LIMIT: u32 = 8;

@@ -3,3 +3,5 @@ pub mod Parties
 pub mod Fates
 pub mod Soundness
 pub mod Frames
+pub mod LedgerKept
+pub mod LedgerMoves

@@ -4,3 +4,6 @@ pub mod Steps
 pub mod Runs
 pub mod BarrierWord
 pub mod Trail
+pub mod Ledger
+pub mod LedgerSteps
+pub mod LedgerSeats

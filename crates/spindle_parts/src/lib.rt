@@ -8,6 +8,7 @@ ghost use Rattle.spindle_parts.specs.Runs.{state, IsRun, IsOnce};
 
 pub mod cut;
 pub mod fault;
+pub mod requests;
 pub mod trail;
 
 /// In every run no number of a round begins or finishes twice.
