@@ -1,22 +1,24 @@
 //! Locks: a caller opens one for a kind of job, and hands lists of items to its rounds.
 //!
-//! `job` has what a user writes, `pool` what a lock is opened with, `root` the opening, `leader` the rounds, `context`
-//! what a job is given, and `finished` and `gather` how the outputs of a round come back.
+//! Read `job` first, which has what a user writes; `pool` has what a lock is opened with, `root` the opening, `leader`
+//! the rounds, `context` what a job is given, and `gathering` how the outputs of a round are put together.
 
-pub mod context;
-pub mod crew;
-pub mod finished;
-pub mod gate;
-pub mod gather;
-pub mod job;
-pub mod leader;
-pub mod limits;
-pub mod nest;
-pub mod pool;
-pub mod root;
+mod context;
+mod crew;
+mod finished;
+mod gate;
+mod gathering;
+mod job;
+mod leader;
+mod limits;
+mod nest;
+mod pool;
+mod root;
 
 pub use context::JobCx;
+pub use finished::Finished;
 pub use gate::{Gate, NoGate};
+pub use gathering::gather;
 pub use job::Job;
 pub use leader::Leader;
 pub use limits::Limits;

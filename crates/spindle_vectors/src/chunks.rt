@@ -3,7 +3,7 @@ ghost use Rattle.std.specs.Prelude.{◌≡◌, ◌+◌, IfOk, map};
 ghost use Rattle.std.proofs.Common.{rules};
 
 use spindle::lists::run::ListRun;
-use spindle::lock::job::{End, Job, JobCx};
+use spindle::lock::{End, Job, JobCx};
 use std::alloc::{AllocError, Global};
 use std::sync::Wait;
 use std::thread::Threads;

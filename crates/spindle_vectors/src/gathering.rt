@@ -4,8 +4,7 @@ ghost use Rattle.std.specs.List.{AllZip};
 ghost use Rattle.std.proofs.Common.{rules};
 ghost use Rattle.spindle.specs.Outputs.{items_of};
 
-use spindle::lock::finished::Finished;
-use spindle::lock::job::{End, Job, JobCx};
+use spindle::lock::{End, Finished, Job, JobCx};
 use spindle_parts::cut::Piece;
 use std::alloc::{AllocError, Global};
 use std::sync::Wait;
@@ -70,7 +69,7 @@ pub fn two_pieces(alloc: Global, first: u64, second: u64) -> Result<Vec<Piece<u6
 #[cfg(test)]
 mod tests {
     use super::*;
-    use spindle::lock::gather::gather;
+    use spindle::lock::gather;
     use std::test::Fail;
 
     /// What `gather` answers for the pieces [1] and [2] and these places, with what then stands in the room.

@@ -1,5 +1,13 @@
-//! Worked examples of the library's calls, each as a test, and proved callers.
+//! Worked examples over the whole library: callers whose contracts are proved from the library's public clauses alone,
+//! and rows of inputs with the outputs that they must give.
 #![tactic(auto)]
 
+pub mod callers;
 pub mod chunks;
 pub mod gathering;
+#[cfg(test)]
+mod jobs;
+#[cfg(test)]
+mod leader_rows;
+#[cfg(test)]
+mod refusals;

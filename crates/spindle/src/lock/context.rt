@@ -65,4 +65,9 @@ impl<'a, N: Nest> JobCx<'a, N> {
     {
         self.index
     }
+
+    /// Tells idle helpers of the lock to sleep at once until its next round.
+    pub fn relieve_workers(&mut self)
+        ensures { self.new.threads ≡ self.old.threads }
+    {}
 }

@@ -1,8 +1,8 @@
 -- One more place's outputs stand in the room, and it is empty.
 use Rattle.std.proofs.Common.{◌≡◌, ◌<◌, ◌++◌, length, None, ◌∙◌, rules, arith}
 use Rattle.spindle.proofs.Places.{outputs_more, nothing_more, outputs_fit, found_there, set-emptied}
-use Rattle.spindle.proofs.lock.gather.move_outputs.Goals as goal
-use Rattle.spindle.proofs.lock.gather.move_outputs.Goals.{in-Some, in_default}
+use Rattle.spindle.proofs.lock.gathering.move_outputs.Goals as goal
+use Rattle.spindle.proofs.lock.gathering.move_outputs.Goals.{in-Some, in_default}
 
 pub unwrap-requires : goal.unwrap-requires
 unwrap-requires g c =

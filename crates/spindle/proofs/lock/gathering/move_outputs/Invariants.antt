@@ -2,7 +2,7 @@
 use Rattle.std.proofs.Common.{◌≡◌, ◌++◌, ◌≤◌, replicate, take, drop, None, vec_capacity, length}
 use Rattle.std.specs.List.{AllZip}
 use Rattle.spindle.specs.Outputs.{all_inputs_in}
-use Rattle.spindle.proofs.lock.gather.move_outputs.Given as goal
+use Rattle.spindle.proofs.lock.gathering.move_outputs.Given as goal
 
 abbrev pub invariant-loop-k : goal.invariant-loop-k
 invariant-loop-k g l = record {

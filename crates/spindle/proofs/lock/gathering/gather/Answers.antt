@@ -3,8 +3,8 @@ use Rattle.std.proofs.Common.{◌<◌, ◌+◌, length, take, ap, sym, ◌∙◌
 use Rattle.spindle.specs.Outputs.{HoldsPiece, HoldAll}
 use Rattle.spindle.proofs.Places.{all_zip_take, all_zip_at, all_zip_all, all_zip_more, inputs_of_pieces}
 use Rattle.std.proofs.lemmas.Bool.{false≢true}
-use Rattle.spindle.proofs.lock.gather.gather.Given.{Over}
-use Rattle.spindle.proofs.lock.gather.gather.Goals as goal
+use Rattle.spindle.proofs.lock.gathering.gather.Given.{Over}
+use Rattle.spindle.proofs.lock.gathering.gather.Goals as goal
 
 not_here : (g : Over) (c : goal.Then-not-holds g) → HoldAll (take (c.loop-k.k + 1) c.args.handed.now) (take (c.loop-k.k + 1) c.args.places.now.items) → ⊥
 not_here g c z =

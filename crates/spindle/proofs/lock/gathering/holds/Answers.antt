@@ -2,7 +2,7 @@
 use Rattle.std.proofs.Common.{◌≡◌, ◌∙◌, rules}
 use Rattle.std.specs.Cmp.Lexicographic.{pointwise}
 use Rattle.spindle.proofs.Places.{same_by_test}
-use Rattle.spindle.proofs.lock.gather.holds.Goals as goal
+use Rattle.spindle.proofs.lock.gathering.holds.Goals as goal
 
 pub returns-then-number-piece : goal.returns-then-number-piece
 returns-then-number-piece g c =
