@@ -1,9 +1,7 @@
 -- The definitions that contracts of this crate cite.
 pub mod Same
+pub mod Done
+pub mod Outputs
 pub mod Leaders
 pub mod Locks
 pub mod Rounds
-pub mod Leaders
-pub mod Locks
-pub mod Rounds
-pub mod Same

@@ -1,11 +1,13 @@
 //! Locks: a caller opens one for a kind of job, and hands lists of items to its rounds.
 //!
 //! Read `job` first, which has what a user writes; `pool` has what a lock is opened with, `root` the opening, `leader`
-//! the rounds, and `context` what a job is given.
+//! the rounds, `context` what a job is given, and `gathering` how the outputs of a round are put together.
 
 mod context;
 mod crew;
+mod finished;
 mod gate;
+mod gathering;
 mod job;
 mod leader;
 mod limits;
@@ -14,7 +16,9 @@ mod pool;
 mod root;
 
 pub use context::JobCx;
+pub use finished::Finished;
 pub use gate::{Gate, NoGate};
+pub use gathering::gather;
 pub use job::Job;
 pub use leader::Leader;
 pub use limits::Limits;

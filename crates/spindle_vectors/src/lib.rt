@@ -4,6 +4,7 @@
 
 pub mod callers;
 pub mod chunks;
+pub mod gathering;
 #[cfg(test)]
 mod jobs;
 #[cfg(test)]
