@@ -1,4 +1,5 @@
 pub mod Lists
+pub mod Deals
 pub mod Parties
 pub mod Fates
 pub mod Soundness
