@@ -64,29 +64,35 @@ missing word found v = noted v.credit (trace word kind.Miss found found) v
 abbrev pub closing : ℕ → ℕ → Account → Account
 closing word found v = noted (v.credit + found) (trace word kind.Close found 0) v
 
--- what each kind of step tells its seat
+-- what a load tells its seat
 abbrev pub loaded : Step (Unit {0}) → Seated → ℕ → Seated → Type 0
 loaded st m found m' =
     (m'.1 ≡ m.1) × (m'.0 ≡ loading st.word found m.0) × (IsFlag st.word → found ≤ 1)
 
+-- what a store of a flag tells
 abbrev pub announced : Step (Unit {0}) → Seated → ℕ → Seated → Type 0
 announced st m flag m' = (m'.1 ≡ m.1) × (m'.0 ≡ announcing st.word flag m.0)
 
+-- what asking tells
 abbrev pub asked : Step (Unit {0}) → Seated → ℕ → Seated → Type 0
 asked st m found m' = (m'.1 ≡ m.1) × (m'.0 ≡ asking st.first found m.0)
 
+-- what lowering requests tells
 abbrev pub subtracted : Step (Unit {0}) → Seated → ℕ → Seated → Type 0
 subtracted st m found m' = (m'.1 ≡ m.1) × (m'.0 ≡ subtracting st.first found m.0)
 
+-- what opening places tells
 abbrev pub installed : Step (Unit {0}) → Seated → ℕ → Seated → Type 0
 installed st m found m' = (m'.1 ≡ m.1) × (m'.0 ≡ installing st.word st.first found m.0)
 
+-- what an exchange on a slot's places tells: it took one, or found another value
 abbrev pub taken : Step (Unit {0}) → Seated → ℕ → Seated → Type 0
 taken st m found m' =
     (m'.1 ≡ m.1)
     × (found ≡ st.first → m'.0 ≡ taking st.word found m.0)
     × (found ≢ st.first → m'.0 ≡ missing st.word found m.0)
 
+-- what closing a slot tells
 abbrev pub closed : Step (Unit {0}) → Seated → ℕ → Seated → Type 0
 closed st m found m' = (m'.1 ≡ m.1) × (m'.0 ≡ closing st.word found m.0)
 
