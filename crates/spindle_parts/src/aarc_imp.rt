@@ -115,6 +115,7 @@ impl<T: Fits> AtomicArc<T> {
             claim.done();
             return Err(value);
         }
+        // A free slot is empty, so there is nothing that comes out.
         let _nothing = claim.put(Some(value), PRESENT);
         Ok(())
     }

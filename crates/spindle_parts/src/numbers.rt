@@ -43,7 +43,9 @@ impl Model for Numbers {
 
     ghost view = { λ n. record { table = n.table.shared.table_id; threads = n.threads } };
 
-    ghost invariant = { λ n. (n.table.shared.table_id.words ≡ 8 * word_count n.threads) × (n.table.shared.key ≡ n.threads) × (1 ≤ n.threads) × (n.threads ≤ 32767) };
+    ghost invariant = { λ n.
+        (n.table.shared.table_id.words ≡ 8 * word_count n.threads)
+        × (n.table.shared.key ≡ n.threads) × (1 ≤ n.threads) × (n.threads ≤ 32767) };
 }
 
 /// What came of one try for a number.
@@ -80,7 +82,8 @@ impl Numbers {
     /// A seat with no number, for another thread.
     pub fn new_seat(&self, seat: &mut Seat) -> Seat
         requires { IsSeatOf self.now seat.old }
-        ensures old { IsSeatOf self.now seat.new × IsSameSeat seat.old seat.new × (seat.new.me.0 ≡ seat.old.me.0) }
+        ensures old { IsSeatOf self.now seat.new × IsSameSeat seat.old seat.new }
+        ensures view { seat.new.me.0 ≡ seat.old.me.0 }
         ensures new { IsSeatOf self.now result × (result.me ≡ (outsider_view, [])) }
     {
         self.table.shared.split_seat::<Another>(seat)
