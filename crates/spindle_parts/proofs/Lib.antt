@@ -6,6 +6,7 @@ pub mod Soundness
 pub mod Frames
 pub mod LedgerKept
 pub mod LedgerMoves
+mod NumberBits
 mod NumbersKept
 mod NumberSearch
 pub mod Shares

@@ -9,7 +9,8 @@ ghost use Rattle.counted_slot.specs.Counting.{readers, IsTurn};
 #[cfg(test)]
 mod tests;
 
-use counted_slot::{Claim, Counted, FREE, Fits, MARKED, MOST_READERS, ONE_READER, PRESENT, TAKEN};
+pub use counted_slot::Fits;
+use counted_slot::{Claim, Counted, FREE, MARKED, MOST_READERS, ONE_READER, PRESENT, TAKEN};
 use crossbeam_utils::{Backoff, CachePadded};
 use std::marker::Model;
 use std::sync::Wait;

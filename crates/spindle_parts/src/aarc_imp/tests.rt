@@ -2,8 +2,7 @@
 ghost use Rattle.std.specs.Prelude.{◌≡◌, ◌<◌, ◌≤◌, IfSome};
 ghost use Rattle.std.specs.Thread.{IsSync};
 
-use crate::aarc_imp::AtomicArc;
-use counted_slot::Fits;
+use crate::aarc_imp::{AtomicArc, Fits};
 use std::alloc::{AllocError, Global};
 use std::sync::Wait;
 use std::sync::atomic::{AtomicU64, Ordering};

@@ -14,5 +14,11 @@ pub returns-clause-number : goal.returns-clause-number
 returns-clause-number c = ap (λ v. v.holding) (c.fetch_and.ensures.2.1 c.args.number c.requires.own)
 
 pub returns-clause-seat : goal.returns-clause-seat
-returns-clause-seat c = let e = c.fetch_and.ensures in
-    (record { table = e.0 ∙ c.requires.seated.table; below = λ k has. absurd (let z = sym (returns-clause-number c) ∙ has in cc) }, record { table = e.0; id = e.1; slots = e.2.0 })
+returns-clause-seat c =
+    let e = c.fetch_and.ensures in (
+      record {
+        table = e.0 ∙ c.requires.seated.table;
+        below = λ k has. absurd (let z = sym (returns-clause-number c) ∙ has in cc);
+      },
+      record { table = e.0; id = e.1; slots = e.2.0 },
+    )
