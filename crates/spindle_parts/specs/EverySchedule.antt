@@ -186,6 +186,8 @@ pub record Laws (threads : ℕ) (calls : List Call) : Type 0 where
   pub run : IsRun (run_of threads calls)
   pub shows : Shows (machine threads calls) (reached threads calls)
   pub word_is : word (machine threads calls) ≡ barrier.word (reached threads calls)
+  -- the counters stay as many as they were made
+  pub counters : length (machine threads calls).counters ≡ threads
   -- no number stands twice in begun or finished of any round, and each begin is within its round
   pub once : IsOnce (reached threads calls)
   pub begins : AtEach BeginsWithin (run_of threads calls)

@@ -3,11 +3,11 @@
 //! One thread plays every party. A step's tests are made in the order of the step table (docs/FORMATS.md), and the first
 //! that fails names the refusal.
 
-ghost use Rattle.std.specs.Prelude.{◌≡◌, ℕ, ◌<◌, ◌≤◌, IfOk, OnErr, IsErrOf, MatchResult};
-ghost use Rattle.spindle_parts.specs.Machine.{initial, word};
-ghost use Rattle.spindle_parts.specs.Registers.{shown, IsTidy};
+ghost use Rattle.std.specs.Prelude.{◌≡◌, ◌<◌, ◌≤◌, IfOk, OnErr, IsErrOf};
+ghost use Rattle.spindle_parts.specs.Machine.{initial};
+ghost use Rattle.spindle_parts.specs.Registers.{shown, IsReached, IsTidy};
 ghost use Rattle.spindle_parts.specs.Contents.{configuration};
-ghost use Rattle.spindle_parts.specs.Serving.{IsServed};
+ghost use Rattle.spindle_parts.specs.Serving.{Replies, IsServed};
 ghost use Rattle.spindle_parts.specs.EverySchedule.{EverySchedule};
 
 use crate::fault::Fault;
@@ -119,6 +119,7 @@ impl Machine {
         requires some { 0 < threads }
         requires few { threads ≤ 32767 }
         ensures fresh { IfOk result (λ m. configuration m ≡ initial threads) }
+        ensures reached { IfOk result (λ m. IsReached (configuration m)) }
         ensures memory { OnErr result (IsErrOf result Fault.Memory) }
     {
         let registers = Registers::new(alloc, threads)?;
@@ -126,8 +127,11 @@ impl Machine {
     }
 
     /// Makes the step, or refuses it and changes nothing. Only a party's first `Join` takes memory.
+    ///
+    /// Some schedule leads to the configuration before and after it, so what `every_schedule` says holds of both.
     pub fn step(&mut self, step: Step) -> Reply
-        ensures { IsServed (configuration self.old) step (configuration self.new) result }
+        ensures served { IsServed (configuration self.old) step (configuration self.new) result }
+        ensures reached { IsReached (configuration self.new) }
     {
         let registers = &mut self.registers;
         match step {
@@ -161,7 +165,7 @@ pub fn every_schedule()
 
 fn answer(outcome: Result<(), Why>, registers: &Registers) -> Reply
     requires { IsTidy registers.now }
-    ensures { MatchResult outcome (λ _. result ≡ Reply.Word (word (shown registers.now))) (λ why. result ≡ Reply.Refused why) }
+    ensures { Replies (λ _ n. Reply.Word n) (shown registers.now) outcome result }
 {
     match outcome {
         Ok(()) => Reply::Word(registers.word()),
@@ -171,7 +175,7 @@ fn answer(outcome: Result<(), Why>, registers: &Registers) -> Reply
 
 fn claim_answer(outcome: Result<u32, Why>, registers: &Registers) -> Reply
     requires { IsTidy registers.now }
-    ensures { MatchResult outcome (λ k. result ≡ Reply.Job (word (shown registers.now)) k) (λ why. result ≡ Reply.Refused why) }
+    ensures { Replies (λ k n. Reply.Job n k) (shown registers.now) outcome result }
 {
     match outcome {
         Ok(number) => Reply::Job(registers.word(), number),

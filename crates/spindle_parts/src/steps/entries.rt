@@ -2,7 +2,7 @@
 //!
 //! The list and the entries' marks are a sparse set: a party stands in it where the list has the party at its mark. So it is
 //! emptied at a round's end without a look at any entry.
-ghost use Rattle.std.specs.Prelude.{◌≡◌, ℕ, Bool, true, false, ◌==◌, IfSome, OnOk, OnErr, Option, Some, vec_capacity};
+ghost use Rattle.std.specs.Prelude.{◌≡◌, ℕ, true, ◌==◌, IfSome, OnOk, OnErr, Some, vec_capacity};
 ghost use Rattle.std.specs.List.{list_any};
 ghost use Rattle.std.specs.Ordering.{nat_cmp};
 ghost use Rattle.std.specs.BTreeMap.{get};
@@ -17,7 +17,8 @@ pub type Entries = BTreeMap<u32, Entry>;
 
 /// Gives a party that has an entry that sense.
 pub fn set_sense(entries: &mut Entries, party: u32, sense: Option<bool>)
-    ensures { IfSome (get nat_cmp entries.old party) (λ e. Writes entries.old entries.new party (record e { sense = sense })) }
+    ensures { IfSome (get nat_cmp entries.old party)
+        (λ e. Writes entries.old entries.new party (record e { sense = sense })) }
 {
     if let Some(entry) = entries.get_mut(&party) {
         entry.sense = sense;
@@ -26,7 +27,8 @@ pub fn set_sense(entries: &mut Entries, party: u32, sense: Option<bool>)
 
 /// Gives a party that has an entry that job, or none.
 pub fn set_running(entries: &mut Entries, party: u32, running: Option<u32>)
-    ensures { IfSome (get nat_cmp entries.old party) (λ e. Writes entries.old entries.new party (record e { running = running })) }
+    ensures { IfSome (get nat_cmp entries.old party)
+        (λ e. Writes entries.old entries.new party (record e { running = running })) }
 {
     if let Some(entry) = entries.get_mut(&party) {
         entry.running = running;
@@ -35,7 +37,8 @@ pub fn set_running(entries: &mut Entries, party: u32, running: Option<u32>)
 
 /// Gives a party that has an entry that mark.
 pub fn set_mark(entries: &mut Entries, party: u32, mark: usize)
-    ensures { IfSome (get nat_cmp entries.old party) (λ e. Writes entries.old entries.new party (record e { mark = mark })) }
+    ensures { IfSome (get nat_cmp entries.old party)
+        (λ e. Writes entries.old entries.new party (record e { mark = mark })) }
 {
     if let Some(entry) = entries.get_mut(&party) {
         entry.mark = mark;
@@ -85,7 +88,8 @@ pub fn note(entries: &mut Entries, saw: &mut Vec<u32>, party: u32)
     requires marks { IsMarked entries.old saw.old.items (vec_capacity saw.old) }
     requires known { IsKnown entries.old party }
     ensures marks { IsMarked entries.new saw.new.items (vec_capacity saw.new) }
-    ensures seen { (q : ℕ) → list_any (λ p. q == p) saw.new.items ≡ put (λ q. list_any (λ p. q == p) saw.old.items) party true q }
+    ensures seen { (q : ℕ) → list_any (λ p. q == p) saw.new.items
+        ≡ put (λ q. list_any (λ p. q == p) saw.old.items) party true q }
     ensures seats { KeepsSeats entries.old entries.new }
 {
     if has_seen(entries, saw, party) {

@@ -1,8 +1,9 @@
 //! The steps by which a round's jobs are published, begun, finished and stopped.
-ghost use Rattle.std.specs.Prelude.{◌≡◌, ◌≤◌, ℕ, Bool, true, false, Option, Some, None, IfOk, MatchResult, replicate, length};
-ghost use Rattle.spindle_parts.specs.Machine.{first, publish_tests, publishing, claim_tests, claimed, rested};
+ghost use Rattle.std.specs.Prelude.{◌≡◌, ◌≤◌, true, Some, IfOk, replicate, length};
+ghost use Rattle.spindle_parts.specs.Machine.{publish_tests, publishing, claim_tests};
+ghost use Rattle.spindle_parts.specs.Machine.{claimed, rested};
 ghost use Rattle.spindle_parts.specs.Registers.{shown, IsReached, IsTidy};
-ghost use Rattle.spindle_parts.specs.Serving.{Serves};
+ghost use Rattle.spindle_parts.specs.Serving.{Passes, Judges, Serves};
 ghost use Rattle.spindle_parts.specs.declared.steps.Step.{Step};
 
 use crate::steps::Why;
@@ -13,7 +14,8 @@ impl Registers {
     pub fn publish(&mut self, party: u32, count: u32, stoppable: bool) -> Result<(), Why>
         requires reached { IsReached (shown self.old) }
         requires tidy { IsTidy self.old }
-        ensures served { MatchResult result (λ _. (first (publish_tests (shown self.old) party count) ≡ None) × (shown self.new ≡ publishing (shown self.old) count stoppable)) (λ why. (first (publish_tests (shown self.old) party count) ≡ Some why) × (shown self.new ≡ shown self.old)) }
+        ensures served { let m = shown self.old in
+            Judges (publish_tests m party count) m (publishing m count stoppable) (shown self.new) result }
         ensures range { IfOk result (λ _. count ≤ 4294967295) }
         ensures tidy { IsTidy self.new }
     {
@@ -42,7 +44,8 @@ impl Registers {
     /// How many jobs are published, for a party that may begin one of them.
     fn claimable(&self, party: u32) -> Result<u32, Why>
         requires { IsTidy self.now }
-        ensures { MatchResult result (λ n. (first (claim_tests (shown self.now) party) ≡ None) × (self.now.published ≡ Some n)) (λ why. first (claim_tests (shown self.now) party) ≡ Some why) }
+        ensures tests { Passes (claim_tests (shown self.now) party) result }
+        ensures published { IfOk result (λ n. self.now.published ≡ Some n) }
     {
         if !self.is_inside(party) {
             return Err(Why::NotIn);

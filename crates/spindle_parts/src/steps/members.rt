@@ -1,5 +1,6 @@
 //! The steps by which parties come, arrive and go, and by which a round ends.
-ghost use Rattle.std.specs.Prelude.{◌≡◌, ◌≤◌, Bool, true, false, not, ℕ, ◌==◌, [], if◌then◌else◌, Option, Some, None, vec_capacity};
+ghost use Rattle.std.specs.Prelude.{◌≡◌, true, false, not, ◌==◌, if◌then◌else◌, [], Some, None};
+ghost use Rattle.std.specs.Prelude.{vec_capacity};
 ghost use Rattle.spindle_parts.specs.Registers.{shown, IsReached, IsTidy};
 ghost use Rattle.spindle_parts.specs.Serving.{Serves, granted_by};
 ghost use Rattle.spindle_parts.specs.declared.steps.Step.{Step};
@@ -131,7 +132,8 @@ impl Registers {
 
     /// Where nobody is in, the party is the closer.
     fn close(&mut self, party: u32)
-        ensures { self.new ≡ record self.old { closer = if self.old.inside == 0 then Some party else self.old.closer } }
+        ensures { let closer = if self.old.inside == 0 then Some party else self.old.closer in
+            self.new ≡ record self.old { closer = closer } }
     {
         if self.inside == 0 {
             self.closer = Some(party);
@@ -142,7 +144,14 @@ impl Registers {
     fn turn(&mut self)
         ensures saw { self.new.saw.items ≡ [] }
         ensures room { vec_capacity self.new.saw ≡ vec_capacity self.old.saw }
-        ensures turned { self.new ≡ record self.old { saw = self.new.saw; sense = not self.old.sense; inside = self.old.members; closer = None; stoppable = false; stopped = false } }
+        ensures turned { self.new ≡ record self.old {
+          saw = self.new.saw;
+          sense = not self.old.sense;
+          inside = self.old.members;
+          closer = None;
+          stoppable = false;
+          stopped = false;
+        } }
     {
         self.saw.clear();
         self.sense = !self.sense;

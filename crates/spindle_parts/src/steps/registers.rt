@@ -1,8 +1,9 @@
 //! What the machine keeps: an entry for each party that ever came, the word's fields, and the jobs of the round.
-ghost use Rattle.std.specs.Prelude.{◌≡◌, ℕ, ◌≤◌, ◌<◌, IfOk, IsErrOf, OnErr, ◌↔◌, IsTrue, length};
+ghost use Rattle.std.specs.Prelude.{◌≡◌, ◌≤◌, IfOk};
 ghost use Rattle.std.specs.Ordering.{nat_cmp};
 ghost use Rattle.std.specs.BTreeMap.{get};
-ghost use Rattle.spindle_parts.specs.Machine.{initial, word, status, is_out, is_inside, is_waiting, is_party};
+ghost use Rattle.spindle_parts.specs.Machine.{initial, word, status};
+ghost use Rattle.spindle_parts.specs.Machine.{is_out, is_inside, is_waiting, is_party};
 ghost use Rattle.spindle_parts.specs.Entries.{sense_of};
 ghost use Rattle.spindle_parts.specs.Registers.{shown, IsTidy};
 

@@ -29,8 +29,8 @@ invariant_of-self c = elim c.match-step.branch [
   | in-End w ↦ subst (λ (x : Inside). IsSteady x.registers) (sym w.self-inside-is) (steady_by c.self.inside.registers w.end.new.self true (steps.End w.in-End.party) w.end.result c.self.invariant w.end.ensures.tidy (always (λ _. Unit {0}) (λ _. tt) w.end.result) w.end.ensures.served)
 ]
 
-pub returns : goal.returns
-returns c = elim c.match-step.branch [
+pub returns-clause-served : goal.returns-clause-served
+returns-clause-served c = elim c.match-step.branch [
   | in-Join w ↦ served_by c.self.inside.registers w.join.new.self (granted_by w.join.result) (steps.Join w.in-Join.party) (λ _ n. Word n) c.args.self.now c.args.step c.match-step.self-inside c.match-step.result w.answer.result w.join.result c.self.view_is w.in-Join.is w.self-inside-is w.result-is w.join.ensures.served w.answer.ensures (always (λ _. Word (word (effect (shown c.self.inside.registers) (steps.Join w.in-Join.party))) ≡ Word (word (effect (shown c.self.inside.registers) (steps.Join w.in-Join.party)))) (λ _. refl) w.join.result)
   | in-Publish w ↦ served_by c.self.inside.registers w.publish.new.self true (steps.Publish w.in-Publish.party w.in-Publish.count) (λ _ n. Word n) c.args.self.now c.args.step c.match-step.self-inside c.match-step.result w.answer-in-Publish.result w.publish.result c.self.view_is w.in-Publish.is w.self-inside-is w.result-is w.publish.ensures.served w.answer-in-Publish.ensures (always (λ _. Word (word (effect (shown c.self.inside.registers) (steps.Publish w.in-Publish.party w.in-Publish.count))) ≡ Word (word (effect (shown c.self.inside.registers) (steps.Publish w.in-Publish.party w.in-Publish.count)))) (λ _. refl) w.publish.result)
   | in-PublishTry w ↦ served_by c.self.inside.registers w.publish-in-PublishTry.new.self true (steps.PublishTry w.in-PublishTry.party w.in-PublishTry.count) (λ _ n. Word n) c.args.self.now c.args.step c.match-step.self-inside c.match-step.result w.answer-in-PublishTry.result w.publish-in-PublishTry.result c.self.view_is w.in-PublishTry.is w.self-inside-is w.result-is w.publish-in-PublishTry.ensures.served w.answer-in-PublishTry.ensures (always (λ _. Word (word (effect (shown c.self.inside.registers) (steps.PublishTry w.in-PublishTry.party w.in-PublishTry.count))) ≡ Word (word (effect (shown c.self.inside.registers) (steps.PublishTry w.in-PublishTry.party w.in-PublishTry.count)))) (λ _. refl) w.publish-in-PublishTry.result)
@@ -45,3 +45,6 @@ returns c = elim c.match-step.branch [
   | in-Clear w ↦ served_by c.self.inside.registers w.clear.new.self true (steps.Clear w.in-Clear.party) (λ _ n. Word n) c.args.self.now c.args.step c.match-step.self-inside c.match-step.result w.answer-in-Clear.result w.clear.result c.self.view_is w.in-Clear.is w.self-inside-is w.result-is w.clear.ensures.served w.answer-in-Clear.ensures (always (λ _. Word (word (effect (shown c.self.inside.registers) (steps.Clear w.in-Clear.party))) ≡ Word (word (effect (shown c.self.inside.registers) (steps.Clear w.in-Clear.party)))) (λ _. refl) w.clear.result)
   | in-End w ↦ served_by c.self.inside.registers w.end.new.self true (steps.End w.in-End.party) (λ _ n. Word n) c.args.self.now c.args.step c.match-step.self-inside c.match-step.result w.answer-in-End.result w.end.result c.self.view_is w.in-End.is w.self-inside-is w.result-is w.end.ensures.served w.answer-in-End.ensures (always (λ _. Word (word (effect (shown c.self.inside.registers) (steps.End w.in-End.party))) ≡ Word (word (effect (shown c.self.inside.registers) (steps.End w.in-End.party)))) (λ _. refl) w.end.result)
 ]
+
+pub returns-clause-reached : goal.returns-clause-reached
+returns-clause-reached c = (invariant_of-self c).reached

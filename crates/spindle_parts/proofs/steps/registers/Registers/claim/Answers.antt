@@ -24,7 +24,7 @@ value_fits v n len size t e le = let f = ap (λ (z : ℕ). n / z) e in omega ari
 
 pub overflow_sub-number : goal.overflow_sub-number
 overflow_sub-number c = let r = c.args.self.now in let t = c.args.thread in let lt = c.if-thread-threads.false in let n = c.len-threads.ensures in let size = r.counters.ok.0 in
-    let own = (bounds (shown r) c.requires.reached).counters c.in_ok-count.count c.in_ok-count.ensures.1 t (omega arith) in let v = value_is r.counters.items t c.index-value.result.now (omega arith) c.index-value.ensures in
+    let own = (bounds (shown r) c.requires.reached).counters c.in_ok-count.count c.in_ok-count.ensures.published t (omega arith) in let v = value_is r.counters.items t c.index-value.result.now (omega arith) c.index-value.ensures in
     value_fits c.index-value.result.now c.in_ok-count.count c.len-threads.result (length r.counters.items) t (n ∙ size) (omega arith)
 
 -- the job that the counter stands for first
@@ -42,10 +42,10 @@ pub returns-clause-served : goal.returns-clause-served
 returns-clause-served c = let r = c.args.self.now in let t = c.args.thread in let p = c.args.party in let lt = c.if-thread-threads.false in let n = c.len-threads.ensures in let size = r.counters.ok.0 in
     let below : t < length r.counters.items = omega arith in
     let v = value_is r.counters.items t c.index-value.result.now below c.index-value.ensures in
-    let number = number_is (shown r) c.in_ok-count.count c.len-threads.result t c.index-value.result.now c.in_ok-count.ensures.1 (n ∙ size) v in (
-      first_past (claim_tests (shown r) p) (own_tests (shown r) t) c.in_ok-count.ensures.0 ∙ own_pass (shown r) t below (λ z. c.if-value-eq0.false (v ∙ z)),
+    let number = number_is (shown r) c.in_ok-count.count c.len-threads.result t c.index-value.result.now c.in_ok-count.ensures.published (n ∙ size) v in (
+      first_past (claim_tests (shown r) p) (own_tests (shown r) t) c.in_ok-count.ensures.tests ∙ own_pass (shown r) t below (λ z. c.if-value-eq0.false (v ∙ z)),
       let x : ℕ = c.in_ok-count.count / c.len-threads.result * t + c.in_ok-count.count / c.len-threads.result - c.index-value.result.now in
-          let inn = not_false _ (all_fail (claim_tests (shown r) p) c.in_ok-count.ensures.0).0 in
+          let inn = not_false _ (all_fail (claim_tests (shown r) p) c.in_ok-count.ensures.tests).0 in
           let seats = runs_shown r.sense r.saw.items r.entries c.set_running.new.entries p (Some x) (known_inside r p inn) c.set_running.ensures in
           (λ i. record (shown r) { seat = seats i; counters = set r.counters.items t (c.index-value.result.now - 1) })
           ∙ (λ i. record (shown r) { seat = with_running (shown r) p (Some (number i)); counters = set r.counters.items t (v i - 1) }),
@@ -55,7 +55,7 @@ pub returns-clause-tidy : goal.returns-clause-tidy
 returns-clause-tidy c = let r = c.args.self.now in let t = c.args.thread in let p = c.args.party in let lt = c.if-thread-threads.false in let n = c.len-threads.ensures in let size = r.counters.ok.0 in let y = c.requires.tidy in
     let below : t < length r.counters.items = omega arith in
     let v = value_is r.counters.items t c.index-value.result.now below c.index-value.ensures in let some = c.if-value-eq0.false in
-    let inn = not_false _ (all_fail (claim_tests (shown r) p) c.in_ok-count.ensures.0).0 in let left = y.left in
+    let inn = not_false _ (all_fail (claim_tests (shown r) p) c.in_ok-count.ensures.tests).0 in let left = y.left in
     let s = sum_by-set (λ (k : ℕ). k) r.counters.items t (c.index-value.result.now - 1) 0 below in record {
       marks = running_kept r.entries _ _ _ p y.marks (known_inside r p inn) _ c.set_running.ensures;
       left = omega arith;
