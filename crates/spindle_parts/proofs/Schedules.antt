@@ -170,6 +170,7 @@ module _ (threads : ℕ) (cs : List Call) (some : 0 < threads) (ok : IsSchedule 
     run = f.run;
     shows = f.shows;
     word_is = same_word (machine threads cs) (reached threads cs) f.shows;
+    counters = size;
     once = run_once (run_of threads cs) f.run;
     begins = begins_within (run_of threads cs) f.run;
     whole = λ q lt. is_whole ((reached threads cs).rounds q) ((sound (run_of threads cs) f.run).ended q lt);

@@ -11,3 +11,7 @@ pub mod ThreadNumbers
 pub mod ChildSlot
 pub mod Machine
 pub mod EverySchedule
+pub mod Serving
+pub mod Entries
+pub mod Registers
+pub mod Contents

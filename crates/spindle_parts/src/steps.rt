@@ -3,11 +3,18 @@
 //! One thread plays every party. A step's tests are made in the order of the step table (docs/FORMATS.md), and the first
 //! that fails names the refusal.
 
+ghost use Rattle.std.specs.Prelude.{◌≡◌, ◌<◌, ◌≤◌, IfOk, OnErr, IsErrOf};
+ghost use Rattle.spindle_parts.specs.Machine.{initial};
+ghost use Rattle.spindle_parts.specs.Registers.{shown, IsReached, IsTidy};
+ghost use Rattle.spindle_parts.specs.Contents.{configuration};
+ghost use Rattle.spindle_parts.specs.Serving.{Replies, IsServed};
 ghost use Rattle.spindle_parts.specs.EverySchedule.{EverySchedule};
 
 use crate::fault::Fault;
 use std::alloc::Global;
+use std::marker::Model;
 
+mod entries;
 mod jobs;
 mod members;
 mod registers;
@@ -95,15 +102,37 @@ pub struct Machine {
     registers: Registers,
 }
 
+impl Model for Machine {
+    ghost use Rattle.spindle_parts.specs.Contents.{Contents, contents};
+    ghost use Rattle.spindle_parts.specs.Registers.{IsSteady};
+
+    ghost Value = { Contents };
+
+    ghost view = { λ m. contents m.registers };
+
+    ghost invariant = { λ m. IsSteady m.registers };
+}
+
 impl Machine {
-    /// A fresh machine with a counter for each of `threads` threads; `threads` is at most 32767.
-    pub fn new(alloc: Global, threads: usize) -> Result<Machine, Fault> {
+    /// A fresh machine with a counter for each of `threads` threads.
+    pub fn new(alloc: Global, threads: usize) -> Result<Machine, Fault>
+        requires some { 0 < threads }
+        requires few { threads ≤ 32767 }
+        ensures fresh { IfOk result (λ m. configuration m ≡ initial threads) }
+        ensures reached { IfOk result (λ m. IsReached (configuration m)) }
+        ensures memory { OnErr result (IsErrOf result Fault.Memory) }
+    {
         let registers = Registers::new(alloc, threads)?;
         Ok(Machine { registers })
     }
 
     /// Makes the step, or refuses it and changes nothing. Only a party's first `Join` takes memory.
-    pub fn step(&mut self, step: Step) -> Reply {
+    ///
+    /// Some schedule leads to the configuration before and after it, so what `every_schedule` says holds of both.
+    pub fn step(&mut self, step: Step) -> Reply
+        ensures served { IsServed (configuration self.old) step (configuration self.new) result }
+        ensures reached { IsReached (configuration self.new) }
+    {
         let registers = &mut self.registers;
         match step {
             Step::Join(party) => answer(registers.join(party), registers),
@@ -134,14 +163,20 @@ pub fn every_schedule()
     ensures { EverySchedule }
 {}
 
-fn answer(outcome: Result<(), Why>, registers: &Registers) -> Reply {
+fn answer(outcome: Result<(), Why>, registers: &Registers) -> Reply
+    requires { IsTidy registers.now }
+    ensures { Replies (λ _ n. Reply.Word n) (shown registers.now) outcome result }
+{
     match outcome {
         Ok(()) => Reply::Word(registers.word()),
         Err(why) => Reply::Refused(why),
     }
 }
 
-fn claim_answer(outcome: Result<u32, Why>, registers: &Registers) -> Reply {
+fn claim_answer(outcome: Result<u32, Why>, registers: &Registers) -> Reply
+    requires { IsTidy registers.now }
+    ensures { Replies (λ k n. Reply.Job n k) (shown registers.now) outcome result }
+{
     match outcome {
         Ok(number) => Reply::Job(registers.word(), number),
         Err(why) => Reply::Refused(why),
