@@ -7,3 +7,7 @@ pub mod Trail
 pub mod Ledger
 pub mod LedgerSteps
 pub mod LedgerSeats
+pub mod ThreadNumbers
+pub mod ChildSlot
+pub mod Machine
+pub mod EverySchedule

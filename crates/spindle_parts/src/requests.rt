@@ -1,5 +1,5 @@
-//! The ledger of helper requests: how many helpers the nested locks of a lock still ask for, where their places
-//! are, and the two flags that its helpers read.
+//! The ledger of helper requests: how many helpers the nested locks of a lock still ask for, where
+//! their places are, and the two flags that the lock's helpers read.
 //!
 //! | word | holds | changed by |
 //! |---|---|---|
@@ -8,22 +8,24 @@
 //! | 16 | 1 while rest is announced, else 0 | `announce_rest` |
 //! | 24 + 8 i | the unfilled places of child slot i | `install`, `try_take_place`, `close` |
 //!
-//! Eight words are a cache line, so that words of different writers share none. The words between aren't used.
-//! Each seat has a credit, which contracts alone see: the requests that it still has to place or to take back.
-//! Between any two steps requests are the unfilled places and the credits of all seats. That holds exactly while
-//! they are fewer than 2^64 together, and modulo 2^64 in any case, since a word wraps.
-ghost use Rattle.std.specs.Prelude.{◌≡◌, ℕ, ◌+◌, ◌*◌, ◌^◌, ◌<◌, ◌≤◌, [], IfOk, OnErr, IsErrOf, if◌then◌else◌};
-ghost use Rattle.spindle_parts.specs.Ledger.{place_word};
-ghost use Rattle.spindle_parts.specs.LedgerSteps.{TookBy, blank, loading, announcing, asking, subtracting, installing, closing};
+//! Eight words are a cache line, so no two words that are used share one. Each seat has a credit,
+//! which contracts alone see: the requests that it has to place or to take back. Between any two
+//! steps requests are the unfilled places and the credits of all seats together, modulo 2^64 since
+//! a word wraps, and exactly while these are fewer than 2^64.
+ghost use Rattle.std.specs.Prelude.{◌≡◌, ◌≢◌, ℕ, ◌+◌, ◌*◌, ◌^◌, ◌<◌, ◌≤◌, [], IfOk, OnErr, IsErrOf, if◌then◌else◌};
+ghost use Rattle.spindle_parts.specs.Ledger.{place_word, IsFlag, standing, Balanced, IsExact};
+ghost use Rattle.spindle_parts.specs.declared.requests.plays.Account.{Account};
+ghost use Rattle.atomic_table.specs.Table.{State};
+ghost use Rattle.spindle_parts.specs.LedgerSteps.{TookBy, blank, loading, announcing, asking, subtracting, installing, taking, missing, closing};
 
 use crate::fault::Fault;
 use atomic_table::Table;
-use plays::{
-    Account, Announces, Another, Asks, Closes, Installs, Ledger, Loads, ReadsFlag, Subtracts, Takes,
-};
+use plays::{Account, Announces, Another, Asks, Closes, Installs, Ledger, Loads, Subtracts, Takes};
 use std::alloc::Global;
 
 pub mod plays;
+#[cfg(test)]
+mod tests;
 
 const REQUESTS: usize = 0;
 
@@ -44,10 +46,12 @@ pub type Seat = atomic_table::Seat<(), Account>;
 #[derive(Drop)]
 pub struct Requests {
     table: Table<(), Account, u64, Ledger, Global>,
-    ghost sized: { (table.shared.table_id.words ≡ 24 + 8 * table.shared.key) × (table.shared.key < 2 ^ 60) },
+    ghost sized: { table.shared.table_id.words ≡ place_word table.shared.key },
+    ghost small: { table.shared.key < 2 ^ 60 },
 }
 
 /// What an attempt to take a place found.
+#[derive(Clone, Copy, Debug, PartialEq, Eq)]
 pub enum TakePlace {
     /// The place is the caller's.
     Taken,
@@ -60,15 +64,14 @@ pub enum TakePlace {
 impl Requests {
     ghost use Rattle.spindle_parts.specs.LedgerSeats.{slot_count, IsSeatOf, IsSameSeat};
 
-    /// A ledger with nothing asked for and no place open. Rest is announced, exit isn't, as a fresh lock has it.
-    ///
-    /// The seat that comes with it is the leader's. `Memory` where there is no room for the words.
+    /// A ledger with nothing asked for and no place open. As a fresh lock has it, rest is announced
+    /// and exit isn't. The seat is the leader's. `Memory` where there is no room for the words.
     pub fn new(alloc: Global, slots: usize) -> Result<(Requests, Seat), Fault>
         ensures seat { IfOk result (λ r. IsSeatOf r.0 r.1 × (r.1.id ≡ 0) × (r.1.me ≡ (blank, []))) }
         ensures slots { IfOk result (λ r. slot_count r.0 ≡ slots) }
         ensures memory { OnErr result (IsErrOf result Fault.Memory) }
     {
-        // Where the sum is capped there is no room for it.
+        // Where the count is capped no allocator has room for it.
         let count = slots.saturating_mul(LINE).saturating_add(PLACES);
         let mut words = Vec::from_elem(alloc, 0u64, count)?;
         words[REST] = 1;
@@ -86,27 +89,27 @@ impl Requests {
         self.table.shared.split_seat::<Another>(seat)
     }
 
-    /// Asks for `n` helpers more. They are the seat's to place by `install` or to take back by `subtract`.
+    /// Asks for `n` helpers more. The seat answers for them: it may `install` them as places, or
+    /// `subtract` them again.
     pub fn ask(&self, seat: &mut Seat, n: usize)
         requires { IsSeatOf self.now seat.old }
         ensures seat { IsSameSeat seat.old seat.new }
         ensures step { (found : ℕ) × (seat.new.me.0 ≡ asking n found seat.old.me.0) }
     {
-        self.table
-            .shared
-            .fetch_add::<Asks>(seat, REQUESTS, n as u64);
+        let words = &self.table.shared;
+        words.fetch_add::<Asks>(seat, REQUESTS, n as u64);
     }
 
-    /// Takes `n` requests back that the seat answers for: it asked for them, took their place or closed it.
+    /// Takes `n` requests back that the seat answers for: it asked for them, or took or closed
+    /// their places.
     pub fn subtract(&self, seat: &mut Seat, n: usize)
         requires seat { IsSeatOf self.now seat.old }
         requires credit { n ≤ seat.old.me.0.credit }
         ensures seat { IsSameSeat seat.old seat.new }
         ensures step { (found : ℕ) × (seat.new.me.0 ≡ subtracting n found seat.old.me.0) }
     {
-        self.table
-            .shared
-            .fetch_sub::<Subtracts>(seat, REQUESTS, n as u64);
+        let words = &self.table.shared;
+        words.fetch_sub::<Subtracts>(seat, REQUESTS, n as u64);
     }
 
     /// Opens `n` places at the slot, for requests that the seat answers for.
@@ -115,11 +118,11 @@ impl Requests {
         requires slot { slot < slot_count self.now }
         requires credit { n ≤ seat.old.me.0.credit }
         ensures seat { IsSameSeat seat.old seat.new }
-        ensures step { (found : ℕ) × (seat.new.me.0 ≡ installing (place_word slot) n found seat.old.me.0) }
+        ensures step { (found : ℕ)
+            × (seat.new.me.0 ≡ installing (place_word slot) n found seat.old.me.0) }
     {
-        self.table
-            .shared
-            .fetch_add::<Installs>(seat, PLACES + LINE * slot, n as u64);
+        let words = &self.table.shared;
+        words.fetch_add::<Installs>(seat, PLACES + LINE * slot, n as u64);
     }
 
     /// Tries once to fill a place of the slot. Who took one answers for its request.
@@ -129,32 +132,27 @@ impl Requests {
         ensures seat { IsSameSeat seat.old seat.new }
         ensures step { TookBy (place_word slot) result seat.old.me.0 seat.new.me.0 }
     {
-        let word = PLACES + LINE * slot;
-        let unfilled = self.table.shared.load::<Loads>(seat, word);
+        let unfilled = self.load(seat, PLACES + LINE * slot);
         if unfilled == 0 {
             return TakePlace::None;
         }
-        let found = self
-            .table
-            .shared
-            .compare_exchange::<Takes>(seat, word, unfilled, unfilled - 1);
-        if found == unfilled {
+        if self.exchange_place(seat, slot, unfilled) == unfilled {
             TakePlace::Taken
         } else {
             TakePlace::Again
         }
     }
 
-    /// Takes all unfilled places out of the slot and says how many they were. The seat answers for their requests.
+    /// Takes all unfilled places out of the slot, and says how many they were. The seat answers for
+    /// their requests.
     pub fn close(&self, seat: &mut Seat, slot: usize) -> usize
         requires seat { IsSeatOf self.now seat.old }
         requires slot { slot < slot_count self.now }
         ensures seat { IsSameSeat seat.old seat.new }
         ensures step { seat.new.me.0 ≡ closing (place_word slot) result seat.old.me.0 }
     {
-        self.table
-            .shared
-            .swap::<Closes>(seat, PLACES + LINE * slot, 0) as usize
+        let words = &self.table.shared;
+        words.swap::<Closes>(seat, PLACES + LINE * slot, 0) as usize
     }
 
     /// How many helpers are asked for: unfilled places and credits together.
@@ -163,7 +161,7 @@ impl Requests {
         ensures seat { IsSameSeat seat.old seat.new }
         ensures step { seat.new.me.0 ≡ loading 0 result seat.old.me.0 }
     {
-        self.table.shared.load::<Loads>(seat, REQUESTS)
+        self.load(seat, REQUESTS)
     }
 
     /// Says whether the helpers are to end.
@@ -172,9 +170,7 @@ impl Requests {
         ensures seat { IsSameSeat seat.old seat.new }
         ensures step { seat.new.me.0 ≡ announcing 8 (if exit then 1 else 0) seat.old.me.0 }
     {
-        self.table
-            .shared
-            .store::<Announces>(seat, EXIT, exit as u64);
+        self.store_flag(seat, EXIT, exit);
     }
 
     /// Says whether idle helpers are to rest at once.
@@ -183,9 +179,7 @@ impl Requests {
         ensures seat { IsSameSeat seat.old seat.new }
         ensures step { seat.new.me.0 ≡ announcing 16 (if rest then 1 else 0) seat.old.me.0 }
     {
-        self.table
-            .shared
-            .store::<Announces>(seat, REST, rest as u64);
+        self.store_flag(seat, REST, rest);
     }
 
     /// Whether the helpers are to end.
@@ -194,7 +188,7 @@ impl Requests {
         ensures seat { IsSameSeat seat.old seat.new }
         ensures step { seat.new.me.0 ≡ loading 8 (if result then 1 else 0) seat.old.me.0 }
     {
-        self.table.shared.load::<ReadsFlag>(seat, EXIT) == 1
+        self.load(seat, EXIT) == 1
     }
 
     /// Whether idle helpers are to rest at once.
@@ -203,6 +197,48 @@ impl Requests {
         ensures seat { IsSameSeat seat.old seat.new }
         ensures step { seat.new.me.0 ≡ loading 16 (if result then 1 else 0) seat.old.me.0 }
     {
-        self.table.shared.load::<ReadsFlag>(seat, REST) == 1
+        self.load(seat, REST) == 1
+    }
+
+    fn load(&self, seat: &mut Seat, word: usize) -> u64
+        requires seat { IsSeatOf self.now seat.old }
+        requires word { word < place_word (slot_count self.now) }
+        ensures seat { IsSameSeat seat.old seat.new }
+        ensures step { seat.new.me.0 ≡ loading word result seat.old.me.0 }
+        ensures flag { IsFlag word → result ≤ 1 }
+    {
+        self.table.shared.load::<Loads>(seat, word)
+    }
+
+    fn store_flag(&self, seat: &mut Seat, word: usize, flag: bool)
+        requires seat { IsSeatOf self.now seat.old }
+        requires word { IsFlag word }
+        ensures seat { IsSameSeat seat.old seat.new }
+        ensures step { seat.new.me.0 ≡ announcing word (if flag then 1 else 0) seat.old.me.0 }
+    {
+        self.table
+            .shared
+            .store::<Announces>(seat, word, flag as u64);
+    }
+
+    /// Lowers the slot's places by 1 if they are `unfilled`, and says what they were.
+    fn exchange_place(&self, seat: &mut Seat, slot: usize, unfilled: u64) -> u64
+        requires seat { IsSeatOf self.now seat.old }
+        requires slot { slot < slot_count self.now }
+        requires positive { 0 < unfilled }
+        ensures seat { IsSameSeat seat.old seat.new }
+        ensures hit { result ≡ unfilled
+            → seat.new.me.0 ≡ taking (place_word slot) result seat.old.me.0 }
+        ensures miss { result ≢ unfilled
+            → seat.new.me.0 ≡ missing (place_word slot) result seat.old.me.0 }
+    {
+        let words = &self.table.shared;
+        words.compare_exchange::<Takes>(seat, PLACES + LINE * slot, unfilled, unfilled - 1)
     }
 }
+
+/// While fewer than 2^64 requests stand, the words show requests and unfilled places as they are.
+pub fn exact_while_few()
+    ensures { (slots : ℕ) (s : State (Unit {0}) Account) → Balanced slots s
+        → standing slots s.views < 2 ^ 64 → IsExact slots s }
+{}

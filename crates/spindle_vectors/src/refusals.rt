@@ -4,10 +4,9 @@
 //! them for each N from 1 on. With memory for all, they show the full answers.
 
 ghost use Rattle.std.specs.Prelude.{◌<◌};
-ghost use denote.Param.Send.{IsSync};
 
 use crate::jobs::{Calls, Counting, Square};
-use spindle::lock::{Limits, Pool};
+use spindle::lock::{Leader, Limits, Pool};
 use spindle::{DEFAULT_PAUSE_LIMIT, DEFAULT_SPIN_LIMIT, Fault, with_lock};
 use std::alloc::Global;
 use std::process::Abort;
@@ -34,50 +33,49 @@ fn are_seven_squares(squares: &[u128]) -> bool {
 
 #[test]
 fn a_refused_round_has_run_no_job(rt: HostRuntime) -> Result<(), Fault> {
-    play_seven_items(&rt, rt.alloc(), 1)?;
-    play_seven_items(&rt, rt.alloc(), 3)?;
-    play_seven_items(&rt, rt.alloc(), 7)
+    let alloc = rt.alloc();
+    let calls = Calls::new();
+    let opened = AtomicUsize::new(0);
+    let pool = Pool::new(4, LIMITS, Counting { calls: &calls });
+    let answer = with_lock::<Square, _, _, _, _>(&rt, alloc, &pool, 4, |leader| {
+        opened.fetch_add(1, Ordering::SeqCst);
+        square_seven_items(&rt, alloc, &calls, leader, 1)?;
+        square_seven_items(&rt, alloc, &calls, leader, 3)?;
+        square_seven_items(&rt, alloc, &calls, leader, 7)
+    });
+    match answer {
+        Ok(rounds) => rounds,
+        Err(fault) => {
+            assert!(rt; matches!(fault, Fault::Memory));
+            assert_eq!(rt; opened.load(Ordering::SeqCst), 0);
+            Ok(())
+        }
+    }
 }
 
 // Squares seven items in so many jobs; where that is refused, no job was run, and the same call again answers.
-fn play_seven_items<H: Threads + Wait + Abort + Sync>(
+fn square_seven_items<H: Threads + Wait + Abort + Sync>(
     rt: &H,
     alloc: Global,
+    calls: &Calls,
+    leader: &mut Leader<Square, Counting>,
     jobs: usize,
 ) -> Result<(), Fault>
     requires { 0 < jobs }
 {
-    let calls = Calls::new();
-    let run = AtomicUsize::new(0);
-    let pool = Pool::new(4, LIMITS, Counting { calls: &calls });
-    let opened = with_lock::<Square, _, _, _, _>(
-        rt,
-        alloc,
-        &pool,
-        4,
-        |leader| -> Result<(), Fault>
-            requires jobs { 0 < jobs }
-            requires sync { IsSync H.row }
-        {
-            run.fetch_add(1, Ordering::SeqCst);
-            let squares = match leader.for_each(rt, alloc, jobs, seven_items(alloc)?) {
-                Ok(squares) => squares,
-                Err(fault) => {
-                    assert!(rt; matches!(fault, Fault::Memory));
-                    assert_eq!(rt; calls.in_all(), (0, 0));
-                    leader.for_each(rt, alloc, jobs, seven_items(alloc)?)?
-                }
-            };
-            assert!(rt; are_seven_squares(squares.as_slice()));
-            assert_eq!(rt; calls.in_all(), (jobs, jobs));
-            Ok(())
-        },
-    );
-    if opened.is_err() {
-        assert_eq!(rt; run.load(Ordering::SeqCst), 0);
-        return Ok(());
-    }
-    opened?
+    let before = calls.in_all();
+    let squares = match leader.for_each(rt, alloc, jobs, seven_items(alloc)?) {
+        Ok(squares) => squares,
+        Err(fault) => {
+            assert!(rt; matches!(fault, Fault::Memory));
+            assert_eq!(rt; calls.in_all(), before);
+            leader.for_each(rt, alloc, jobs, seven_items(alloc)?)?
+        }
+    };
+    assert!(rt; are_seven_squares(squares.as_slice()));
+    let after = (before.0.wrapping_add(jobs), before.1.wrapping_add(jobs));
+    assert_eq!(rt; calls.in_all(), after);
+    Ok(())
 }
 
 #[test]

@@ -1,8 +1,8 @@
-//! What a seat at the ledger knows, the rule of its table, and what each kind of step tells its seat.
+//! What a seat at the ledger knows, the rule of its table, and what each kind of step tells it.
 //!
 //! These types are for contracts and proofs alone: no value of them is made.
 ghost use Rattle.spindle_parts.specs.Ledger.{Balanced};
-ghost use Rattle.spindle_parts.specs.LedgerSteps.{blank, same, new_account, loaded, read_flag, announced, asked, subtracted, installed, taken, closed};
+ghost use Rattle.spindle_parts.specs.LedgerSteps.{blank, same, new_account, loaded, announced, asked, subtracted, installed, taken, closed};
 
 use crate::trail::Trace;
 use atomic_table::{Play, Split, TableRule};
@@ -56,12 +56,6 @@ pub(crate) struct Loads;
 
 impl Play<(), Account> for Loads {
     ghost then = { loaded };
-}
-
-pub(crate) struct ReadsFlag;
-
-impl Play<(), Account> for ReadsFlag {
-    ghost then = { read_flag };
 }
 
 pub(crate) struct Announces;

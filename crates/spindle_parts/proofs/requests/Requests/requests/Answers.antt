@@ -1,6 +1,0 @@
-use Rattle.std.proofs.Common.{rules, arith}
-use Rattle.spindle_parts.proofs.LedgerMoves.{loads}
-use Rattle.spindle_parts.proofs.requests.Requests.requests.Goals as goal
-
-pub load-requires : goal.load-requires
-load-requires c = (search rules, omega arith, loads _ _ _ _ _)
