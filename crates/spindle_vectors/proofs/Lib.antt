@@ -1,2 +1,1 @@
--- The lemmas of the examples.
-pub mod ChunkSums
+-- The lemmas of the examples: none yet.

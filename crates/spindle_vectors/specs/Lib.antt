@@ -1,2 +1,1 @@
--- The definitions that the examples cite.
-pub mod Chunks
+-- The definitions that the examples cite: none yet.

@@ -1,15 +1,9 @@
 //! A job over chunks of a table: each element of a chunk becomes one more. The chunks are runs of one shared list.
-ghost use Rattle.std.specs.Prelude.{◌≡◌, ℕ, ◌+◌, ◌<◌, List, IfOk, length, map};
-ghost use Rattle.std.specs.List.{AllZip};
-ghost use denote.Param.Send.{IsSync};
-ghost use Rattle.spindle_parts.specs.Pieces.{joined, total};
-ghost use Rattle.spindle_vectors.specs.Chunks.{Gives, GivesOneMore};
+ghost use Rattle.std.specs.Prelude.{◌≡◌, ◌+◌, IfOk, map};
 ghost use Rattle.std.proofs.Common.{rules};
 
-use spindle::lists::SharedList;
 use spindle::lists::run::ListRun;
-use spindle::lock::{End, Gate, Job, JobCx, Pool};
-use spindle::{Fault, with_lock};
+use spindle::lock::{End, Job, JobCx};
 use std::alloc::{AllocError, Global};
 use std::sync::Wait;
 use std::thread::Threads;
@@ -24,7 +18,7 @@ impl Job for AddOne {
 
     type Inner = End;
 
-    ghost meets = { GivesOneMore };
+    ghost meets = { λ chunk output. IfOk output (λ sums. sums.items ≡ map (λ x. x + 1) chunk) };
 
     ghost equal_is_same = { Prim.search rules };
 
@@ -45,66 +39,10 @@ pub fn one_more(alloc: Global, chunk: &[u32]) -> Result<Vec<u64>, AllocError>
     chunk.iter().map(|x| u64::from(*x) + 1).collect(alloc)
 }
 
-/// Each element of a table, and one more, by one round over chunks of these lengths.
-///
-/// A chunk is a job's input as it is: a run of the table, which no job copies.
-pub fn one_more_each<G: Gate + Sync, H: Threads + Wait + Sync>(
-    rt: &H,
-    alloc: Global,
-    pool: &Pool<G>,
-    jobs: usize,
-    table: &SharedList<u32>,
-    lengths: &[usize],
-) -> Result<Vec<u64>, Fault>
-    requires jobs { 0 < jobs }
-    requires whole { total lengths.now ≡ length table.now }
-    ensures { IfOk result (λ sums. sums.items ≡ map (λ x. x + 1) table.now) }
-{
-    let chunks = table.share_out(alloc, lengths)?;
-    let parts = run_chunks(rt, alloc, pool, jobs, chunks)?;
-    join_parts(alloc, parts)
-}
-
-/// One round over the chunks.
-fn run_chunks<G: Gate + Sync, H: Threads + Wait + Sync>(
-    rt: &H,
-    alloc: Global,
-    pool: &Pool<G>,
-    jobs: usize,
-    chunks: Vec<ListRun<u32>>,
-) -> Result<Vec<Result<Vec<u64>, AllocError>>, Fault>
-    requires { 0 < jobs }
-    ensures { IfOk result (λ parts. AllZip GivesOneMore chunks.items parts.items) }
-{
-    with_lock::<AddOne, G, Result<Vec<Result<Vec<u64>, AllocError>>, Fault>, _, H>(
-        rt,
-        alloc,
-        pool,
-        pool.max_num_threads(),
-        |leader|
-            requires sync { IsSync H.row }
-            requires jobs { 0 < jobs }
-        { leader.for_each(rt, alloc, jobs, chunks) },
-    )?
-}
-
-/// The parts one after another, where all of them are there.
-fn join_parts(alloc: Global, parts: Vec<Result<Vec<u64>, AllocError>>) -> Result<Vec<u64>, Fault>
-    ensures { IfOk result (λ all. (lists : List (List ℕ)) × AllZip Gives parts.items lists × (all.items ≡ joined lists)) }
-{
-    let mut all = Vec::new(alloc);
-    for part in parts {
-        let mut part = part?;
-        all.append(&mut part)?;
-    }
-    Ok(all)
-}
-
 #[cfg(test)]
 mod tests {
     use super::*;
-    use spindle::lock::{Limits, NoGate};
-    use spindle::{DEFAULT_PAUSE_LIMIT, DEFAULT_SPIN_LIMIT};
+    use spindle::lists::SharedList;
     use std::test::Fail;
 
     fn is_input<T: Clone + Eq + Drop + Send + Sync>(input: &T) -> bool {
@@ -187,22 +125,6 @@ mod tests {
             one_more(alloc, chunks[1].as_slice())?.as_slice(),
             [8, 4294967296].as_slice()
         );
-        Ok(())
-    }
-
-    #[test]
-    fn each_element_of_a_table_becomes_one_more(rt: HostRuntime) -> Result<(), Fail> {
-        let alloc = rt.alloc();
-        let table = SharedList::from_vec(alloc, vec![in alloc; 0u32, 7, u32::MAX, 3]?)?;
-        let limits = Limits {
-            spin: DEFAULT_SPIN_LIMIT,
-            pause: DEFAULT_PAUSE_LIMIT,
-        };
-        let pool = Pool::new(4, limits, NoGate);
-        let one = one_more_each(&rt, alloc, &pool, 4, &table, &[4])?;
-        let three = one_more_each(&rt, alloc, &pool, 4, &table, &[1, 0, 3])?;
-        assert_eq!(rt; one.as_slice(), [1, 8, 4294967296, 4].as_slice());
-        assert_eq!(rt; three.as_slice(), [1, 8, 4294967296, 4].as_slice());
         Ok(())
     }
 }
