@@ -1,4 +1,6 @@
 -- The lemmas of this crate.
+pub mod Addresses
 pub mod ListRuns
 pub mod Outputs
 pub mod Places
+pub mod TrayPlaces

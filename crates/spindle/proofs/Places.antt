@@ -7,7 +7,6 @@ use Rattle.spindle.specs.Same.{equal_lists_are_same}
 use Rattle.std.proofs.lemmas.List.{take_more, take_all, append-nil}
 use Rattle.std.proofs.lemmas.Slice.Zip.{AllZip-long}
 use Rattle.spindle_parts.specs.declared.cut.Piece.{Piece}
-use Rattle.spindle_parts.specs.Pieces.{joined}
 use Rattle.spindle_parts.proofs.Lists.{joined_snoc, map_snoc}
 use Rattle.spindle.proofs.Outputs.{AllZip-append}
 use Rattle.spindle.specs.Done.{Done}

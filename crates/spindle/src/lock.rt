@@ -3,6 +3,7 @@
 //! Read `job` first, which has what a user writes; `pool` has what a lock is opened with, `root` the opening, `leader`
 //! the rounds, `context` what a job is given, and `gathering` how the outputs of a round are put together.
 
+mod address;
 mod context;
 mod crew;
 mod finished;
@@ -12,8 +13,12 @@ mod job;
 mod leader;
 mod limits;
 mod nest;
+mod place;
 mod pool;
+mod ready;
 mod root;
+mod tray;
+mod trays;
 
 pub use context::JobCx;
 pub use finished::Finished;

@@ -4,7 +4,8 @@
 
 pub mod callers;
 pub mod chunks;
-pub mod gathering;
+#[cfg(test)]
+mod gathering_rows;
 #[cfg(test)]
 mod jobs;
 #[cfg(test)]
