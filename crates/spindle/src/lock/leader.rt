@@ -7,7 +7,7 @@ ghost use Rattle.std.specs.Option.{ForSome};
 ghost use Rattle.std.specs.Fn.{FnOnceReturnsAtMut};
 ghost use Rattle.spindle_parts.specs.Pieces.{counted, joined};
 ghost use Rattle.spindle.specs.Leaders.{threads_of};
-ghost use Rattle.spindle.specs.Rounds.{job_count, ClonesAreSame, IsRefusal};
+ghost use Rattle.spindle.specs.Rounds.{job_count, ClonesAreSame, IsRefusal, AddsAnswers, items_of};
 
 use crate::lock::context::JobCx;
 use crate::lock::crew::Crew;
@@ -46,9 +46,11 @@ impl<'a, J: Job, G: Gate> Leader<'a, J, G> {
         Leader { slots, gate, crew }
     }
 
-    /// Runs the items in `n_jobs` jobs, or in as many as there are items where these are fewer. Outputs stand in the order of the items.
+    /// Runs the items in `n_jobs` jobs, or in as many as there are items where these are fewer, and at most in
+    /// 4294967295. Each job runs a piece of the items, as `cut` cuts them. Outputs stand in the order of the items.
     ///
-    /// After a refusal the lock can be used further; the items are given up.
+    /// One job is run by the leader directly. No items are no job: that round takes no memory. After a refusal the lock
+    /// can be used further; the items are given up. It stands for `for_each` of spindle between two rounds of a lock.
     pub fn for_each<H: Threads + Wait + Sync>(
         &mut self,
         rt: &H,
@@ -59,7 +61,8 @@ impl<'a, J: Job, G: Gate> Leader<'a, J, G> {
         requires jobs { 0 < vec_len items → 0 < n_jobs }
         requires clones { ClonesAreSame J.In.is_clone items.items }
         ensures answer { IfOk result (λ outputs. AllZip J.meets items.items outputs.items) }
-        ensures refused { IfErr result (IsRefusal (threads_of self.old) (job_count (vec_len items) n_jobs)) }
+        ensures refused { IfErr result
+            (IsRefusal (threads_of self.old) (job_count (vec_len items) n_jobs)) }
         ensures empty { vec_len items ≡ 0 → IsOk result }
         ensures lock { threads_of self.new ≡ threads_of self.old }
     {
@@ -85,8 +88,8 @@ impl<'a, J: Job, G: Gate> Leader<'a, J, G> {
         outputs: &mut Vec<J::Out>,
     )
         requires empty { vec_len outputs.old ≡ 0 }
-        requires room { length (joined (map (λ p. p.items.items) pieces.now)) ≤ vec_capacity outputs.old }
-        ensures { AllZip J.meets (joined (map (λ p. p.items.items) pieces.now)) outputs.new.items }
+        requires room { length (items_of pieces.now) ≤ vec_capacity outputs.old }
+        ensures { AllZip J.meets (items_of pieces.now) outputs.new.items }
     {
         for piece in pieces {
             let items = piece.items.as_slice();
@@ -106,7 +109,7 @@ impl<'a, J: Job, G: Gate> Leader<'a, J, G> {
     )
         requires index { ForSome index (λ i. i < threads_of self.now) }
         requires room { vec_len outputs.old + length items.now ≤ vec_capacity outputs.old }
-        ensures answered { (more : List J.Out) × AllZip J.meets items.now more × (outputs.new.items ≡ outputs.old.items ++ more) }
+        ensures answered { AddsAnswers J.meets items.now outputs.old.items outputs.new.items }
         ensures room { vec_capacity outputs.new ≡ vec_capacity outputs.old }
         ensures len { vec_len outputs.new ≡ vec_len outputs.old + length items.now }
     {
@@ -118,7 +121,7 @@ impl<'a, J: Job, G: Gate> Leader<'a, J, G> {
         self.gate.done(number);
     }
 
-    /// Runs f in the same lock. The number has no effect, as in spindle between two rounds.
+    /// Runs f in the same lock; the number has no effect, as in spindle between two rounds.
     pub fn with_lock<R, F: FnOnce(&mut Leader<'a, J, G>) -> R>(
         &mut self,
         _max_threads: usize,
@@ -154,14 +157,14 @@ impl<'a, J: Job, G: Gate> Leader<'a, J, G> {
         None
     }
 
-    /// Tells idle helpers to sleep at once until the next round.
+    /// Tells idle helpers to sleep at once until the next round. A leader that works alone has none.
     pub fn relieve_workers(&mut self)
         ensures { threads_of self.new ≡ threads_of self.old }
     {}
 }
 
 impl<'a, J: Job<In = usize>, G: Gate> Leader<'a, J, G> {
-    /// Runs the numbers from 0 up to `n_jobs`, each in a job of its own, or as `for_each` does with so many.
+    /// Runs the numbers from 0 up to `n_jobs`, the end not included, as `for_each` runs items in so many jobs.
     pub fn for_each_raw<H: Threads + Wait + Sync>(
         &mut self,
         rt: &H,
@@ -169,7 +172,8 @@ impl<'a, J: Job<In = usize>, G: Gate> Leader<'a, J, G> {
         n_jobs: usize,
     ) -> Result<Vec<J::Out>, Fault>
         ensures answer { IfOk result (λ outputs. AllZip J.meets (counted 0 n_jobs) outputs.items) }
-        ensures refused { IfErr result (IsRefusal (threads_of self.old) (job_count n_jobs n_jobs)) }
+        ensures refused { IfErr result
+            (IsRefusal (threads_of self.old) (job_count n_jobs n_jobs)) }
         ensures empty { n_jobs ≡ 0 → IsOk result }
         ensures lock { threads_of self.new ≡ threads_of self.old }
     {

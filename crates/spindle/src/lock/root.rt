@@ -17,7 +17,8 @@ use std::thread::Threads;
 
 /// Opens a lock over jobs of kind J, runs f with its leader, and closes the lock.
 ///
-/// A refusal hasn't run f. Called inside a lock, it opens another root lock.
+/// The lock has the least of the pool's threads, `max_threads` and 32767, its leader counted. A refusal hasn't run f.
+/// Called inside a lock it opens another root lock, where spindle would open a nested one.
 pub fn with_lock<
     J: Job + Send,
     G: Gate + Sync,
@@ -32,7 +33,9 @@ where
     <J::Inner as Nest>::Slots: Send + Sync,
     requires some { 0 < max_threads }
     requires callable { F.IsAlwaysCallable f }
-    ensures promise { IfOk result (λ r. (old : _) × (new : _) × (threads_of old ≡ lock_threads pool.now.threads max_threads) × FnOnceReturnsAtMut F.FnOnce f old r new) }
+    ensures promise { IfOk result (λ r. (old : _) × (new : _)
+        × (threads_of old ≡ lock_threads pool.now.threads max_threads)
+        × FnOnceReturnsAtMut F.FnOnce f old r new) }
     ensures memory { OnErr result (IsErrOf result Fault.Memory) }
 {
     let crew = Crew::new(pool.max_num_threads(), max_threads);
