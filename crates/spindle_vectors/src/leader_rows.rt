@@ -1,7 +1,7 @@
 //! Rows of a leader's rounds, over jobs that open no locks.
 
 use crate::callers;
-use crate::jobs::{Calls, Counting, Index, Nothing, Square, Zero};
+use crate::jobs::{Calls, Counting, Nothing, Place, Square, Zero};
 use spindle::lock::{Limits, NoGate, Pool};
 use spindle::{DEFAULT_PAUSE_LIMIT, DEFAULT_SPIN_LIMIT, Fault, with_lock};
 
@@ -54,11 +54,11 @@ fn a_leader_has_no_number_between_rounds_nor_in_a_round_of_one_job(
 ) -> Result<(), Fault> {
     let alloc = rt.alloc();
     let pool = Pool::new(4, LIMITS, NoGate);
-    with_lock::<Index, _, _, _, _>(&rt, alloc, &pool, 16, |leader| {
+    with_lock::<Place, _, _, _, _>(&rt, alloc, &pool, 16, |leader| {
         assert_eq!(rt; leader.max_num_threads(), 4);
         assert_eq!(rt; leader.current_thread_index(), None);
         let direct = leader.for_each(&rt, alloc, 1, vec![in alloc; 0, 1]?)?;
-        assert_eq!(rt; direct, vec![in alloc; None, None]?);
+        assert_eq!(rt; direct, vec![in alloc; (None, 1, 4), (None, 1, 4)]?);
         leader.relieve_workers();
         assert_eq!(rt; leader.current_thread_index(), None);
         Ok::<(), Fault>(())
@@ -69,11 +69,11 @@ fn a_leader_has_no_number_between_rounds_nor_in_a_round_of_one_job(
 fn a_leader_alone_has_number_0_in_a_round_of_two_jobs(rt: HostRuntime) -> Result<(), Fault> {
     let alloc = rt.alloc();
     let pool = Pool::new(16, LIMITS, NoGate);
-    let indexes = with_lock::<Index, _, _, _, _>(&rt, alloc, &pool, 1, |leader| {
+    let places = with_lock::<Place, _, _, _, _>(&rt, alloc, &pool, 1, |leader| {
         assert_eq!(rt; leader.current_num_threads(), 1);
         leader.for_each(&rt, alloc, 2, vec![in alloc; 0, 1]?)
     })??;
-    assert_eq!(rt; indexes, vec![in alloc; Some(0), Some(0)]?);
+    assert_eq!(rt; places, vec![in alloc; (Some(0), 1, 1), (Some(0), 1, 1)]?);
     Ok(())
 }
 
@@ -88,10 +88,10 @@ fn one_item_is_one_direct_job(rt: HostRuntime) -> Result<(), Fault> {
     assert_eq!(rt; squares, vec![in alloc; 49]?);
     assert_eq!(rt; calls.of_job(0), (1, 1));
     assert_eq!(rt; calls.in_all(), (1, 1));
-    let indexes = with_lock::<Index, _, _, _, _>(&rt, alloc, &pool, 16, |leader| {
+    let places = with_lock::<Place, _, _, _, _>(&rt, alloc, &pool, 16, |leader| {
         leader.for_each(&rt, alloc, 8, vec![in alloc; 7]?)
     })??;
-    assert_eq!(rt; indexes, vec![in alloc; None]?);
+    assert_eq!(rt; places, vec![in alloc; (None, 1, 16)]?);
     Ok(())
 }
 
@@ -157,7 +157,7 @@ fn a_lock_has_the_least_of_three_numbers_of_threads(rt: HostRuntime) -> Result<(
 }
 
 #[test]
-fn refused_starts_change_no_answer(rt: HostRuntime) -> Result<(), Fault> {
+fn fewer_starts_change_no_answer(rt: HostRuntime) -> Result<(), Fault> {
     let alloc = rt.alloc();
     for starts in 0..4 {
         let pool = Pool::with_starts(4, LIMITS, NoGate, starts);

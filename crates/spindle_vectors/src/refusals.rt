@@ -32,7 +32,7 @@ fn are_seven_squares(squares: &[u128]) -> bool {
 }
 
 #[test]
-fn a_refused_round_has_run_no_job(rt: HostRuntime) -> Result<(), Fault> {
+fn refused_round_has_run_no_job(rt: HostRuntime) -> Result<(), Fault> {
     let alloc = rt.alloc();
     let calls = Calls::new();
     let opened = AtomicUsize::new(0);
@@ -79,7 +79,7 @@ fn square_seven_items<H: Threads + Wait + Abort + Sync>(
 }
 
 #[test]
-fn a_refused_round_over_numbers_has_run_no_job(rt: HostRuntime) -> Result<(), Fault> {
+fn refused_round_over_numbers_has_run_no_job(rt: HostRuntime) -> Result<(), Fault> {
     let alloc = rt.alloc();
     let calls = Calls::new();
     let pool = Pool::new(4, LIMITS, Counting { calls: &calls });
@@ -115,7 +115,7 @@ fn more_numbers_than_memory_holds_are_refused(rt: HostRuntime) -> Result<(), Fau
 
 // No allocation is left to this test but its rounds', so the first one that they made would be refused.
 #[test]
-fn a_round_over_nothing_takes_no_memory(rt: HostRuntime) -> Result<(), Fault> {
+fn refused_nothing_where_nothing_is_run(rt: HostRuntime) -> Result<(), Fault> {
     let alloc = rt.alloc();
     let calls = Calls::new();
     let pool = Pool::new(4, LIMITS, Counting { calls: &calls });
