@@ -12,6 +12,7 @@ mod limits;
 mod nest;
 mod pool;
 mod root;
+mod shared;
 
 pub use context::JobCx;
 pub use gate::{Gate, NoGate};
@@ -21,3 +22,4 @@ pub use limits::Limits;
 pub use nest::{End, Nest, Under};
 pub use pool::Pool;
 pub use root::with_lock;
+pub use shared::{Lock, Opens};

@@ -50,7 +50,7 @@ pub fn squares<G: Gate + Sync, H: Threads + Wait + Sync>(
     requires { 0 < jobs }
     ensures { IfOk result (λ squares. squares.items ≡ map (λ x. x * x) numbers.items) }
 {
-    with_lock::<Square, G, Result<Vec<u64>, Fault>, _, H>(
+    with_lock::<Square, _, _, _, _, _>(
         rt,
         alloc,
         pool,
@@ -79,7 +79,7 @@ where
     requires clones { ClonesAreSame J.In.is_clone items.items }
     ensures { IfOk result (λ outputs. AllZip J.meets items.items outputs.items) }
 {
-    with_lock::<J, G, Result<Vec<J::Out>, Fault>, _, H>(
+    with_lock::<J, _, _, _, _, _>(
         rt,
         alloc,
         pool,
@@ -104,7 +104,7 @@ pub fn one_more_each<G: Gate + Sync, H: Threads + Wait + Sync>(
     ensures { IfOk result (λ sums. sums.items ≡ map (λ x. x + 1) numbers.items) }
 {
     let chunks = chunks_of(alloc, numbers, jobs)?;
-    let sums = outputs_of::<AddOne, G, H>(rt, alloc, pool, jobs, chunks)?;
+    let sums = outputs_of::<AddOne, _, _>(rt, alloc, pool, jobs, chunks)?;
     all_numbers(alloc, sums)
 }
 
@@ -151,7 +151,7 @@ where
     ensures { IfOk result (λ outputs. outputs.0.items ≡ outputs.1.items) }
 {
     let alone = Pool::new(1, Limits { spin: 0, pause: 0 }, NoGate);
-    let by_one = outputs_of::<J, NoGate, H>(rt, alloc, &alone, jobs, items)?;
-    let by_many = outputs_of::<J, G, H>(rt, alloc, pool, jobs, equal_items)?;
+    let by_one = outputs_of::<J, _, _>(rt, alloc, &alone, jobs, items)?;
+    let by_many = outputs_of::<J, _, _>(rt, alloc, pool, jobs, equal_items)?;
     Ok((by_one, by_many))
 }

@@ -30,7 +30,7 @@ fn a_lock_in_a_lock_answers_128_zeros(rt: HostRuntime) -> Result<(), Fault> {
     let alloc = rt.alloc();
     let pool = Pool::new(16, LIMITS, NoGate);
     let ones = Vec::from_elem(alloc, 1u64, 128)?;
-    let zeros = with_lock::<Zero, _, _, _, _>(&rt, alloc, &pool, 16, |leader| {
+    let zeros = with_lock::<Zero, _, _, _, _, _>(&rt, alloc, &pool, 16, |leader| {
         leader.with_lock(4, |leader| leader.for_each(&rt, alloc, 4, ones))
     })??;
     assert_eq!(rt; zeros, Vec::from_elem(alloc, 0, 128)?);
@@ -41,7 +41,7 @@ fn a_lock_in_a_lock_answers_128_zeros(rt: HostRuntime) -> Result<(), Fault> {
 fn two_units_answer_two_units(rt: HostRuntime) -> Result<(), Fault> {
     let alloc = rt.alloc();
     let pool = Pool::new(16, LIMITS, NoGate);
-    let units = with_lock::<Nothing, _, _, _, _>(&rt, alloc, &pool, 8, |leader| {
+    let units = with_lock::<Nothing, _, _, _, _, _>(&rt, alloc, &pool, 8, |leader| {
         leader.for_each(&rt, alloc, 2, vec![in alloc; (), ()]?)
     })??;
     assert_eq!(rt; units.len(), 2);
@@ -54,7 +54,7 @@ fn a_leader_has_no_number_between_rounds_nor_in_a_round_of_one_job(
 ) -> Result<(), Fault> {
     let alloc = rt.alloc();
     let pool = Pool::new(4, LIMITS, NoGate);
-    with_lock::<Place, _, _, _, _>(&rt, alloc, &pool, 16, |leader| {
+    with_lock::<Place, _, _, _, _, _>(&rt, alloc, &pool, 16, |leader| {
         assert_eq!(rt; leader.max_num_threads(), 4);
         assert_eq!(rt; leader.current_thread_index(), None);
         let direct = leader.for_each(&rt, alloc, 1, vec![in alloc; 0, 1]?)?;
@@ -69,7 +69,7 @@ fn a_leader_has_no_number_between_rounds_nor_in_a_round_of_one_job(
 fn a_leader_alone_has_number_0_in_a_round_of_two_jobs(rt: HostRuntime) -> Result<(), Fault> {
     let alloc = rt.alloc();
     let pool = Pool::new(16, LIMITS, NoGate);
-    let places = with_lock::<Place, _, _, _, _>(&rt, alloc, &pool, 1, |leader| {
+    let places = with_lock::<Place, _, _, _, _, _>(&rt, alloc, &pool, 1, |leader| {
         assert_eq!(rt; leader.current_num_threads(), 1);
         leader.for_each(&rt, alloc, 2, vec![in alloc; 0, 1]?)
     })??;
@@ -82,13 +82,13 @@ fn one_item_is_one_direct_job(rt: HostRuntime) -> Result<(), Fault> {
     let alloc = rt.alloc();
     let calls = Calls::new();
     let pool = Pool::new(16, LIMITS, Counting { calls: &calls });
-    let squares = with_lock::<Square, _, _, _, _>(&rt, alloc, &pool, 16, |leader| {
+    let squares = with_lock::<Square, _, _, _, _, _>(&rt, alloc, &pool, 16, |leader| {
         leader.for_each(&rt, alloc, 8, vec![in alloc; 7]?)
     })??;
     assert_eq!(rt; squares, vec![in alloc; 49]?);
     assert_eq!(rt; calls.of_job(0), (1, 1));
     assert_eq!(rt; calls.in_all(), (1, 1));
-    let places = with_lock::<Place, _, _, _, _>(&rt, alloc, &pool, 16, |leader| {
+    let places = with_lock::<Place, _, _, _, _, _>(&rt, alloc, &pool, 16, |leader| {
         leader.for_each(&rt, alloc, 8, vec![in alloc; 7]?)
     })??;
     assert_eq!(rt; places, vec![in alloc; (None, 1, 16)]?);
@@ -100,7 +100,7 @@ fn more_jobs_than_items_are_as_many_as_items(rt: HostRuntime) -> Result<(), Faul
     let alloc = rt.alloc();
     let calls = Calls::new();
     let pool = Pool::new(16, LIMITS, Counting { calls: &calls });
-    let squares = with_lock::<Square, _, _, _, _>(&rt, alloc, &pool, 16, |leader| {
+    let squares = with_lock::<Square, _, _, _, _, _>(&rt, alloc, &pool, 16, |leader| {
         leader.for_each(&rt, alloc, usize::MAX, vec![in alloc; 1, 2, 3]?)
     })??;
     assert_eq!(rt; squares, vec![in alloc; 1, 4, 9]?);
@@ -114,7 +114,7 @@ fn the_gate_is_called_once_before_and_once_after_each_job(rt: HostRuntime) -> Re
     let calls = Calls::new();
     let pool = Pool::new(4, LIMITS, Counting { calls: &calls });
     let numbers = vec![in alloc; 0, 1, 2, 3, 4, 5, 6, 7, 8, 9]?;
-    with_lock::<Square, _, _, _, _>(&rt, alloc, &pool, 4, |leader| {
+    with_lock::<Square, _, _, _, _, _>(&rt, alloc, &pool, 4, |leader| {
         leader.for_each(&rt, alloc, 4, numbers)
     })??;
     for number in 0..4 {
@@ -128,7 +128,7 @@ fn the_gate_is_called_once_before_and_once_after_each_job(rt: HostRuntime) -> Re
 fn numbers_alone_are_items_from_0(rt: HostRuntime) -> Result<(), Fault> {
     let alloc = rt.alloc();
     let pool = Pool::new(2, LIMITS, NoGate);
-    with_lock::<Square, _, _, _, _>(&rt, alloc, &pool, 2, |leader| {
+    with_lock::<Square, _, _, _, _, _>(&rt, alloc, &pool, 2, |leader| {
         let squares = leader.for_each_raw(&rt, alloc, 4)?;
         assert_eq!(rt; squares, vec![in alloc; 0, 1, 4, 9]?);
         assert_eq!(rt; leader.for_each_raw(&rt, alloc, 1)?, vec![in alloc; 0]?);
@@ -148,7 +148,7 @@ fn a_lock_has_the_least_of_three_numbers_of_threads(rt: HostRuntime) -> Result<(
         assert_eq!(rt; pool.current_num_threads(), pool_threads);
         assert_eq!(rt; pool.max_num_threads(), pool_threads);
         assert_eq!(rt; pool.current_thread_index(), None);
-        with_lock::<Nothing, _, _, _, _>(&rt, rt.alloc(), &pool, most, |leader| {
+        with_lock::<Nothing, _, _, _, _, _>(&rt, rt.alloc(), &pool, most, |leader| {
             assert_eq!(rt; leader.max_num_threads(), threads);
             assert_eq!(rt; leader.current_num_threads(), 1);
         })?;

@@ -13,10 +13,11 @@ use crate::lock::context::JobCx;
 use crate::lock::crew::Crew;
 use crate::lock::gate::Gate;
 use crate::lock::job::Job;
-use crate::lock::nest::Nest;
+use crate::lock::shared::{Lock, Opens};
 use spindle_parts::cut::{Piece, cut};
 use spindle_parts::fault::Fault;
 use std::alloc::Global;
+use std::marker::PhantomData;
 use std::sync::Wait;
 use std::thread::Threads;
 
@@ -28,22 +29,24 @@ const LEADER: usize = 0;
 
 /// The leader of a lock over jobs of kind J, lent to the closure that the lock was opened for.
 #[derive(Drop)]
-pub struct Leader<'a, J: Job, G: Gate> {
-    slots: &'a <J::Inner as Nest>::Slots,
+pub struct Leader<'a, J: Job, G: Gate, L = Lock<J>> {
+    kind: PhantomData<J>,
+    lock: &'a L,
     gate: &'a G,
     crew: Crew,
 }
 
-impl<'a, J: Job, G: Gate> Leader<'a, J, G> {
+impl<'a, J: Opens<L>, G: Gate, L> Leader<'a, J, G, L> {
     /// The leader of a lock with these threads.
-    pub(crate) fn new(
-        slots: &'a <J::Inner as Nest>::Slots,
-        gate: &'a G,
-        crew: Crew,
-    ) -> Leader<'a, J, G>
+    pub(crate) fn new(lock: &'a L, gate: &'a G, crew: Crew) -> Leader<'a, J, G, L>
         ensures { result.crew ≡ crew }
     {
-        Leader { slots, gate, crew }
+        Leader {
+            kind: PhantomData,
+            lock,
+            gate,
+            crew,
+        }
     }
 
     /// Runs the items in `n_jobs` jobs, or in as many as there are items where these are fewer, and at most in
@@ -113,7 +116,7 @@ impl<'a, J: Job, G: Gate> Leader<'a, J, G> {
         ensures room { vec_capacity outputs.new ≡ vec_capacity outputs.old }
         ensures len { vec_len outputs.new ≡ vec_len outputs.old + length items.now }
     {
-        let mut context = JobCx::new(Some(self.slots), index, 1, self.crew.threads());
+        let mut context = JobCx::new(Some(J::slots(self.lock)), index, 1, self.crew.threads());
         self.gate.begun(number);
         for item in items {
             outputs.push_reserved(J::run(rt, alloc, item, &mut context));
@@ -122,7 +125,7 @@ impl<'a, J: Job, G: Gate> Leader<'a, J, G> {
     }
 
     /// Runs f in the same lock; the number has no effect, as in spindle between two rounds.
-    pub fn with_lock<R, F: FnOnce(&mut Leader<'a, J, G>) -> R>(
+    pub fn with_lock<R, F: FnOnce(&mut Leader<'a, J, G, L>) -> R>(
         &mut self,
         _max_threads: usize,
         f: F,
@@ -163,7 +166,7 @@ impl<'a, J: Job, G: Gate> Leader<'a, J, G> {
     {}
 }
 
-impl<'a, J: Job<In = usize>, G: Gate> Leader<'a, J, G> {
+impl<'a, J: Opens<L, In = usize>, G: Gate, L> Leader<'a, J, G, L> {
     /// Runs the numbers from 0 up to `n_jobs`, the end not included, as `for_each` runs items in so many jobs.
     pub fn for_each_raw<H: Threads + Wait + Sync>(
         &mut self,
