@@ -19,6 +19,7 @@ mod ready;
 mod root;
 mod tray;
 mod trays;
+mod shared;
 
 pub use context::JobCx;
 pub use finished::Finished;
@@ -30,3 +31,4 @@ pub use limits::Limits;
 pub use nest::{End, Nest, Under};
 pub use pool::Pool;
 pub use root::with_lock;
+pub use shared::{Lock, Opens};

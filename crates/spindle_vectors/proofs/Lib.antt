@@ -1,1 +1,2 @@
--- The lemmas of the examples: none yet.
+-- The lemmas of the examples.
+pub mod Answering

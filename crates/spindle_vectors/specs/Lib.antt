@@ -1,1 +1,2 @@
--- The definitions that the examples cite: none yet.
+-- The definitions that the examples cite.
+pub mod Callers

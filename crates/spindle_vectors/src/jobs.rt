@@ -2,7 +2,7 @@
 ghost use Rattle.std.specs.Prelude.{◌≡◌};
 ghost use Rattle.std.proofs.Common.{rules};
 
-use spindle::lock::{End, Gate, Job, JobCx};
+use spindle::lock::{End, Gate, Job, JobCx, Under};
 use std::alloc::Global;
 use std::sync::Wait;
 use std::sync::atomic::{AtomicUsize, Ordering};
@@ -32,31 +32,38 @@ impl Job for Zero {
     ghost equal_is_same = { Prim.search rules };
 }
 
-/// Answers the number of the thread that runs it.
-pub struct Index;
+/// Answers where it runs: its thread's number, how many threads are there, and the lock's threads.
+pub struct Place;
 
-impl Job for Index {
+impl Job for Place {
     type In = usize;
 
-    type Out = Option<usize>;
+    type Out = (Option<usize>, usize, usize);
 
     type Inner = End;
 
-    ghost meets = { λ _ _. Unit {0} };
+    ghost use Rattle.std.specs.Prelude.{◌<◌, ◌≤◌, IfSome};
+
+    ghost meets = { λ _ place. (0 < place.1) × (place.1 ≤ place.2) × IfSome place.0 (λ i. i < place.2) };
 
     fn run<H: Threads + Wait + Sync>(
         _rt: &H,
         _alloc: Global,
         _input: &usize,
         cx: &mut JobCx<End>,
-    ) -> Option<usize> {
-        cx.current_thread_index()
+    ) -> (Option<usize>, usize, usize) {
+        cx.relieve_workers();
+        (
+            cx.current_thread_index(),
+            cx.current_num_threads(),
+            cx.max_num_threads(),
+        )
     }
 
     ghost equal_is_same = { Prim.search rules };
 }
 
-/// Does nothing.
+/// Does nothing, though it may open locks.
 pub struct Nothing;
 
 impl Job for Nothing {
@@ -64,11 +71,16 @@ impl Job for Nothing {
 
     type Out = ();
 
-    type Inner = End;
+    type Inner = Under<Zero>;
 
     ghost meets = { λ _ _. Unit {0} };
 
-    fn run<H: Threads + Wait + Sync>(_rt: &H, _alloc: Global, _input: &(), _cx: &mut JobCx<End>) {}
+    fn run<H: Threads + Wait + Sync>(
+        _rt: &H,
+        _alloc: Global,
+        _input: &(),
+        _cx: &mut JobCx<Under<Zero>>,
+    ) {}
 
     ghost equal_is_same = { Prim.search rules };
 }

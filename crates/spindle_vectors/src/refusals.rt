@@ -32,12 +32,12 @@ fn are_seven_squares(squares: &[u128]) -> bool {
 }
 
 #[test]
-fn a_refused_round_has_run_no_job(rt: HostRuntime) -> Result<(), Fault> {
+fn refused_round_has_run_no_job(rt: HostRuntime) -> Result<(), Fault> {
     let alloc = rt.alloc();
     let calls = Calls::new();
     let opened = AtomicUsize::new(0);
     let pool = Pool::new(4, LIMITS, Counting { calls: &calls });
-    let answer = with_lock::<Square, _, _, _, _>(&rt, alloc, &pool, 4, |leader| {
+    let answer = with_lock::<Square, _, _, _, _, _>(&rt, alloc, &pool, 4, |leader| {
         opened.fetch_add(1, Ordering::SeqCst);
         square_seven_items(&rt, alloc, &calls, leader, 1)?;
         square_seven_items(&rt, alloc, &calls, leader, 3)?;
@@ -79,11 +79,11 @@ fn square_seven_items<H: Threads + Wait + Abort + Sync>(
 }
 
 #[test]
-fn a_refused_round_over_numbers_has_run_no_job(rt: HostRuntime) -> Result<(), Fault> {
+fn refused_round_over_numbers_has_run_no_job(rt: HostRuntime) -> Result<(), Fault> {
     let alloc = rt.alloc();
     let calls = Calls::new();
     let pool = Pool::new(4, LIMITS, Counting { calls: &calls });
-    with_lock::<Square, _, _, _, _>(&rt, alloc, &pool, 4, |leader| {
+    with_lock::<Square, _, _, _, _, _>(&rt, alloc, &pool, 4, |leader| {
         let squares = match leader.for_each_raw(&rt, alloc, 7) {
             Ok(squares) => squares,
             Err(fault) => {
@@ -103,7 +103,7 @@ fn more_numbers_than_memory_holds_are_refused(rt: HostRuntime) -> Result<(), Fau
     let alloc = rt.alloc();
     let calls = Calls::new();
     let pool = Pool::new(4, LIMITS, Counting { calls: &calls });
-    with_lock::<Square, _, _, _, _>(&rt, alloc, &pool, 4, |leader| {
+    with_lock::<Square, _, _, _, _, _>(&rt, alloc, &pool, 4, |leader| {
         let refused = leader.for_each_raw(&rt, alloc, usize::MAX);
         assert!(rt; matches!(refused, Err(Fault::Memory)));
         assert_eq!(rt; calls.in_all(), (0, 0));
@@ -115,11 +115,11 @@ fn more_numbers_than_memory_holds_are_refused(rt: HostRuntime) -> Result<(), Fau
 
 // No allocation is left to this test but its rounds', so the first one that they made would be refused.
 #[test]
-fn a_round_over_nothing_takes_no_memory(rt: HostRuntime) -> Result<(), Fault> {
+fn refused_nothing_where_nothing_is_run(rt: HostRuntime) -> Result<(), Fault> {
     let alloc = rt.alloc();
     let calls = Calls::new();
     let pool = Pool::new(4, LIMITS, Counting { calls: &calls });
-    with_lock::<Square, _, _, _, _>(&rt, alloc, &pool, 4, |leader| {
+    with_lock::<Square, _, _, _, _, _>(&rt, alloc, &pool, 4, |leader| {
         for jobs in [0, 1, 4, usize::MAX] {
             let outputs = leader.for_each(&rt, alloc, jobs, Vec::new(alloc))?;
             assert!(rt; outputs.is_empty());

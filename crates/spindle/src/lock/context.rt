@@ -59,14 +59,15 @@ impl<'a, N: Nest> JobCx<'a, N> {
         self.threads
     }
 
-    /// The number of the thread that runs the job, the leader's being 0; None in a job that a leader runs directly.
+    /// The number of the thread that runs the job, the leader's being 0; None in a job that a leader runs
+    /// directly.
     pub fn current_thread_index(&self) -> Option<usize>
         ensures { IfSome result (λ index. index < self.now.threads) }
     {
         self.index
     }
 
-    /// Tells idle helpers of the lock to sleep at once until its next round.
+    /// Tells idle helpers of the lock to sleep at once until its next round. A leader that works alone has none.
     pub fn relieve_workers(&mut self)
         ensures { self.new.threads ≡ self.old.threads }
     {}

@@ -2,8 +2,8 @@
 
 /// Called before a job's first item is run, and after its last one was, by the thread that runs the job.
 ///
-/// `number` is the job's number in its round, from 0. A gate serves the lock that its pool opened, and not the locks that
-/// jobs open. It is this port's own: spindle has none.
+/// `number` is the job's number in its round, from 0. A gate serves the lock that its pool opened, and not the
+/// locks that jobs open. It is this port's own: spindle has none.
 pub trait Gate {
     /// The job of this number is about to run.
     fn begun(&self, number: usize);

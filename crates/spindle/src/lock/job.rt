@@ -8,11 +8,12 @@ use std::alloc::Global;
 use std::sync::Wait;
 use std::thread::Threads;
 
-/// A kind of job, which stands where spindle takes a closure that each thread calls.
+/// A kind of job. It stands where spindle takes a closure that the threads of a lock call.
 ///
-/// A job type has no value at run time: `run` gets its input, and what the job needs beside that stands in the input.
+/// A kind of job has no value at run time: what `run` needs beside its context stands in the input.
 pub trait Job {
-    /// What a job is given. A round hands inputs to other threads, and compares what comes back with what it handed out.
+    /// What a job is given. A round hands inputs to other threads, and compares what comes back with what it
+    /// handed out, so clones of an input are to be equal to it, and both ought to be cheap.
     type In: Clone + Eq + Drop;
 
     /// What a job answers. A job that can fail says so here.

@@ -7,16 +7,17 @@ ghost use Rattle.std.specs.Option.{ForSome};
 ghost use Rattle.std.specs.Fn.{FnOnceReturnsAtMut};
 ghost use Rattle.spindle_parts.specs.Pieces.{counted, joined};
 ghost use Rattle.spindle.specs.Leaders.{threads_of};
-ghost use Rattle.spindle.specs.Rounds.{job_count, ClonesAreSame, IsRefusal};
+ghost use Rattle.spindle.specs.Rounds.{job_count, ClonesAreSame, IsRefusal, AddsAnswers, items_of};
 
 use crate::lock::context::JobCx;
 use crate::lock::crew::Crew;
 use crate::lock::gate::Gate;
 use crate::lock::job::Job;
-use crate::lock::nest::Nest;
+use crate::lock::shared::{Lock, Opens};
 use spindle_parts::cut::{Piece, cut};
 use spindle_parts::fault::Fault;
 use std::alloc::Global;
+use std::marker::PhantomData;
 use std::sync::Wait;
 use std::thread::Threads;
 
@@ -28,27 +29,31 @@ const LEADER: usize = 0;
 
 /// The leader of a lock over jobs of kind J, lent to the closure that the lock was opened for.
 #[derive(Drop)]
-pub struct Leader<'a, J: Job, G: Gate> {
-    slots: &'a <J::Inner as Nest>::Slots,
+pub struct Leader<'a, J: Job, G: Gate, L = Lock<J>> {
+    kind: PhantomData<J>,
+    lock: &'a L,
     gate: &'a G,
     crew: Crew,
 }
 
-impl<'a, J: Job, G: Gate> Leader<'a, J, G> {
+impl<'a, J: Opens<L>, G: Gate, L> Leader<'a, J, G, L> {
     /// The leader of a lock with these threads.
-    pub(crate) fn new(
-        slots: &'a <J::Inner as Nest>::Slots,
-        gate: &'a G,
-        crew: Crew,
-    ) -> Leader<'a, J, G>
+    pub(crate) fn new(lock: &'a L, gate: &'a G, crew: Crew) -> Leader<'a, J, G, L>
         ensures { result.crew ≡ crew }
     {
-        Leader { slots, gate, crew }
+        Leader {
+            kind: PhantomData,
+            lock,
+            gate,
+            crew,
+        }
     }
 
-    /// Runs the items in `n_jobs` jobs, or in as many as there are items where these are fewer. Outputs stand in the order of the items.
+    /// Runs the items in `n_jobs` jobs, or in as many as there are items where these are fewer, and at most in
+    /// 4294967295. Each job runs a piece of the items, as `cut` cuts them. Outputs stand in the order of the items.
     ///
-    /// After a refusal the lock can be used further; the items are given up.
+    /// One job is run by the leader directly. No items are no job: that round takes no memory. After a refusal the lock
+    /// can be used further; the items are given up. It stands for `for_each` of spindle between two rounds of a lock.
     pub fn for_each<H: Threads + Wait + Sync>(
         &mut self,
         rt: &H,
@@ -59,7 +64,8 @@ impl<'a, J: Job, G: Gate> Leader<'a, J, G> {
         requires jobs { 0 < vec_len items → 0 < n_jobs }
         requires clones { ClonesAreSame J.In.is_clone items.items }
         ensures answer { IfOk result (λ outputs. AllZip J.meets items.items outputs.items) }
-        ensures refused { IfErr result (IsRefusal (threads_of self.old) (job_count (vec_len items) n_jobs)) }
+        ensures refused { IfErr result
+            (IsRefusal (threads_of self.old) (job_count (vec_len items) n_jobs)) }
         ensures empty { vec_len items ≡ 0 → IsOk result }
         ensures lock { threads_of self.new ≡ threads_of self.old }
     {
@@ -85,8 +91,8 @@ impl<'a, J: Job, G: Gate> Leader<'a, J, G> {
         outputs: &mut Vec<J::Out>,
     )
         requires empty { vec_len outputs.old ≡ 0 }
-        requires room { length (joined (map (λ p. p.items.items) pieces.now)) ≤ vec_capacity outputs.old }
-        ensures { AllZip J.meets (joined (map (λ p. p.items.items) pieces.now)) outputs.new.items }
+        requires room { length (items_of pieces.now) ≤ vec_capacity outputs.old }
+        ensures { AllZip J.meets (items_of pieces.now) outputs.new.items }
     {
         for piece in pieces {
             let items = piece.items.as_slice();
@@ -106,11 +112,11 @@ impl<'a, J: Job, G: Gate> Leader<'a, J, G> {
     )
         requires index { ForSome index (λ i. i < threads_of self.now) }
         requires room { vec_len outputs.old + length items.now ≤ vec_capacity outputs.old }
-        ensures answered { (more : List J.Out) × AllZip J.meets items.now more × (outputs.new.items ≡ outputs.old.items ++ more) }
+        ensures answered { AddsAnswers J.meets items.now outputs.old.items outputs.new.items }
         ensures room { vec_capacity outputs.new ≡ vec_capacity outputs.old }
         ensures len { vec_len outputs.new ≡ vec_len outputs.old + length items.now }
     {
-        let mut context = JobCx::new(Some(self.slots), index, 1, self.crew.threads());
+        let mut context = JobCx::new(Some(J::slots(self.lock)), index, 1, self.crew.threads());
         self.gate.begun(number);
         for item in items {
             outputs.push_reserved(J::run(rt, alloc, item, &mut context));
@@ -118,8 +124,8 @@ impl<'a, J: Job, G: Gate> Leader<'a, J, G> {
         self.gate.done(number);
     }
 
-    /// Runs f in the same lock. The number has no effect, as in spindle between two rounds.
-    pub fn with_lock<R, F: FnOnce(&mut Leader<'a, J, G>) -> R>(
+    /// Runs f in the same lock; the number has no effect, as in spindle between two rounds.
+    pub fn with_lock<R, F: FnOnce(&mut Leader<'a, J, G, L>) -> R>(
         &mut self,
         _max_threads: usize,
         f: F,
@@ -154,14 +160,14 @@ impl<'a, J: Job, G: Gate> Leader<'a, J, G> {
         None
     }
 
-    /// Tells idle helpers to sleep at once until the next round.
+    /// Tells idle helpers to sleep at once until the next round. A leader that works alone has none.
     pub fn relieve_workers(&mut self)
         ensures { threads_of self.new ≡ threads_of self.old }
     {}
 }
 
-impl<'a, J: Job<In = usize>, G: Gate> Leader<'a, J, G> {
-    /// Runs the numbers from 0 up to `n_jobs`, each in a job of its own, or as `for_each` does with so many.
+impl<'a, J: Opens<L, In = usize>, G: Gate, L> Leader<'a, J, G, L> {
+    /// Runs the numbers from 0 up to `n_jobs`, the end not included, as `for_each` runs items in so many jobs.
     pub fn for_each_raw<H: Threads + Wait + Sync>(
         &mut self,
         rt: &H,
@@ -169,7 +175,8 @@ impl<'a, J: Job<In = usize>, G: Gate> Leader<'a, J, G> {
         n_jobs: usize,
     ) -> Result<Vec<J::Out>, Fault>
         ensures answer { IfOk result (λ outputs. AllZip J.meets (counted 0 n_jobs) outputs.items) }
-        ensures refused { IfErr result (IsRefusal (threads_of self.old) (job_count n_jobs n_jobs)) }
+        ensures refused { IfErr result
+            (IsRefusal (threads_of self.old) (job_count n_jobs n_jobs)) }
         ensures empty { n_jobs ≡ 0 → IsOk result }
         ensures lock { threads_of self.new ≡ threads_of self.old }
     {

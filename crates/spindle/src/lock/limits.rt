@@ -1,7 +1,7 @@
 //! How long an idle party pauses before it sleeps.
 
-/// Steers idle pauses alone: no answer and no contract rests on it. It stands for spindle's globals `SPIN_LIMIT` and
-/// `PAUSE_LIMIT`.
+/// Steers idle pauses alone: no answer and no contract rests on it. It stands for spindle's globals `SPIN_LIMIT`
+/// and `PAUSE_LIMIT`.
 #[derive(Clone, Copy)]
 pub struct Limits {
     /// So many pauses in all, then it sleeps; 0 to sleep at once.

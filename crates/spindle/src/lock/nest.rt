@@ -1,6 +1,7 @@
 //! What a job type says of the locks that its jobs may open.
 //!
-//! A lock over J stands on `J::Inner` alone, and a nest never names the trait of jobs, so that the type of each lock stays finite.
+//! A lock over J stands on `J::Inner` alone, and a nest never names the trait of jobs, so that the type of each lock
+//! stays finite.
 ghost use Rattle.std.specs.Prelude.{OnErr, IsErrOf};
 
 use crate::lock::job::Job;
@@ -8,7 +9,7 @@ use spindle_parts::fault::Fault;
 use std::alloc::Global;
 use std::marker::PhantomData;
 
-/// The locks that a job may open. A user names `End` or `Under<K>`; its calls are the library's own.
+/// The locks that a job may open. A user names `End` or `Under<K>`; the trait's call is the library's own.
 pub trait Nest {
     /// Where a lock keeps the locks that its jobs open.
     type Slots: Drop;
@@ -37,7 +38,7 @@ pub struct Under<K: Job> {
 impl<K: Job> Nest for Under<K> {
     type Slots = ();
 
-    fn make(_alloc: Global, _threads: usize) -> Result<(), Fault> {
-        Ok(())
+    fn make(alloc: Global, threads: usize) -> Result<(), Fault> {
+        End::make(alloc, threads)
     }
 }

@@ -5,7 +5,8 @@ use crate::lock::gate::Gate;
 use crate::lock::limits::Limits;
 use std::marker::Model;
 
-/// What a root lock is opened with. It holds no threads: each lock starts its own, and joins them when it closes.
+/// What a root lock is opened with. It holds no threads: each lock starts its own, and joins them when it closes. It
+/// stands where spindle asks rayon's global pool for its size.
 #[derive(Drop)]
 pub struct Pool<G: Gate> {
     threads: usize,
@@ -34,7 +35,8 @@ impl<G: Gate> Pool<G> {
         Pool::with_starts(threads, limits, gate, threads)
     }
 
-    /// A pool whose locks start only the first so many helpers; the others count as threads that could not be started.
+    /// A pool whose locks start only the first so many helpers; the others count as threads that couldn't be
+    /// started. It shows what a lock answers on a machine that gives it fewer threads.
     pub fn with_starts(threads: usize, limits: Limits, gate: G, starts: usize) -> Pool<G>
         requires { 0 < threads }
         ensures { result.threads ≡ threads }
@@ -47,11 +49,11 @@ impl<G: Gate> Pool<G> {
         }
     }
 
-    /// The pool's threads: outside a lock spindle asks its thread pool.
+    /// The pool's threads.
     pub fn current_num_threads(&self) -> usize
         ensures { result ≡ self.now.threads }
     {
-        self.threads
+        self.max_num_threads()
     }
 
     /// The pool's threads.

@@ -1,5 +1,5 @@
 -- The relation is a function, so outputs that answer the numbers are its values.
-use Rattle.std.proofs.Common.{◌≡◌, ◌*◌, map, rules, ℕ, Vec, Global}
+use Rattle.std.proofs.Common.{◌≡◌, ◌*◌, rules, ℕ, Vec, Global}
 use Rattle.std.specs.List.{AllZip}
 use Rattle.std.proofs.lemmas.Result.{IfOk-weaker}
 use Rattle.std.proofs.lemmas.Slice.Zip.{AllZip-map}
