@@ -4,3 +4,10 @@ pub mod Parties
 pub mod Fates
 pub mod Soundness
 pub mod Frames
+pub mod Shares
+pub mod Following
+pub mod Claiming
+pub mod Fairness
+pub mod Tests
+pub mod Waiting
+pub mod Schedules

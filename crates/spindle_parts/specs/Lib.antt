@@ -4,3 +4,5 @@ pub mod Steps
 pub mod Runs
 pub mod BarrierWord
 pub mod Trail
+pub mod Machine
+pub mod EverySchedule
