@@ -1,6 +1,7 @@
 //! The commands: what each makes of its numbers, its input and its output.
 use crate::output::write_line;
 use crate::squares::squares;
+use crate::steps::play;
 use crate::stop::Stop;
 use crate::words::Command;
 use spindle::cut::piece_lengths;
@@ -19,7 +20,7 @@ pub fn run<H: Threads + Wait + Sync, R: Read, W: Write>(
     rt: &H,
     alloc: Global,
     words: &[String],
-    _input: &mut R,
+    input: &mut R,
     output: &mut W,
 ) -> Result<(), Stop> {
     match Command::from_words(words).ok_or(Stop::Words)? {
@@ -35,5 +36,6 @@ pub fn run<H: Threads + Wait + Sync, R: Read, W: Write>(
             let squares = squares(rt, alloc, threads as usize, jobs as usize, count)?;
             write_line(alloc, output, squares.as_slice())
         }
+        Command::Steps => play(alloc, input, output),
     }
 }

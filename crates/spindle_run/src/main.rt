@@ -1,12 +1,14 @@
-//! The program `spindle-run`: cuts lists, and squares numbers in a lock.
+//! The program `spindle-run`: cuts lists, squares numbers in a lock, and plays the machine of rounds.
 //!
-//! `commands` has the public call, `words` what a command line says.
+//! `commands` has the public call, `words` what a command line says, `step_lines` what a line of steps says.
 #![tactic(auto)]
 
 mod commands;
 mod numbers;
 mod output;
 mod squares;
+mod step_lines;
+mod steps;
 mod stop;
 #[cfg(test)]
 mod trials;

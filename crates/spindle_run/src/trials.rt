@@ -2,6 +2,7 @@
 use crate::commands::run;
 use crate::stop::Stop;
 use std::alloc::AllocError;
+use std::cell::Cell;
 use std::io;
 use std::io::{ErrorKind, Read, Write};
 use std::sync::Wait;
@@ -58,6 +59,64 @@ impl<'a> Read for Torn<'a> {
             0 if !buf.is_empty() => Err(io::Error::from(ErrorKind::BrokenPipe)),
             count => Ok(count),
         }
+    }
+}
+
+/// A reader whose only line never ends, and which counts what it gave.
+#[derive(Drop)]
+pub struct Endless {
+    pub given: usize,
+}
+
+impl Read for Endless {
+    fn read(&mut self, buf: &mut [u8]) -> io::Result<usize> {
+        buf.fill(b'0');
+        self.given = self.given.saturating_add(buf.len());
+        Ok(buf.len())
+    }
+}
+
+/// A reader of one line a call, which fails where an earlier line has no answer yet.
+#[derive(Drop)]
+pub struct Patient<'a> {
+    pub line: &'a [u8],
+    pub given: usize,
+    pub answers: &'a Cell<usize>,
+}
+
+impl<'a> Read for Patient<'a> {
+    fn read(&mut self, buf: &mut [u8]) -> io::Result<usize> {
+        if self.answers.get() != self.given {
+            return Err(io::Error::from(ErrorKind::WouldBlock));
+        }
+        self.given = self.given.saturating_add(1);
+        let mut line = self.line;
+        line.read(buf)
+    }
+}
+
+/// A writer that counts the lines that it was told to flush, and fails after so many.
+#[derive(Drop)]
+pub struct Counting<'a> {
+    pub pending: usize,
+    pub most: usize,
+    pub answers: &'a Cell<usize>,
+}
+
+impl<'a> Write for Counting<'a> {
+    fn write(&mut self, buf: &[u8]) -> io::Result<usize> {
+        self.pending = buf.iter().filter(|byte| **byte == b'\n').count();
+        Ok(buf.len())
+    }
+
+    fn flush(&mut self) -> io::Result<()> {
+        self.answers
+            .set(self.answers.get().saturating_add(self.pending));
+        self.pending = 0;
+        if self.answers.get() >= self.most {
+            return Err(io::Error::from(ErrorKind::BrokenPipe));
+        }
+        Ok(())
     }
 }
 

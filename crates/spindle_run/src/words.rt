@@ -20,6 +20,8 @@ pub enum Command {
     Cut { len: u32, jobs: u32 },
     /// Prints the squares of the first `count` numbers, made in a lock of `threads` threads.
     Squares { count: u32, threads: u32, jobs: u32 },
+    /// Plays the steps of the input on a fresh machine.
+    Steps,
 }
 
 impl Command {
@@ -31,6 +33,7 @@ impl Command {
         match name.as_str() {
             "cut" => cut(numbers),
             "squares" => squares(numbers),
+            "steps" if numbers.is_empty() => Some(Command::Steps),
             _ => None,
         }
     }

@@ -43,7 +43,7 @@ fn squares_stand_on_one_line(rt: HostRuntime) -> Result<(), Fail> {
 
 #[test]
 fn other_words_are_bad(rt: HostRuntime) -> Result<(), Fail> {
-    let rows: [&[&str]; 33] = [
+    let rows: [&[&str]; 36] = [
         &[],
         &[""],
         &["cut"],
@@ -75,6 +75,9 @@ fn other_words_are_bad(rt: HostRuntime) -> Result<(), Fail> {
         &["squares", "10", "4", "0"],
         &["squares", "10", "4", "100001"],
         &["squares", "0", "4", "0"],
+        &["steps", "0"],
+        &["steps", ""],
+        &["Steps"],
         &["grid", "16", "16", "4", "16"],
         &["cut", "5", "4\n"],
     ];
