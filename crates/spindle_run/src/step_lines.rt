@@ -11,16 +11,11 @@ mod tests;
 /// each number. The line ends with its newline, or with the input.
 pub fn parse_step(line: &[u8]) -> Option<Step> {
     let text = str::from_utf8(line).ok()?;
-    let mut words = text.strip_suffix('\n').unwrap_or(text).split(' ');
-    let name = words.next()?;
-    let party = number(words.next()?)?;
-    let Some(operand) = words.next() else {
-        return step_of(name, party);
-    };
-    if words.next().is_some() {
-        return None;
+    let (name, numbers) = text.strip_suffix('\n').unwrap_or(text).split_once(' ')?;
+    match numbers.split_once(' ') {
+        None => step_of(name, number(numbers)?),
+        Some((party, operand)) => step_with(name, number(party)?, number(operand)?),
     }
-    step_with(name, party, number(operand)?)
 }
 
 /// The step of this name by the party.
