@@ -112,9 +112,10 @@ module _ (m : Configuration) (s : State) (a : Agrees m s (now s)) (h : Sound s) 
 
   -- take and begin of a free number are allowed to who may begin
   pub may_take : (k : ℕ) → MayBegin s p → Free s k → Allowed s (Take p (only k)) × Allowed (after s (Take p (only k))) (Begin p k)
-  may_take k may free = let look = look_here s.parties p (holder k) in
-      ((may.published, may.is_in, may.unseen, (k, eq-eqb k k refl), λ j e. subst (Free s) (sym (equal_by j k e)) free),
-      (ap (λ (z : Party). z.status) look ∙ may.is_in, may.unseen, ap (λ (z : Party). z.running) look ∙ may.idle, ap (λ (z : Party). z.taken k) look ∙ or_right ((party s p).taken k) (only k k) (eq-eqb k k refl)))
+  may_take k may free = let look = look_here s.parties p (holder k) in (
+    (may.published, may.is_in, may.unseen, (k, eq-eqb k k refl), λ j e. subst (Free s) (sym (equal_by j k e)) free),
+    (ap (λ (z : Party). z.status) look ∙ may.is_in, may.unseen, ap (λ (z : Party). z.running) look ∙ may.idle, ap (λ (z : Party). z.taken k) look ∙ or_right ((party s p).taken k) (only k k) (eq-eqb k k refl)),
+  )
 
   pub begins : (k : ℕ) (cs : List ℕ) (rem : ℕ) → ((n : ℕ) → s.published ≡ Some n → Tally cs rem m.finished (now s).jobs ((now s).begun ++ k ∷ []) (now s).finished n)
       → Shows (record m { seat = put m.seat p (record (m.seat p) { running = Some k }); counters = cs; remainder = rem }) (after (after s (Take p (only k))) (Begin p k))
@@ -146,9 +147,13 @@ module _ (m : Configuration) (s : State) (a : Agrees m s (now s)) (h : Sound s) 
         go (Some n) e = (n, e)
 
     pub claims : (t : ℕ) → t < length m.counters → 0 < counter m t → Shows (effect m (Claim p t)) (after (after s (Take p (only (claimed m t)))) (Begin p (claimed m t))) × Free s (claimed m t)
-    claims t lt pos = (begins (claimed m t) (set m.counters t (counter m t - 1)) m.remainder (λ n e. claim_tally m.counters m.remainder m.finished (now s).jobs (now s).begun (now s).finished n some (a.tally n e) t (claimed m t) lt pos (claimed_is n t e)),
-        let x = the_published in let f = claimed_left m.counters m.remainder m.finished (now s).jobs (now s).begun (now s).finished x.0 some (a.tally x.0 x.1) t lt pos in subst (Free s) (sym (claimed_is x.0 t x.1)) (f.0, f.1, λ q. (a.seats q).untaken (own m x.0 * t + own m x.0 - counter m t)))
+    claims t lt pos = (
+      begins (claimed m t) (set m.counters t (counter m t - 1)) m.remainder (λ n e. claim_tally m.counters m.remainder m.finished (now s).jobs (now s).begun (now s).finished n some (a.tally n e) t (claimed m t) lt pos (claimed_is n t e)),
+      let x = the_published in let f = claimed_left m.counters m.remainder m.finished (now s).jobs (now s).begun (now s).finished x.0 some (a.tally x.0 x.1) t lt pos in subst (Free s) (sym (claimed_is x.0 t x.1)) (f.0, f.1, λ q. (a.seats q).untaken (own m x.0 * t + own m x.0 - counter m t)),
+    )
 
     pub rests : 0 < m.remainder → Shows (effect m (Rest p)) (after (after s (Take p (only (rested m)))) (Begin p (rested m))) × Free s (rested m)
-    rests pos = (begins (rested m) m.counters (m.remainder - 1) (λ n e. rest_tally m.counters m.remainder m.finished (now s).jobs (now s).begun (now s).finished n some (a.tally n e) (rested m) pos (rested_is n e)),
-        let x = the_published in let f = rested_left m.counters m.remainder m.finished (now s).jobs (now s).begun (now s).finished x.0 some (a.tally x.0 x.1) pos in subst (Free s) (sym (rested_is x.0 x.1)) (f.0, f.1, λ q. (a.seats q).untaken (x.0 - m.remainder)))
+    rests pos = (
+      begins (rested m) m.counters (m.remainder - 1) (λ n e. rest_tally m.counters m.remainder m.finished (now s).jobs (now s).begun (now s).finished n some (a.tally n e) (rested m) pos (rested_is n e)),
+      let x = the_published in let f = rested_left m.counters m.remainder m.finished (now s).jobs (now s).begun (now s).finished x.0 some (a.tally x.0 x.1) pos in subst (Free s) (sym (rested_is x.0 x.1)) (f.0, f.1, λ q. (a.seats q).untaken (x.0 - m.remainder)),
+    )

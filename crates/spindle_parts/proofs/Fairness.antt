@@ -120,8 +120,8 @@ module _ (m : Configuration) (s : State) (a : Agrees m s (now s)) (h : Sound s) 
   -- where no test refuses the step it is fair
   pub fair : (granted : Bool) (e : Step) → IsInRange e → AllFail (tests m granted e) → IsFair m s e
   fair g (Join p) range f = (sym (a.seats p).status ∙ out_by (status m p) (not_false (is_out (status m p)) f.0), unclosed m s a h some p f.1.1.0, let n = differ_by m.members 32767 f.1.0 in let few = h.gate.few in let i = a.members in omega arith)
-  fair g (Publish p n) range f = publish_fair m s a h some p n range.1 f
-  fair g (PublishTry p n) range f = publish_fair m s a h some p n range.1 f
+  fair g (Publish p n) range f = publish_fair m s a h some p n range f
+  fair g (PublishTry p n) range f = publish_fair m s a h some p n range f
   fair g (Claim p t) range f = (may m s a h some p (f.0, (f.1.0, (f.1.1.0, (f.1.1.1.0, tt)))), ltb-true t (length m.counters) (not_false _ f.1.1.1.1.0), above m s a h some p (counter m t) f.1.1.1.1.1.0)
   fair g (Rest p) range f = (may m s a h some p (f.0, (f.1.0, (f.1.1.0, (f.1.1.1.0, tt)))), above m s a h some p m.remainder f.1.1.1.1.0)
   fair g (Finish p) range f = runs m s a h some p f.0

@@ -11,3 +11,7 @@ pub mod Fairness
 pub mod Tests
 pub mod Waiting
 pub mod Schedules
+pub mod Reached
+pub mod Marks
+pub mod Turning
+pub mod Serving

@@ -17,21 +17,11 @@ pub record Call : Type 0 where
   pub step : Step
   pub granted : Bool
 
--- each party and number of the step is at most 4294967295
+-- a number published is at most 4294967295; parties and counters are whichever numbers
 abbrev pub IsInRange : Step → Type 0
-IsInRange (Join p) = p ≤ 4294967295
-IsInRange (Publish p n) = (p ≤ 4294967295) × (n ≤ 4294967295)
-IsInRange (PublishTry p n) = (p ≤ 4294967295) × (n ≤ 4294967295)
-IsInRange (Claim p t) = (p ≤ 4294967295) × (t ≤ 4294967295)
-IsInRange (Rest p) = p ≤ 4294967295
-IsInRange (Finish p) = p ≤ 4294967295
-IsInRange (Stop p) = p ≤ 4294967295
-IsInRange (See p) = p ≤ 4294967295
-IsInRange (Arrive p) = p ≤ 4294967295
-IsInRange (Leave p) = p ≤ 4294967295
-IsInRange (Exit p) = p ≤ 4294967295
-IsInRange (Clear p) = p ≤ 4294967295
-IsInRange (End p) = p ≤ 4294967295
+IsInRange (Publish p n) = n ≤ 4294967295
+IsInRange (PublishTry p n) = n ≤ 4294967295
+IsInRange e = Unit {0}
 
 -- a schedule, the newest call first
 abbrev pub IsSchedule : List Call → Type 0
@@ -196,27 +186,20 @@ pub record Laws (threads : ℕ) (calls : List Call) : Type 0 where
   pub run : IsRun (run_of threads calls)
   pub shows : Shows (machine threads calls) (reached threads calls)
   pub word_is : word (machine threads calls) ≡ barrier.word (reached threads calls)
-
   -- no number stands twice in begun or finished of any round, and each begin is within its round
   pub once : IsOnce (reached threads calls)
   pub begins : AtEach BeginsWithin (run_of threads calls)
-
   -- each ended round is whole, and nothing is published at an end
   pub whole : (q : ℕ) → q < (reached threads calls).round → IsWhole ((reached threads calls).rounds q)
   pub cleared : AtEach EndsCleared (run_of threads calls)
-
   -- memory aside, a step is accepted next exactly where it is fair, and refused exactly where it isn't
   pub exact : (e : Step) → IsInRange e → (refusal (machine threads calls) (record { step = e; granted = true }) ≡ None) ↔ IsFair (machine threads calls) (reached threads calls) e
-
   -- a growth that isn't granted refuses a join that is fair, and nothing else
   pub memory : (e : Step) → IsRefusedForMemory (machine threads calls) e
-
   -- a refused call changes nothing, and its reason is the first test that is true
   pub refused : (c : Call) (why : Why) → (serve (machine threads calls) c.granted c.step).1 ≡ Refused why → (refusal (machine threads calls) c ≡ Some why) × ((serve (machine threads calls) c.granted c.step).0 ≡ machine threads calls)
-
   -- who has arrived, and takes no step, sees its own sense in the word exactly if its round has ended
   pub waits : (later : List Call) (p : ℕ) → Rests threads later calls p → (party (reached threads calls) p).status ≡ Arrived → Waits (reached threads calls) (reached threads (later ++ calls)) (word (machine threads (later ++ calls)))
-
   -- a member that is in, and takes no step, keeps the round from ending
   pub keeps : (later : List Call) (p : ℕ) → Rests threads later calls p → (party (reached threads calls) p).status ≡ In → (reached threads (later ++ calls)).round ≡ (reached threads calls).round
 

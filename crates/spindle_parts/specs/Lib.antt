@@ -6,3 +6,7 @@ pub mod BarrierWord
 pub mod Trail
 pub mod Machine
 pub mod EverySchedule
+pub mod Serving
+pub mod Entries
+pub mod Registers
+pub mod Contents

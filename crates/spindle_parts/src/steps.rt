@@ -3,11 +3,18 @@
 //! One thread plays every party. A step's tests are made in the order of the step table (docs/FORMATS.md), and the first
 //! that fails names the refusal.
 
+ghost use Rattle.std.specs.Prelude.{◌≡◌, ℕ, ◌<◌, ◌≤◌, IfOk, OnErr, IsErrOf, MatchResult};
+ghost use Rattle.spindle_parts.specs.Machine.{initial, word};
+ghost use Rattle.spindle_parts.specs.Registers.{shown, IsTidy};
+ghost use Rattle.spindle_parts.specs.Contents.{configuration};
+ghost use Rattle.spindle_parts.specs.Serving.{IsServed};
 ghost use Rattle.spindle_parts.specs.EverySchedule.{EverySchedule};
 
 use crate::fault::Fault;
 use std::alloc::Global;
+use std::marker::Model;
 
+mod entries;
 mod jobs;
 mod members;
 mod registers;
@@ -95,15 +102,33 @@ pub struct Machine {
     registers: Registers,
 }
 
+impl Model for Machine {
+    ghost use Rattle.spindle_parts.specs.Contents.{Contents, contents};
+    ghost use Rattle.spindle_parts.specs.Registers.{IsSteady};
+
+    ghost Value = { Contents };
+
+    ghost view = { λ m. contents m.registers };
+
+    ghost invariant = { λ m. IsSteady m.registers };
+}
+
 impl Machine {
-    /// A fresh machine with a counter for each of `threads` threads; `threads` is at most 32767.
-    pub fn new(alloc: Global, threads: usize) -> Result<Machine, Fault> {
+    /// A fresh machine with a counter for each of `threads` threads.
+    pub fn new(alloc: Global, threads: usize) -> Result<Machine, Fault>
+        requires some { 0 < threads }
+        requires few { threads ≤ 32767 }
+        ensures fresh { IfOk result (λ m. configuration m ≡ initial threads) }
+        ensures memory { OnErr result (IsErrOf result Fault.Memory) }
+    {
         let registers = Registers::new(alloc, threads)?;
         Ok(Machine { registers })
     }
 
     /// Makes the step, or refuses it and changes nothing. Only a party's first `Join` takes memory.
-    pub fn step(&mut self, step: Step) -> Reply {
+    pub fn step(&mut self, step: Step) -> Reply
+        ensures { IsServed (configuration self.old) step (configuration self.new) result }
+    {
         let registers = &mut self.registers;
         match step {
             Step::Join(party) => answer(registers.join(party), registers),
@@ -134,14 +159,20 @@ pub fn every_schedule()
     ensures { EverySchedule }
 {}
 
-fn answer(outcome: Result<(), Why>, registers: &Registers) -> Reply {
+fn answer(outcome: Result<(), Why>, registers: &Registers) -> Reply
+    requires { IsTidy registers.now }
+    ensures { MatchResult outcome (λ _. result ≡ Reply.Word (word (shown registers.now))) (λ why. result ≡ Reply.Refused why) }
+{
     match outcome {
         Ok(()) => Reply::Word(registers.word()),
         Err(why) => Reply::Refused(why),
     }
 }
 
-fn claim_answer(outcome: Result<u32, Why>, registers: &Registers) -> Reply {
+fn claim_answer(outcome: Result<u32, Why>, registers: &Registers) -> Reply
+    requires { IsTidy registers.now }
+    ensures { MatchResult outcome (λ k. result ≡ Reply.Job (word (shown registers.now)) k) (λ why. result ≡ Reply.Refused why) }
+{
     match outcome {
         Ok(number) => Reply::Job(registers.word(), number),
         Err(why) => Reply::Refused(why),

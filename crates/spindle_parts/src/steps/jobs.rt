@@ -1,10 +1,22 @@
 //! The steps by which a round's jobs are published, begun, finished and stopped.
+ghost use Rattle.std.specs.Prelude.{◌≡◌, ◌≤◌, ℕ, Bool, true, false, Option, Some, None, IfOk, MatchResult, replicate, length};
+ghost use Rattle.spindle_parts.specs.Machine.{first, publish_tests, publishing, claim_tests, claimed, rested};
+ghost use Rattle.spindle_parts.specs.Registers.{shown, IsReached, IsTidy};
+ghost use Rattle.spindle_parts.specs.Serving.{Serves};
+ghost use Rattle.spindle_parts.specs.declared.steps.Step.{Step};
 
 use crate::steps::Why;
+use crate::steps::entries::{has_seen, note, set_running};
 use crate::steps::registers::Registers;
 
 impl Registers {
-    pub fn publish(&mut self, party: u32, count: u32, stoppable: bool) -> Result<(), Why> {
+    pub fn publish(&mut self, party: u32, count: u32, stoppable: bool) -> Result<(), Why>
+        requires reached { IsReached (shown self.old) }
+        requires tidy { IsTidy self.old }
+        ensures served { MatchResult result (λ _. (first (publish_tests (shown self.old) party count) ≡ None) × (shown self.new ≡ publishing (shown self.old) count stoppable)) (λ why. (first (publish_tests (shown self.old) party count) ≡ Some why) × (shown self.new ≡ shown self.old)) }
+        ensures range { IfOk result (λ _. count ≤ 4294967295) }
+        ensures tidy { IsTidy self.new }
+    {
         if party != 0 {
             return Err(Why::NotLeader);
         }
@@ -18,7 +30,7 @@ impl Registers {
             return Err(Why::Count);
         }
         let threads = self.counters.len() as u32;
-        self.counters.as_mut_slice().fill(count / threads);
+        fill(&mut self.counters, count / threads);
         self.remainder = count % threads;
         self.left = count;
         self.finished = 0;
@@ -28,7 +40,10 @@ impl Registers {
     }
 
     /// How many jobs are published, for a party that may begin one of them.
-    fn claimable(&self, party: u32) -> Result<u32, Why> {
+    fn claimable(&self, party: u32) -> Result<u32, Why>
+        requires { IsTidy self.now }
+        ensures { MatchResult result (λ n. (first (claim_tests (shown self.now) party) ≡ None) × (self.now.published ≡ Some n)) (λ why. first (claim_tests (shown self.now) party) ≡ Some why) }
+    {
         if !self.is_inside(party) {
             return Err(Why::NotIn);
         }
@@ -38,13 +53,19 @@ impl Registers {
         if self.running(party).is_some() {
             return Err(Why::Holding);
         }
-        if self.has_seen(party) {
+        if has_seen(&self.entries, &self.saw, party) {
             return Err(Why::Stopped);
         }
         Ok(count)
     }
 
-    pub fn claim(&mut self, party: u32, thread: u32) -> Result<u32, Why> {
+    pub fn claim(&mut self, party: u32, thread: u32) -> Result<u32, Why>
+        requires reached { IsReached (shown self.old) }
+        requires tidy { IsTidy self.old }
+        ensures served { Serves (shown self.old) true (Step.Claim party thread) (shown self.new) result }
+        ensures number { IfOk result (λ k. k ≡ claimed (shown self.old) thread) }
+        ensures tidy { IsTidy self.new }
+    {
         let count = self.claimable(party)?;
         let threads = self.counters.len() as u32;
         if thread >= threads {
@@ -54,39 +75,51 @@ impl Registers {
         if value == 0 {
             return Err(Why::Empty);
         }
-        self.counters[thread as usize] = value - 1;
         let own = count / threads;
         let number = own * thread + own - value;
-        self.begin(party, number);
+        self.counters[thread as usize] = value - 1;
+        self.left -= 1;
+        set_running(&mut self.entries, party, Some(number));
         Ok(number)
     }
 
-    pub fn rest(&mut self, party: u32) -> Result<u32, Why> {
+    pub fn rest(&mut self, party: u32) -> Result<u32, Why>
+        requires reached { IsReached (shown self.old) }
+        requires tidy { IsTidy self.old }
+        ensures served { Serves (shown self.old) true (Step.Rest party) (shown self.new) result }
+        ensures number { IfOk result (λ k. k ≡ rested (shown self.old)) }
+        ensures tidy { IsTidy self.new }
+    {
         let count = self.claimable(party)?;
         if self.remainder == 0 {
             return Err(Why::Empty);
         }
         let number = count - self.remainder;
         self.remainder -= 1;
-        self.begin(party, number);
+        self.left -= 1;
+        set_running(&mut self.entries, party, Some(number));
         Ok(number)
     }
 
-    fn begin(&mut self, party: u32, number: u32) {
-        self.left -= 1;
-        self.set_running(party, Some(number));
-    }
-
-    pub fn finish(&mut self, party: u32) -> Result<(), Why> {
+    pub fn finish(&mut self, party: u32) -> Result<(), Why>
+        requires reached { IsReached (shown self.old) }
+        requires tidy { IsTidy self.old }
+        ensures served { Serves (shown self.old) true (Step.Finish party) (shown self.new) result }
+        ensures tidy { IsTidy self.new }
+    {
         if self.running(party).is_none() {
             return Err(Why::Idle);
         }
         self.finished += 1;
-        self.set_running(party, None);
+        set_running(&mut self.entries, party, None);
         Ok(())
     }
 
-    pub fn stop(&mut self, party: u32) -> Result<(), Why> {
+    pub fn stop(&mut self, party: u32) -> Result<(), Why>
+        requires tidy { IsTidy self.old }
+        ensures served { Serves (shown self.old) true (Step.Stop party) (shown self.new) result }
+        ensures tidy { IsTidy self.new }
+    {
         if self.running(party).is_none() {
             return Err(Why::Idle);
         }
@@ -94,11 +127,15 @@ impl Registers {
             return Err(Why::Fixed);
         }
         self.stopped = true;
-        self.mark(party);
+        note(&mut self.entries, &mut self.saw, party);
         Ok(())
     }
 
-    pub fn see(&mut self, party: u32) -> Result<(), Why> {
+    pub fn see(&mut self, party: u32) -> Result<(), Why>
+        requires tidy { IsTidy self.old }
+        ensures served { Serves (shown self.old) true (Step.See party) (shown self.new) result }
+        ensures tidy { IsTidy self.new }
+    {
         if !self.is_inside(party) {
             return Err(Why::NotIn);
         }
@@ -108,25 +145,14 @@ impl Registers {
         if !self.stopped {
             return Err(Why::Going);
         }
-        self.mark(party);
+        note(&mut self.entries, &mut self.saw, party);
         Ok(())
     }
+}
 
-    /// Puts the party among those that have seen the stop. Its seat made the room.
-    fn mark(&mut self, party: u32) {
-        if self.has_seen(party) {
-            return;
-        }
-        let mark = self.saw.len();
-        self.saw.push_reserved(party);
-        if let Some(seat) = self.seats.get_mut(&party) {
-            seat.mark = mark;
-        }
-    }
-
-    fn set_running(&mut self, party: u32, running: Option<u32>) {
-        if let Some(seat) = self.seats.get_mut(&party) {
-            seat.running = running;
-        }
-    }
+/// Gives every counter that value.
+fn fill(counters: &mut Vec<u32>, value: u32)
+    ensures { counters.new.items ≡ replicate (length counters.old.items) value }
+{
+    counters.as_mut_slice().fill(value);
 }

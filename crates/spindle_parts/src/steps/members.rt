@@ -1,15 +1,23 @@
 //! The steps by which parties come, arrive and go, and by which a round ends.
+ghost use Rattle.std.specs.Prelude.{◌≡◌, ◌≤◌, Bool, true, false, not, ℕ, ◌==◌, [], if◌then◌else◌, Option, Some, None, vec_capacity};
+ghost use Rattle.spindle_parts.specs.Registers.{shown, IsReached, IsTidy};
+ghost use Rattle.spindle_parts.specs.Serving.{Serves, granted_by};
+ghost use Rattle.spindle_parts.specs.declared.steps.Step.{Step};
 
 use crate::steps::Why;
-use crate::steps::registers::{Registers, Seat, Standing};
-use std::alloc::AllocError;
+use crate::steps::entries::{admit, set_sense};
+use crate::steps::registers::Registers;
 
 /// The most members that the word can count.
 pub const MOST_MEMBERS: u32 = 32767;
 
 impl Registers {
-    pub fn join(&mut self, party: u32) -> Result<(), Why> {
-        if self.standing(party) != Standing::Away {
+    pub fn join(&mut self, party: u32) -> Result<(), Why>
+        requires tidy { IsTidy self.old }
+        ensures served { Serves (shown self.old) (granted_by result) (Step.Join party) (shown self.new) result }
+        ensures tidy { IsTidy self.new }
+    {
+        if !self.is_out(party) {
             return Err(Why::Member);
         }
         if self.members == MOST_MEMBERS {
@@ -18,7 +26,7 @@ impl Registers {
         if self.closer.is_some() {
             return Err(Why::Closing);
         }
-        if self.seat_in(party).is_err() {
+        if admit(&mut self.entries, &mut self.saw, party, self.sense).is_err() {
             return Err(Why::Memory);
         }
         self.inside += 1;
@@ -26,27 +34,12 @@ impl Registers {
         Ok(())
     }
 
-    /// Gives the party a seat and makes room for it among those that see a stop; who had a seat needs no memory.
-    fn seat_in(&mut self, party: u32) -> Result<(), AllocError> {
-        let sense = Some(self.sense);
-        if let Some(seat) = self.seats.get_mut(&party) {
-            seat.sense = sense;
-            return Ok(());
-        }
-        self.saw.reserve(self.seats.len() + 1 - self.saw.len())?;
-        let mark = usize::MAX;
-        self.seats.insert(
-            party,
-            Seat {
-                sense,
-                running: None,
-                mark,
-            },
-        )?;
-        Ok(())
-    }
-
-    pub fn arrive(&mut self, party: u32) -> Result<(), Why> {
+    pub fn arrive(&mut self, party: u32) -> Result<(), Why>
+        requires reached { IsReached (shown self.old) }
+        requires tidy { IsTidy self.old }
+        ensures served { Serves (shown self.old) true (Step.Arrive party) (shown self.new) result }
+        ensures tidy { IsTidy self.new }
+    {
         if !self.is_inside(party) {
             return Err(Why::NotIn);
         }
@@ -56,16 +49,19 @@ impl Registers {
         if self.published.is_some() && !self.stopped && self.left > 0 {
             return Err(Why::Left);
         }
-        self.set_sense(party, Some(!self.sense));
+        set_sense(&mut self.entries, party, Some(!self.sense));
         self.inside -= 1;
-        if self.inside == 0 {
-            self.closer = Some(party);
-        }
+        self.close(party);
         Ok(())
     }
 
-    pub fn leave(&mut self, party: u32) -> Result<(), Why> {
-        if self.standing(party) != Standing::Waiting {
+    pub fn leave(&mut self, party: u32) -> Result<(), Why>
+        requires reached { IsReached (shown self.old) }
+        requires tidy { IsTidy self.old }
+        ensures served { Serves (shown self.old) true (Step.Leave party) (shown self.new) result }
+        ensures tidy { IsTidy self.new }
+    {
+        if !self.is_waiting(party) {
             return Err(Why::NotWaiting);
         }
         if self.closer.is_some() {
@@ -74,12 +70,17 @@ impl Registers {
         if party == 0 && self.published.is_some() {
             return Err(Why::Leader);
         }
-        self.set_sense(party, None);
+        set_sense(&mut self.entries, party, None);
         self.members -= 1;
         Ok(())
     }
 
-    pub fn exit(&mut self, party: u32) -> Result<(), Why> {
+    pub fn exit(&mut self, party: u32) -> Result<(), Why>
+        requires reached { IsReached (shown self.old) }
+        requires tidy { IsTidy self.old }
+        ensures served { Serves (shown self.old) true (Step.Exit party) (shown self.new) result }
+        ensures tidy { IsTidy self.new }
+    {
         if !self.is_inside(party) {
             return Err(Why::NotIn);
         }
@@ -89,18 +90,22 @@ impl Registers {
         if party == 0 && self.published.is_some() {
             return Err(Why::Leader);
         }
-        self.set_sense(party, None);
+        set_sense(&mut self.entries, party, None);
         self.inside -= 1;
         self.members -= 1;
         if self.members == 0 {
             self.turn();
-        } else if self.inside == 0 {
-            self.closer = Some(party);
+        } else {
+            self.close(party);
         }
         Ok(())
     }
 
-    pub fn clear(&mut self, party: u32) -> Result<(), Why> {
+    pub fn clear(&mut self, party: u32) -> Result<(), Why>
+        requires tidy { IsTidy self.old }
+        ensures served { Serves (shown self.old) true (Step.Clear party) (shown self.new) result }
+        ensures tidy { IsTidy self.new }
+    {
         if !self.is_closer(party) {
             return Err(Why::NotCloser);
         }
@@ -108,7 +113,12 @@ impl Registers {
         Ok(())
     }
 
-    pub fn end(&mut self, party: u32) -> Result<(), Why> {
+    pub fn end(&mut self, party: u32) -> Result<(), Why>
+        requires reached { IsReached (shown self.old) }
+        requires tidy { IsTidy self.old }
+        ensures served { Serves (shown self.old) true (Step.End party) (shown self.new) result }
+        ensures tidy { IsTidy self.new }
+    {
         if !self.is_closer(party) {
             return Err(Why::NotCloser);
         }
@@ -119,20 +129,26 @@ impl Registers {
         Ok(())
     }
 
+    /// Where nobody is in, the party is the closer.
+    fn close(&mut self, party: u32)
+        ensures { self.new ≡ record self.old { closer = if self.old.inside == 0 then Some party else self.old.closer } }
+    {
+        if self.inside == 0 {
+            self.closer = Some(party);
+        }
+    }
+
     /// Ends the round: the sense flips, by which every member is in.
-    fn turn(&mut self) {
+    fn turn(&mut self)
+        ensures saw { self.new.saw.items ≡ [] }
+        ensures room { vec_capacity self.new.saw ≡ vec_capacity self.old.saw }
+        ensures turned { self.new ≡ record self.old { saw = self.new.saw; sense = not self.old.sense; inside = self.old.members; closer = None; stoppable = false; stopped = false } }
+    {
+        self.saw.clear();
         self.sense = !self.sense;
         self.inside = self.members;
         self.closer = None;
         self.stoppable = false;
         self.stopped = false;
-        self.saw.clear();
-    }
-
-    /// A party with a seat becomes a member with that sense, or none.
-    fn set_sense(&mut self, party: u32, sense: Option<bool>) {
-        if let Some(seat) = self.seats.get_mut(&party) {
-            seat.sense = sense;
-        }
     }
 }

@@ -1,19 +1,17 @@
-//! What the machine keeps: a seat for each party that ever came, the word's fields, and the jobs of the round.
+//! What the machine keeps: an entry for each party that ever came, the word's fields, and the jobs of the round.
+ghost use Rattle.std.specs.Prelude.{◌≡◌, ℕ, ◌≤◌, ◌<◌, IfOk, IsErrOf, OnErr, ◌↔◌, IsTrue, length};
+ghost use Rattle.std.specs.Ordering.{nat_cmp};
+ghost use Rattle.std.specs.BTreeMap.{get};
+ghost use Rattle.spindle_parts.specs.Machine.{initial, word, status, is_out, is_inside, is_waiting, is_party};
+ghost use Rattle.spindle_parts.specs.Entries.{sense_of};
+ghost use Rattle.spindle_parts.specs.Registers.{shown, IsTidy};
 
 use std::alloc::{AllocError, Global};
 use std::collections::BTreeMap;
 
-/// How a party stands in the round.
-#[derive(Clone, Copy, PartialEq, Eq)]
-pub enum Standing {
-    Away,
-    Inside,
-    Waiting,
-}
-
 /// What is kept of a party.
 #[derive(Clone, Copy)]
-pub struct Seat {
+pub struct Entry {
     /// A member's own sense: the word's where it hasn't arrived, the other one until the round that it arrived in has ended.
     pub sense: Option<bool>,
     /// The job that the party runs.
@@ -22,11 +20,11 @@ pub struct Seat {
     pub mark: usize,
 }
 
-/// The machine's registers. The round's end touches no seat: a seat's sense tells whether its party has arrived, and a
-/// seat's mark counts only where the list of those that saw the stop has the party at it.
+/// The machine's registers. The round's end touches no entry: an entry's sense tells whether its party has arrived, and its
+/// mark counts only where the list of those that saw the stop has the party at it.
 #[derive(Drop)]
 pub struct Registers {
-    pub seats: BTreeMap<u32, Seat>,
+    pub entries: BTreeMap<u32, Entry>,
     /// The parties that have seen the round's stop, each once.
     pub saw: Vec<u32>,
     pub counters: Vec<u32>,
@@ -45,10 +43,13 @@ pub struct Registers {
 }
 
 impl Registers {
-    pub fn new(alloc: Global, threads: usize) -> Result<Registers, AllocError> {
+    pub fn new(alloc: Global, threads: usize) -> Result<Registers, AllocError>
+        ensures fresh { IfOk result (λ r. shown r ≡ initial threads) }
+        ensures tidy { IfOk result IsTidy }
+    {
         let counters = vec![in alloc; 0; threads]?;
         Ok(Registers {
-            seats: BTreeMap::new(alloc),
+            entries: BTreeMap::new(alloc),
             saw: Vec::new(alloc),
             counters,
             remainder: 0,
@@ -65,39 +66,70 @@ impl Registers {
     }
 
     /// The barrier word.
-    pub fn word(&self) -> u32 {
+    pub fn word(&self) -> u32
+        requires inside { self.now.inside ≤ 32767 }
+        requires members { self.now.members ≤ 32767 }
+        ensures { result ≡ word (shown self.now) }
+    {
         let sense = if self.sense { 0x8000_0000 } else { 0 };
         self.inside + 0x1_0000 * self.members + sense
     }
 
-    pub fn seat(&self, party: u32) -> Option<Seat> {
-        self.seats.get(&party).copied()
+    pub fn entry(&self, party: u32) -> Option<Entry>
+        ensures { result ≡ get nat_cmp self.now.entries party }
+    {
+        self.entries.get(&party).copied()
     }
 
-    pub fn standing(&self, party: u32) -> Standing {
-        match self.seat(party).and_then(|seat| seat.sense) {
-            None => Standing::Away,
-            Some(own) if own == self.sense => Standing::Inside,
-            Some(_) => Standing::Waiting,
+    /// A member's own sense.
+    pub fn sense_of(&self, party: u32) -> Option<bool>
+        ensures { result ≡ sense_of (get nat_cmp self.now.entries party) }
+    {
+        match self.entry(party) {
+            None => None,
+            Some(entry) => entry.sense,
         }
     }
 
-    pub fn running(&self, party: u32) -> Option<u32> {
-        self.seat(party).and_then(|seat| seat.running)
+    pub fn is_out(&self, party: u32) -> bool
+        ensures { result ≡ is_out (status (shown self.now) party) }
+    {
+        self.sense_of(party).is_none()
     }
 
-    pub fn has_seen(&self, party: u32) -> bool {
-        match self.seat(party) {
+    pub fn is_inside(&self, party: u32) -> bool
+        ensures { result ≡ is_inside (status (shown self.now) party) }
+    {
+        match self.sense_of(party) {
             None => false,
-            Some(seat) => self.saw.get(seat.mark).copied() == Some(party),
+            Some(own) => own == self.sense,
         }
     }
 
-    pub fn is_inside(&self, party: u32) -> bool {
-        self.standing(party) == Standing::Inside
+    pub fn is_waiting(&self, party: u32) -> bool
+        ensures { result ≡ is_waiting (status (shown self.now) party) }
+    {
+        match self.sense_of(party) {
+            None => false,
+            Some(own) => own != self.sense,
+        }
     }
 
-    pub fn is_closer(&self, party: u32) -> bool {
-        self.closer == Some(party)
+    pub fn running(&self, party: u32) -> Option<u32>
+        ensures { result ≡ ((shown self.now).seat party).running }
+    {
+        match self.entry(party) {
+            None => None,
+            Some(entry) => entry.running,
+        }
+    }
+
+    pub fn is_closer(&self, party: u32) -> bool
+        ensures { result ≡ is_party self.now.closer party }
+    {
+        match self.closer {
+            None => false,
+            Some(closer) => closer == party,
+        }
     }
 }
