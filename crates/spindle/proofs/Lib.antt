@@ -1,0 +1,2 @@
+pub mod RoundQuiet
+pub mod RoundMoves

@@ -1,0 +1,3 @@
+pub mod RoundSlots
+pub mod RoundRule
+pub mod RoundSteps

@@ -3,3 +3,4 @@
 #![tactic(auto)]
 
 pub mod lock;
+pub mod round_table;
