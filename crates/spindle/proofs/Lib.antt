@@ -1,2 +1,4 @@
 pub mod RoundQuiet
 pub mod RoundMoves
+pub mod RoundWords
+pub mod KeptLoads

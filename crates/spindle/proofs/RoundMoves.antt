@@ -6,7 +6,7 @@ use native.Mathlib.Decide.{ℕ_discrete, dec_le}
 use lib.ListN.{get_elem?}
 use lib.Seq.{set-get_or}
 use Rattle.atomic_table.specs.Table as table
-use Rattle.atomic_table.specs.Table.{Me, Act, step, keeps, stepped, Allows, homes_after}
+use Rattle.atomic_table.specs.Table.{Me, Act, Step, step, keeps, stepped, Allows, Valid, homes_after, carried_after}
 use Rattle.atomic_table.proofs.Lists.{at_set, set_again}
 use Rattle.spindle_parts.specs.State.{State, Status, Out, In, Arrived, Party, Round, party_of, waking, now, party, times, Free, IsUsed, absent}
 use Rattle.spindle_parts.specs.Steps.{Event, Allowed, by, after, with_status}
@@ -19,7 +19,8 @@ use Rattle.spindle.specs.declared.round_table.view.Standing.TheVariants.{Away, I
 use Rattle.spindle.specs.declared.round_table.view.Kind.{Kind}
 use Rattle.spindle.specs.declared.round_table.view.Known.{Known}
 use Rattle.spindle.specs.declared.round_table.view.View.{View}
-use Rattle.spindle.specs.RoundSteps.{noted}
+use prog.Atomic.{either}
+use Rattle.spindle.specs.RoundSteps.{noted, missing, Turns, Exchanges, Begun}
 use Rattle.spindle.specs.RoundSlots.{Discipline, Lawful, SameSlots, Quiet}
 use Rattle.spindle.specs.RoundRule.{Deed, deed, deeds, deeds_of, Stands, Knows, Shows, IsShare, IsEmptied, InRange, InRest, IsLeft, Counters, Words, Shown, home_of, Laid, StandsFor, stored_at}
 use Rattle.spindle.proofs.RoundQuiet.{AllQuiet, quiet_run}
@@ -175,3 +176,71 @@ module _ {X N : Type 0} (D : Discipline X N) (t : ℕ) where
             (λ (low : (i < 16) × ((q : ℕ) → (S'.rounds q).jobs ≡ (S.rounds q).jobs) × ((q k : ℕ) → times k (S'.rounds q).begun ≡ times k (S.rounds q).begun)). let lt = low.0 in stands_on t (S.rounds q) (S'.rounds q) s.words (set s.words i x) (low.1 q) (low.2 q) (λ j le. get_or-set_other s.words i j x 0 (λ z. omega arith)) (l.left q (sym la ∙ e) (sym published ∙ hid)))
             (λ is. absurd (is (sym published ∙ hid))) where_it_is;
       }
+
+module _ {X N : Type 0} (D : Discipline X N) (law : Lawful D) (t : ℕ) where
+  -- a step at which no number begins, finishes or is published, and nothing is cleared
+  pub moves : (s : table.State X (View N)) (r : Rule D t s) (i x id : ℕ) (me : SeatOf D t) (w : View N) (new : List Event) → get_elem? s.views id ≡ some me.0 → AllBy id new → AllQuiet new → SameSlots me.0 w → IsRun (new ++ r.run)
+      → Words t (state (new ++ r.run)) (set s.words i x) → Shows (state (new ++ r.run)) id w → deeds_of w.trail ≡ deeds id (new ++ r.run) → w.threads ≡ me.0.threads
+      → ((w.known.stored ≡ []) ⊎ (w.known.stored ≡ me.0.known.stored)) → w.laid ≡ me.0.laid → (state (new ++ r.run)).published ≡ (state r.run).published → (i < 16) ⊎ ((state r.run).published ≢ None) → Rule D t (stepped s i x id me.1 w keeps)
+  moves s r i x id me w new at all quiets slots ok words mine worked same_threads stored laid published where_it_is = let q = quiet_run new r.run quiets ok in
+      moves_with D t s r i x id me w keeps new at all ok words mine worked same_threads
+      (still_laid D t s r i x id me w new at stored laid published (λ is. let z = some_of (state r.run).published is in (q.published z.0 (published ∙ z.1)).1) (⊎_elim (λ (low : i < 16). inl (low, q.jobs, q.begun)) inr where_it_is))
+      (law.stays (state r.run) (state (new ++ r.run)) s.homes s.views id me.0 w r.slots q at slots)
+
+  -- a step that leaves the word, and no event
+  pub stays : (s : table.State X (View N)) (r : Rule D t s) (i id : ℕ) (me : SeatOf D t) (w : View N) → get_elem? s.views id ≡ some me.0 → SameSlots me.0 w → Shows (state r.run) id w → deeds_of w.trail ≡ deeds_of me.0.trail → w.threads ≡ me.0.threads
+      → ((w.known.stored ≡ []) ⊎ (w.known.stored ≡ me.0.known.stored)) → w.laid ≡ me.0.laid → Rule D t (stepped s i (get_or s.words i 0) id me.1 w keeps)
+  stays s r i id me w at slots mine same same_threads stored laid = let here = set-get_or s.words i 0 in
+      subst (λ (ws : List ℕ). Rule D t record { words = ws; homes = s.homes; views = set s.views id w }) (sym here) (subst (λ (ws : List ℕ). Rule D t record { words = ws; homes = s.homes; views = set s.views id w }) (set-get_or s.words 0 0)
+      (moves s r 0 (get_or s.words 0 0) id me w [] at tt tt slots r.is_run (subst (Words t (state r.run)) (sym (set-get_or s.words 0 0)) r.words) mine (same ∙ (r.seats id me.0 at).1) same_threads stored laid refl (inl (omega arith))))
+
+-- one step more in the trail
+pub noted_shows : {N : Type 0} (s : State) (p : ℕ) (v : View N) (x : Trace Kind) → Shows s p v → Shows s p (noted x v)
+noted_shows s p v x w = record { stands = w.stands; leads = w.leads; claim = w.claim; share = w.share; inside = w.inside }
+
+-- What a step owes, by the shape of what it tells.
+module _ {X N : Type 0} (D : Discipline X N) (law : Lawful D) (t slots id : ℕ) (me : SeatOf D t) (i : ℕ) where
+  -- the table before the step, x being what the word holds
+  pub record Before (s : table.State X (View N)) : Type 0 where
+    pub rule : Rule D t s
+    pub at : get_elem? s.views id ≡ some me.0
+    pub small : get_or s.words i 0 < 18446744073709551616
+
+  -- a load, or a change of any word whatever it holds
+  pub turns : (g : ℕ → ℕ) (f : ℕ → View N → View N) (st : Step X) → ((s : table.State X (View N)) → Before s → Rule D t (stepped s i (g (get_or s.words i 0)) id me.1 (f (get_or s.words i 0) me.0) keeps)) → Allows (Rule D t) slots id me i g (Turns f st me)
+  turns g f st owed s r _ at small = (f (get_or s.words i 0) me.0, keeps, tt, owed s record { rule = r; at = at; small = small }, (refl, refl))
+
+  pub stores : (new : ℕ) (f : ℕ → View N → View N) (st : Step X) → ((s : table.State X (View N)) → Before s → Rule D t (stepped s i new id me.1 (f new me.0) keeps)) → Allows (Rule D t) slots id me i (λ _. new) (λ _. Turns f st me new)
+  stores new f st owed s r _ at small = (f new me.0, keeps, tt, owed s record { rule = r; at = at; small = small }, (refl, refl))
+
+  -- an exchange that finds another value
+  pub misses : (s : table.State X (View N)) (r : Rule D t s) → get_elem? s.views id ≡ some me.0 → (old new : ℕ) → get_or s.words i 0 ≢ old
+      → Rule D t (stepped s i (either (eqb (get_or s.words i 0) old) new (get_or s.words i 0)) id me.1 (missing i (get_or s.words i 0) me.0) keeps)
+  misses s r at old new miss = let x : ℕ = get_or s.words i 0 in subst (λ b. Rule D t (stepped s i (either b new x) id me.1 (missing i x me.0) keeps)) (sym (ne_eqb x old miss))
+      (stays D law t s r i id me (missing i x me.0) at (refl, refl, refl) (noted_shows (state r.run) id me.0 _ (r.seats id me.0 at).0) refl refl (inr refl) refl)
+
+  pub exchanges : (old new : ℕ) (f : ℕ → View N → View N) → ((s : table.State X (View N)) → Before s → get_or s.words i 0 ≡ old → Rule D t (stepped s i new id me.1 (f (get_or s.words i 0) me.0) keeps))
+      → Allows (Rule D t) slots id me i (λ x. either (eqb x old) new x) (Exchanges f (step slots i old new none) me)
+  exchanges old new f owed s r _ at small = let x : ℕ = get_or s.words i 0 in dite (ℕ_discrete x old)
+      (λ hit. (
+        f x me.0,
+        keeps,
+        tt,
+        subst (λ b. Rule D t (stepped s i (either b new x) id me.1 (f x me.0) keeps)) (sym (eq-eqb x old hit)) (owed s record { rule = r; at = at; small = small } hit),
+        (refl, (λ _. refl), λ not. absurd (not hit)),
+      ))
+      (λ miss. (missing i x me.0, keeps, tt, misses s r at old new miss, (refl, (λ hit. absurd (miss hit)), λ _. refl)))
+
+  -- an exchange with which a number begins
+  pub begins_by : (old new : ℕ) (number : ℕ → ℕ) (f : ℕ → Option N → View N → View N)
+      → ((s : table.State X (View N)) → Before s → get_or s.words i 0 ≡ old → (x : Option N) × (a : Act X) × Valid s.homes me.1 a × Rule D t (stepped s i new id me.1 (f old x me.0) a) × D.took (number old) me.1 x (carried_after me.1 a))
+      → Allows (Rule D t) slots id me i (λ x. either (eqb x old) new x) (Begun D number f (step slots i old new none) me)
+  begins_by old new number f owed s r _ at small = let x : ℕ = get_or s.words i 0 in dite (ℕ_discrete x old)
+      (λ hit. let o = owed s record { rule = r; at = at; small = small } hit in (
+        f old o.0 me.0,
+        o.1,
+        o.2,
+        subst (λ b. Rule D t (stepped s i (either b new x) id me.1 (f old o.0 me.0) o.1)) (sym (eq-eqb x old hit)) o.3,
+        ((λ _. (o.0, (λ j. f (sym hit j) o.0 me.0), subst (λ (z : ℕ). D.took (number z) me.1 o.0 (carried_after me.1 o.1)) (sym hit) o.4)), λ not. absurd (not hit)),
+      ))
+      (λ miss. (missing i x me.0, keeps, tt, misses s r at old new miss, ((λ hit. absurd (miss hit)), λ _. (refl, refl))))

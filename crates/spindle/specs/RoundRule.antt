@@ -126,7 +126,7 @@ pub record Counters (t : ℕ) (s : State) (ws : List ℕ) (n : ℕ) : Type 0 whe
   pub ranges : (i k : ℕ) → i < t → InRange ws i k → Free s k
   pub rest : (k : ℕ) → InRest ws n k → Free s k
   pub few : rest_in ws ≤ n % t
-  pub home : (now s).stopped ≡ false → (i k : ℕ) → i < t → InRange ws i k → k / (n / t) ≡ i
+  pub home : (now s).stopped ≡ false → (i k : ℕ) → i < t → InRange ws i k → home_of t n k ≡ i
   pub apart : (i j k : ℕ) → i < t → j < t → InRange ws i k → InRange ws j k → i ≡ j
   pub rest_apart : (i k : ℕ) → i < t → InRange ws i k → InRest ws n k → ⊥
 
