@@ -2,3 +2,4 @@ pub mod RoundQuiet
 pub mod RoundMoves
 pub mod RoundWords
 pub mod KeptLoads
+pub mod KeptBarrier
