@@ -3,3 +3,4 @@ pub mod RoundMoves
 pub mod RoundWords
 pub mod KeptLoads
 pub mod KeptBarrier
+pub mod KeptFill
