@@ -4,3 +4,5 @@ pub mod RoundWords
 pub mod KeptLoads
 pub mod KeptBarrier
 pub mod KeptFill
+pub mod RoundNumbers
+pub mod KeptClaims
