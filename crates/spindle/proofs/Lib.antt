@@ -6,3 +6,4 @@ pub mod KeptBarrier
 pub mod KeptFill
 pub mod RoundNumbers
 pub mod KeptClaims
+pub mod RoundOpening
