@@ -18,7 +18,7 @@ use Rattle.spindle.specs.declared.round_table.view.Standing.TheVariants.{Away, I
 use Rattle.spindle.specs.declared.round_table.view.View.{View}
 use Rattle.spindle.specs.RoundSlots.{Discipline, Lawful}
 use Rattle.spindle.specs.RoundRule.{Deed, deeds, deeds_of, number_of, Stands, Knows, Shows, IsShare, Words, Shown, IsListed}
-use Rattle.spindle.specs.RoundSteps.{joined, joining, missing, arrived, arriving, round_of, looked, looking, loading, standing, unknown, outside, read_by_closer, closing_read, with_word, ends, ending, after_end, turned_word, sense_of, count_of, most_of}
+use Rattle.spindle.specs.RoundSteps.{joined, joining, missing, arrived, arriving, round_of, looked, looking, loading, standing, unknown, outside, read_by_closer, closing_read, with_word, ends, ending, after_end, turned_word, sense_of, count_of, most_of, IsDone}
 use Rattle.spindle.proofs.RoundMoves.{Rule, SeatOf, Before, turns, stores, misses, moves, stays, noted_shows, untrue}
 use Rattle.spindle.proofs.RoundWords.{Fields, word_fields, by_equal, status_words}
 use Rattle.spindle.proofs.KeptLoads.{used_up}
@@ -72,9 +72,6 @@ module _ {X N : Type 0} (D : Discipline X N) (law : Lawful D) (t : ℕ) where
       (λ miss. (missing 0 x me.0, keeps, tt, misses D law t slots id me 0 s r at old (old + 65537) miss, (refl, (λ hit. absurd (miss hit)), λ _. refl)))
 
   -- why nothing is left for a seat that arrives
-  abbrev pub IsDone : View N → Type 0
-  IsDone v = (v.known.unpublished ≡ true) ⊎ ((v.known.seen_stop ≡ true) ⊎ ((v.threads ≡ 0) ⊎ ((n : ℕ) × (v.known.number ≡ Some n) × ((i : ℕ) → i ≤ v.threads → IsListed i v.known.emptied))))
-
   used : (s : State) (h : Sound s) (p : ℕ) (v : View N) → Knows v.threads s p v.known → (v.threads ≡ 0 → s.published ≡ None) → IsDone v → s.published ≢ None → IsUsed s
   used s h p v k barren done shown = ⊎_elim (λ (z : v.known.unpublished ≡ true). absurd (shown (k.unpublished z).1))
       (⊎_elim (λ (z : v.known.seen_stop ≡ true). inr (h.work.saw p (k.seen ∙ z))) (⊎_elim (λ (z : v.threads ≡ 0). absurd (shown (barren z)))

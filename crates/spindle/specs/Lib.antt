@@ -1,3 +1,4 @@
 pub mod RoundSlots
 pub mod RoundRule
 pub mod RoundSteps
+pub mod RoundAnswers

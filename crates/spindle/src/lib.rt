@@ -3,4 +3,6 @@
 #![tactic(auto)]
 
 pub mod lock;
+pub mod barrier;
+pub mod round;
 pub mod round_table;
