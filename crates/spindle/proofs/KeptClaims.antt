@@ -16,7 +16,7 @@ use Rattle.spindle.specs.declared.round_table.view.Standing.TheVariants.{Away, I
 use Rattle.spindle.specs.declared.round_table.view.View.{View}
 use Rattle.spindle.specs.RoundSlots.{Discipline, Lawful}
 use Rattle.spindle.specs.RoundRule.{Deed, Began, deeds, deeds_of, Stands, Knows, Shows, IsShare, IsEmptied, Counters, InRange, InRest, IsWithin, Words, Shown, home_of}
-use Rattle.spindle.specs.RoundSteps.{claimed, claiming, stolen, stealing, stolen_from, half_of, length_of, start_of, end_of, range_word, rested, resting, number_or, beginning, round_of, Begun}
+use Rattle.spindle.specs.RoundSteps.{claimed, claiming, stolen, stealing, stolen_from, half_of, length_of, start_of, end_of, range_word, rested, resting, number_or, beginning, round_of, Begun, MayClaim}
 use Rattle.spindle.proofs.RoundMoves.{Rule, SeatOf, Before, begins_by, moves_with, still_laid}
 use Rattle.spindle.proofs.RoundWords.{by_equal, by_less}
 use Rattle.spindle.proofs.RoundNumbers.{or_false, or_right, true_or, with_some, taken_first, then_begun, first_party, last_party, last_round, last_words, was_free, range_taken, taken_counters, begun_here}
@@ -95,15 +95,7 @@ front t n i old from to low small left empty = let k : ℕ = old % 4294967296 in
 }
 
 module _ {X N : Type 0} (D : Discipline X N) (law : Lawful D) (t : ℕ) where
-  -- what every claim asks of its seat
-  pub record MayClaim (me : SeatOf D t) (q n : ℕ) : Type 0 where
-    pub inside : me.0.standing ≡ Inside q
-    pub known : me.0.known.number ≡ Some n
-    pub idle : me.0.claim ≡ None
-    pub empty : me.0.to ≤ me.0.from
-    pub unseen : me.0.known.seen_stop ≡ false
-
-  pub claims : (slots id : ℕ) (me : SeatOf D t) (i q n old : ℕ) → i < t → MayClaim me q n → old < 18446744073709551616 → old % 4294967296 < old / 4294967296
+  pub claims : (slots id : ℕ) (me : SeatOf D t) (i old : ℕ) → i < t → MayClaim me.0 → old < 18446744073709551616 → old % 4294967296 < old / 4294967296
       → Allows (Rule D t) slots id me (40 + 8 * i) (λ x. either (eqb x old) (old + 1) x) (claimed D (step slots (40 + 8 * i) old (old + 1) none) me)
-  claims slots id me i q n old low may small left = begins_by D law t slots id me (40 + 8 * i) old (old + 1) start_of (claiming (40 + 8 * i))
-      (takes D law t slots id me q n (40 + 8 * i) old (old + 1) (old % 4294967296) me.0.from me.0.to (only (old % 4294967296)) (front t n i old me.0.from me.0.to low small left may.empty) may.inside may.known may.idle may.empty may.unseen)
+  claims slots id me i old low may small left = begins_by D law t slots id me (40 + 8 * i) old (old + 1) start_of (claiming (40 + 8 * i))
+      (takes D law t slots id me may.0.0 may.1.0 (40 + 8 * i) old (old + 1) (old % 4294967296) me.0.from me.0.to (only (old % 4294967296)) (front t may.1.0 i old me.0.from me.0.to low small left may.0.3) may.0.1 may.1.1 may.0.2 may.0.3 may.2)

@@ -20,6 +20,9 @@ use Rattle.spindle.specs.declared.round_table.view.View.{View}
 use Rattle.spindle.specs.RoundSlots.{Discipline, Lawful, Publishes}
 use Rattle.spindle.specs.RoundRule.{Deed, Showed, deed, deeds, deeds_of, Stands, Shows, Counters, InRange, InRest, Words, Shown, Laid, stored_at, IsFilled, fill_value, home_of, number_of}
 use Rattle.spindle.specs.RoundSteps.{filled, filling, published, published_try, publishing, publish_word, round_of, Turns}
+use Rattle.spindle.specs.RoundAnswers.{FilledUpTo}
+use Rattle.spindle_parts.specs.Trail.{trace}
+use Rattle.spindle.specs.declared.round_table.view.Kind.TheVariants as kind
 use Rattle.spindle.proofs.RoundMoves.{Rule, SeatOf, Before, stores, moves_with, untrue}
 use Rattle.spindle.proofs.RoundWords.{by_equal, by_less}
 
@@ -57,6 +60,18 @@ module _ {X N : Type 0} (D : Discipline X N) (law : Lawful D) (t : ℕ) where
       })
       (λ (h : (0 ≢ id) × (get_elem? s.views 0 ≡ some v)). absurd (h.0 (sym only.0))) (at_set s.views id 0 w v e))
       (law.stays S S s.homes s.views id me.0 w r.slots record { begun = λ _ _. refl; finished = λ _ _. refl; jobs = λ _. refl; published = λ n z. (z, refl); running = λ _ _ _. refl } at (refl, refl, refl)))
+
+  pub fills_range : (slots id : ℕ) (me : SeatOf D t) (q i x : ℕ) → i < t → me.0.standing ≡ Inside q → me.0.known.unpublished ≡ true → Allows (Rule D t) slots id me (40 + 8 * i) (λ _. x) (λ _. filled (step slots (40 + 8 * i) x 0 none) me x)
+  fills_range slots id me q i x low inside_q alone = let at : 16 + 8 * (3 + i) ≡ 40 + 8 * i = omega arith in subst (λ (k : ℕ). Allows (Rule D t) slots id me k (λ _. x) (λ _. filled (step slots k x 0 none) me x)) at (fills slots id me q (3 + i) x (omega arith) inside_q alone)
+
+-- one word more is stored
+module _ {N : Type 0} (t n : ℕ) (v : View N) where
+  pub filled_first : (w : View N) (l : List (ℕ × ℕ)) → w ≡ filling 16 0 v → FilledUpTo t n 1 v w
+  filled_first w l e = ((16, 0) ∷ v.known.stored, trace 16 kind.Fill 0 0 ∷ [], e, (λ i lt. let z : i ≡ 0 = omega arith in subst (λ (k : ℕ). (if 16 == 16 + 8 * k then Some 0 else stored_at v.known.stored (16 + 8 * k)) ≡ Some (fill_value t n k)) (sym z) refl), refl)
+
+  pub filled_more : (j x : ℕ) (u w : View N) → FilledUpTo t n j v u → x ≡ fill_value t n j → w ≡ filling (16 + 8 * j) x u → FilledUpTo t n (suc j) v w
+  filled_more j x u w f is e = let i : ℕ = 16 + 8 * j in ((i, x) ∷ f.0, trace i kind.Fill x x ∷ f.1, e ∙ ap (filling i x) f.2,
+      (λ k lt. by_equal i (16 + 8 * k) (λ b. (if b then Some x else stored_at f.0 (16 + 8 * k)) ≡ Some (fill_value t n k)) (λ same. let z : j ≡ k = omega arith in ap (λ (a : ℕ). Some a) (is ∙ ap (fill_value t n) z)) (λ other. f.3 k (dite (ℕ_discrete k j) (λ z. absurd (other (omega arith))) (λ z. omega arith)))), f.4)
 
 -- the d numbers from d * i on are those whose quotient is i
 block : (d i k : ℕ) → 0 < d → d * i ≤ k → k < d * i + d → k / d ≡ i

@@ -2,3 +2,4 @@ pub mod RoundSlots
 pub mod RoundRule
 pub mod RoundSteps
 pub mod RoundAnswers
+pub mod Seats

@@ -14,8 +14,17 @@ use Rattle.spindle.specs.declared.round.claiming.Claim.TheVariants as claim
 use Rattle.spindle.specs.declared.round_table.view.Kind.{Kind}
 use Rattle.spindle_parts.specs.declared.trail.Trace.{Trace}
 use Rattle.spindle.specs.RoundSlots.{Discipline}
-use Rattle.spindle.specs.RoundRule.{IsFilled, deeds_of}
+use Rattle.spindle.specs.RoundRule.{stored_at, fill_value, deeds_of}
 use Rattle.spindle.specs.RoundSteps.{loading, missing, joining, arriving, claiming, searching, count_of, most_of, sense_of, start_of, end_of}
+
+-- of the words for n jobs the first j stand, and nothing has changed but what the leader has stored and the trail
+abbrev pub FilledUpTo : {N : Type 0} → ℕ → ℕ → ℕ → View N → View N → Type 0
+FilledUpTo t n j v w = (stored : List (ℕ × ℕ)) × (trail : List (Trace Kind)) × (w ≡ record v { known = record v.known { stored = stored }; laid = None; trail = trail ++ v.trail })
+    × ((i : ℕ) → i < j → stored_at stored (16 + 8 * i) ≡ Some (fill_value t n i)) × (deeds_of trail ≡ [])
+
+-- `fill` stores all of them: finished, stopped, the remainder, and a range for each thread
+abbrev pub FilledBy : {N : Type 0} → ℕ → ℕ → View N → View N → Type 0
+FilledBy t n v w = FilledUpTo t n (3 + t) v w
 
 module _ {S N : Type 0} where
   -- a join: the members were at their most; else none of them was in; else the exchange found what the load before it found
@@ -34,10 +43,6 @@ module _ {S N : Type 0} where
   abbrev pub ArrivedBy : Arrival → Me S (View N) → Me S (View N) → Type 0
   ArrivedBy Arrived m w = (found : ℕ) × (w ≡ (arriving found m.0, m.1)) × (count_of found ≢ 1)
   ArrivedBy Closer m w = (found : ℕ) × (w ≡ (arriving found m.0, m.1)) × (count_of found ≡ 1)
-
-  -- `fill` changes what the leader has stored and the trail, and all words for n jobs stand
-  abbrev pub FilledBy : ℕ → ℕ → View N → View N → Type 0
-  FilledBy t n v w = (stored : List (ℕ × ℕ)) × (trail : List (Trace Kind)) × (w ≡ record v { known = record v.known { stored = stored }; laid = None; trail = trail ++ v.trail }) × IsFilled t n stored × (deeds_of trail ≡ [])
 
   -- a claim on the range i
   abbrev pub OwnClaimed : Discipline S N → ℕ → Claim → Me S (View N) → Me S (View N) → Type 0

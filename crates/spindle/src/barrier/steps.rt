@@ -1,6 +1,8 @@
 //! The calls of a party, each one atomic step or a load and a step.
 ghost use Rattle.std.specs.Prelude.{◌≡◌, ◌<◌};
 ghost use Rattle.spindle.specs.RoundAnswers.{JoinedBy, ArrivedBy};
+ghost use Rattle.spindle.specs.Seats.{LendsSeat};
+ghost use Rattle.std.specs.Borrow.{sem};
 ghost use Rattle.spindle.specs.RoundSteps.{IsFreeInside, IsDone, HasSense};
 ghost use Rattle.spindle.specs.declared.round_table.view.Standing.TheVariants.{Away};
 
@@ -56,7 +58,8 @@ pub(crate) fn join<D: Slots>(words: &SharedWords<D>, seat: &mut Seat<D>) -> Join
 impl<'a, D: Slots> Barrier<'a, D> {
     /// The party's seat, for the calls of `Round`.
     pub fn seat(&mut self) -> &mut Seat<D>
-        ensures { (result.now ≡ self.old.seat) × (self.new ≡ record self.old { seat = result.final }) }
+        ensures* writes_back { sem 𝓛 (LendsSeat D.row D.Slot.row D.Note.row D.Slots self.entry result) }
+        ensures value { result.now ≡ self.old.seat }
     {
         &mut self.seat
     }

@@ -1,5 +1,5 @@
 //! The leader's part of a round, and the published word.
-ghost use Rattle.std.specs.Prelude.{◌≡◌, ◌<◌, ◌≤◌, ◌+◌, ◌*◌, ℕ};
+ghost use Rattle.std.specs.Prelude.{◌≡◌, ◌<◌, ◌≤◌, false};
 ghost use Rattle.spindle.specs.RoundAnswers.{FilledBy};
 ghost use Rattle.spindle.specs.RoundSteps.{MayFill, MayPublish, learning, publishing};
 
