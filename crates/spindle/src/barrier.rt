@@ -19,6 +19,7 @@ pub mod steps;
 pub const MASK: u32 = 32767;
 
 /// A barrier that parties may join, over the table of a round (`BarrierInit` of spindle).
+#[derive(Drop)]
 pub struct BarrierInit<D: Slots> {
     pub table: RoundTable<D>,
     pub threads: usize,
@@ -27,6 +28,7 @@ pub struct BarrierInit<D: Slots> {
 }
 
 /// Why a party didn't join. The seat comes back.
+#[derive(Drop)]
 pub enum JoinRefused<P> {
     /// As many parties as there may be.
     Full(P),
@@ -37,6 +39,7 @@ pub enum JoinRefused<P> {
 }
 
 /// A party that has joined, or is the closer, with its seat (`Barrier` of spindle).
+#[derive(Drop)]
 pub struct Barrier<'a, D: Slots> {
     pub init: &'a BarrierInit<D>,
     pub seat: Seat<D>,

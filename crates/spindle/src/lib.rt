@@ -6,3 +6,6 @@ pub mod lock;
 pub mod barrier;
 pub mod round;
 pub mod round_table;
+
+#[cfg(test)]
+mod tests;

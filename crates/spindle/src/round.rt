@@ -12,6 +12,7 @@ pub mod claiming;
 pub mod publishing;
 
 /// The rounds of a table, with the barrier that ends them.
+#[derive(Drop)]
 pub struct Round<D: Slots> {
     pub init: BarrierInit<D>,
 }

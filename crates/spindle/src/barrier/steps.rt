@@ -28,6 +28,7 @@ pub enum JoinStep {
 }
 
 /// How a party arrived.
+#[derive(Clone, Copy, Debug, PartialEq, Eq)]
 pub enum Arrival {
     Arrived,
     /// It was the last, and closes the round.
