@@ -1,26 +1,23 @@
 -- The steps on the barrier word of parties that come and arrive, and of the closer.
-use Rattle.std.proofs.Common.{◌≡◌, ◌≢◌, ◌⊎◌, inl, inr, ⊎_elim, ℕ, zero, suc, ◌+◌, ◌-◌, ◌*◌, ◌/◌, ◌%◌, ◌^◌, ◌<◌, ◌≤◌, Bool, true, false, eqb, eq-eqb, ne_eqb, List, [], ◌∷◌, ◌++◌, length, get_or, set, length-set, get_or-set_same, get_or-set_other, sym, refl, ap, ◌∙◌, subst, arith, Option, Some, None, if◌then◌else◌, ◌==◌}
+use Rattle.std.proofs.Common.{◌≡◌, ◌≢◌, ◌⊎◌, inl, inr, ⊎_elim, ℕ, suc, ◌+◌, ◌-◌, ◌/◌, ◌%◌, ◌^◌, ◌<◌, ◌≤◌, Bool, true, false, eqb, eq-eqb, ne_eqb, List, [], ◌∷◌, ◌++◌, get_or, sym, refl, ap, ◌∙◌, subst, arith, Option, Some, None, if◌then◌else◌, ◌==◌}
 use mathlib.Core.Logic.{dite}
-use mathlib.Core.Option.{none, some}
-use native.Mathlib.Decide.{ℕ_discrete, dec_le}
+use mathlib.Core.Option.{none}
+use native.Mathlib.Decide.{ℕ_discrete}
 use prog.Atomic.{either}
-use lib.ListN.{get_elem?}
 use Rattle.atomic_table.specs.Table as table
 use Rattle.atomic_table.specs.Table.{Me, step, keeps, stepped, Allows}
-use Rattle.spindle_parts.specs.State.{State, Status, Out, In, Arrived, Party, Round, party_of, put_party, waking, wake, now, party, Free, IsUsed, blank, inside, members, weight_in, weight_member, is_in, is_member}
-use Rattle.spindle_parts.specs.Steps.{Event, Join, Arrive, End, by, after, Allowed, IsIdle, with_status, closer_after}
-use Rattle.spindle_parts.specs.Runs.{state, IsRun}
-use Rattle.spindle_parts.specs.BarrierWord.{word}
-use Rattle.spindle_parts.proofs.Parties.{look_here, total_put, look_wake, inside_wake, members_wake}
+use Rattle.spindle_parts.specs.State.{State, In, Arrived, Party, put_party, now, party, IsUsed, inside, members, weight_in, weight_member, is_in, is_member}
+use Rattle.spindle_parts.specs.Steps.{Join, Arrive, after, Allowed, IsIdle, with_status, closer_after}
+use Rattle.spindle_parts.specs.Runs.{state}
+use Rattle.spindle_parts.proofs.Parties.{look_here, total_put}
 use Rattle.spindle_parts.proofs.Soundness.{Sound, sound, no_closer, hidden_out}
-use Rattle.spindle.specs.declared.round_table.view.Standing.{Standing}
 use Rattle.spindle.specs.declared.round_table.view.Standing.TheVariants.{Away, Inside, Waiting, Closing}
 use Rattle.spindle.specs.declared.round_table.view.View.{View}
 use Rattle.spindle.specs.RoundSlots.{Discipline, Lawful}
-use Rattle.spindle.specs.RoundRule.{Deed, deeds, deeds_of, number_of, Stands, Knows, Shows, IsShare, Words, Shown, IsListed}
-use Rattle.spindle.specs.RoundSteps.{joined, joining, missing, arrived, arriving, round_of, looked, looking, loading, standing, unknown, outside, read_by_closer, closing_read, with_word, ends, ending, after_end, turned_word, sense_of, count_of, most_of, IsDone}
-use Rattle.spindle.proofs.RoundMoves.{Rule, SeatOf, Before, turns, stores, misses, moves, stays, noted_shows, untrue}
-use Rattle.spindle.proofs.RoundWords.{Fields, word_fields, by_equal, status_words}
+use Rattle.spindle.specs.RoundRule.{Deed, deeds, Stands, Knows, Shows, IsShare, IsListed}
+use Rattle.spindle.specs.RoundSteps.{joined, joining, missing, arrived, arriving, round_of, looked, looking, loading, standing, unknown, read_by_closer, closing_read, with_word, IsDone}
+use Rattle.spindle.proofs.RoundMoves.{Rule, SeatOf, Before, turns, misses, moves, stays, noted_shows, untrue}
+use Rattle.spindle.proofs.RoundWords.{word_fields, by_equal, status_words}
 use Rattle.spindle.proofs.KeptLoads.{used_up}
 
 none_of : (o : Option ℕ) → ((c : ℕ) → o ≡ Some c → ⊥) → o ≡ None
@@ -106,34 +103,44 @@ module _ {X N : Type 0} (D : Discipline X N) (law : Lawful D) (t : ℕ) where
   pub looks : (slots id : ℕ) (me : SeatOf D t) (q : ℕ) (quiet : Bool) → me.0.standing ≡ Waiting q quiet → Allows (Rule D t) slots id me 0 (λ n. n) (looked (step slots 0 0 0 none) me)
   looks slots id me q quiet waits s r _ at _ = let x : ℕ = get_or s.words 0 0 in let S : State = state r.run in let h = sound r.run r.is_run in let f = word_fields S h x r.words.barrier in let shows = (r.seats id me.0 at).0 in let st = subst (Stands S id) waits shows.stands in
       let own : round_of me.0.standing ≡ q = ap round_of waits in let sense = f.sense in let w₀ : View N = loading 0 x me.0 in let w₁ : View N = standing (Inside (round_of me.0.standing + 1)) (unknown me.0.leader false) w₀ in
-      let goal : Bool → Type 0 = (λ b. Rule D t (stepped s 0 x id me.1 (if b then w₀ else w₁) keeps)) in
-      (looking x me.0, keeps, tt, by_equal (x / 2147483648) (round_of me.0.standing % 2) goal
-      (λ _. stays D law t s r 0 id me w₀ at (refl, refl, refl) (noted_shows S id me.0 _ shows) refl refl (inr refl) refl)
-      (λ over. stays D law t s r 0 id me w₁ at (refl, refl, refl)
-      (⊎_elim (λ (a : ((party S id).status ≡ Arrived) × (S.round ≡ q) × (S.closer ≢ Some id) × (quiet ≡ true → (id ≡ 0) × (S.published ≡ None))). let a₁ = a.1 in absurd (over (sense ∙ ap (λ (z : ℕ). z % 2) (a₁ ∙ sym own))))
-      (λ (a : ((party S id).status ≡ In) × (S.round ≡ suc q) × (id ≡ 0 → S.published ≡ None) × ((now S).seen id ≡ false)). let a₁ = a.1 in record {
-        stands = (a.0, omega arith);
-        leads = shows.leads;
-        claim = shows.claim;
-        share = shows.share;
-        inside = λ _ _. record {
-          number = λ n e. absurd cc;
-          unpublished = λ lead. (shows.leads.0 lead, a.2 (shows.leads.0 lead));
-          seen = a.3;
-          emptied = λ n i k l. absurd l;
-          unread = λ _. refl;
-        };
-      }) st) refl refl (inl refl) refl), (refl, refl, f.small))
+      let goal : Bool → Type 0 = (λ b. Rule D t (stepped s 0 x id me.1 (if b then w₀ else w₁) keeps)) in (
+        looking x me.0,
+        keeps,
+        tt,
+        by_equal (x / 2147483648) (round_of me.0.standing % 2) goal
+            (λ _. stays D law t s r 0 id me w₀ at (refl, refl, refl) (noted_shows S id me.0 _ shows) refl refl (inr refl) refl)
+            (λ over. stays D law t s r 0 id me w₁ at (refl, refl, refl)
+            (⊎_elim (λ (a : ((party S id).status ≡ Arrived) × (S.round ≡ q) × (S.closer ≢ Some id) × (quiet ≡ true → (id ≡ 0) × (S.published ≡ None))). let a₁ = a.1 in absurd (over (sense ∙ ap (λ (z : ℕ). z % 2) (a₁ ∙ sym own))))
+            (λ (a : ((party S id).status ≡ In) × (S.round ≡ suc q) × (id ≡ 0 → S.published ≡ None) × ((now S).seen id ≡ false)). let a₁ = a.1 in record {
+              stands = (a.0, omega arith);
+              leads = shows.leads;
+              claim = shows.claim;
+              share = shows.share;
+              inside = λ _ _. record {
+                number = λ n e. absurd cc;
+                unpublished = λ lead. (shows.leads.0 lead, a.2 (shows.leads.0 lead));
+                seen = a.3;
+                emptied = λ n i k l. absurd l;
+                unread = λ _. refl;
+              };
+            }) st) refl refl (inl refl) refl),
+        (refl, refl, f.small),
+      )
 
   -- the closer reads the word, which stands from then on
   pub closer_reads : (slots id : ℕ) (me : SeatOf D t) (q : ℕ) (member cleared : Bool) (was : Option ℕ) → me.0.standing ≡ Closing q member cleared was → Allows (Rule D t) slots id me 0 (λ n. n) (read_by_closer (step slots 0 0 0 none) me)
   closer_reads slots id me q member cleared was closes s r _ at _ = let x : ℕ = get_or s.words 0 0 in let S : State = state r.run in let h = sound r.run r.is_run in let f = word_fields S h x r.words.barrier in let shows = (r.seats id me.0 at).0 in let st = subst (Stands S id) closes shows.stands in
-      let is : with_word x me.0.standing ≡ Closing q member cleared (Some x) = ap (with_word x) closes in
-      (closing_read x me.0, keeps, tt, stays D law t s r 0 id me (closing_read x me.0) at (refl, refl, refl)
-      record {
-        stands = subst (Stands S id) (sym is) (st.0, st.1, st.2, st.3, λ n e. let same : x ≡ n = cc in sym r.words.barrier ∙ same);
-        leads = shows.leads;
-        claim = shows.claim;
-        share = shows.share;
-        inside = λ q' e. let no : Closing q member cleared (Some x) ≡ Inside q' = sym is ∙ e in absurd cc;
-      } refl refl (inr refl) refl, (refl, refl, f.small))
+      let is : with_word x me.0.standing ≡ Closing q member cleared (Some x) = ap (with_word x) closes in (
+        closing_read x me.0,
+        keeps,
+        tt,
+        stays D law t s r 0 id me (closing_read x me.0) at (refl, refl, refl)
+            record {
+              stands = subst (Stands S id) (sym is) (st.0, st.1, st.2, st.3, λ n e. let same : x ≡ n = cc in sym r.words.barrier ∙ same);
+              leads = shows.leads;
+              claim = shows.claim;
+              share = shows.share;
+              inside = λ q' e. let no : Closing q member cleared (Some x) ≡ Inside q' = sym is ∙ e in absurd cc;
+            } refl refl (inr refl) refl,
+        (refl, refl, f.small),
+      )

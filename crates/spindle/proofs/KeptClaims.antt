@@ -1,25 +1,23 @@
 -- The exchanges with which numbers are claimed.
-use Rattle.std.proofs.Common.{◌≡◌, ◌≢◌, ◌⊎◌, inl, inr, ⊎_elim, ℕ, zero, suc, ◌+◌, ◌-◌, ◌*◌, ◌/◌, ◌%◌, ◌^◌, ◌<◌, ◌≤◌, Bool, true, false, ◌||◌, ◌&&◌, eqb, eq-eqb, ne_eqb, lt-ltb, le-ltb, List, [], ◌∷◌, ◌++◌, length, get_or, set, length-set, get_or-set_same, get_or-set_other, sym, refl, ap, ◌∙◌, subst, arith, Option, Some, None, if◌then◌else◌, ◌==◌, nat_lt}
+use Rattle.std.proofs.Common.{◌≡◌, ◌≢◌, inl, inr, ⊎_elim, ℕ, ◌+◌, ◌*◌, ◌/◌, ◌%◌, ◌<◌, ◌≤◌, Bool, true, false, eqb, eq-eqb, ne_eqb, List, [], ◌∷◌, ◌++◌, length, get_or, set, sym, refl, ap, ◌∙◌, subst, arith, Option, Some, None, if◌then◌else◌, ◌==◌}
 use mathlib.Core.Logic.{dite}
-use mathlib.Core.Option.{none, some}
-use native.Mathlib.Decide.{ℕ_discrete, dec_le}
+use mathlib.Core.Option.{none}
+use native.Mathlib.Decide.{ℕ_discrete}
 use prog.Atomic.{either}
-use lib.ListN.{get_elem?}
 use Rattle.atomic_table.specs.Table as table
 use Rattle.atomic_table.specs.Table.{Me, Act, step, stepped, Allows, Valid, carried_after}
-use Rattle.spindle_parts.specs.State.{State, In, Party, Round, put, now, party, Free}
-use Rattle.spindle_parts.specs.Steps.{Event, Take, Begin, Allowed, after}
-use Rattle.spindle_parts.specs.Runs.{state, IsRun}
+use Rattle.spindle_parts.specs.State.{State, Party, Round, put, party, Free}
+use Rattle.spindle_parts.specs.Steps.{Take, Begin, Allowed}
+use Rattle.spindle_parts.specs.Runs.{state}
 use Rattle.spindle_parts.proofs.Parties.{put_here, put_else}
-use Rattle.spindle_parts.proofs.Soundness.{Sound, sound}
-use Rattle.spindle.specs.declared.round_table.view.Standing.TheVariants.{Away, Inside, Waiting, Closing}
+use Rattle.spindle_parts.proofs.Soundness.{sound}
+use Rattle.spindle.specs.declared.round_table.view.Standing.TheVariants.{Inside}
 use Rattle.spindle.specs.declared.round_table.view.View.{View}
 use Rattle.spindle.specs.RoundSlots.{Discipline, Lawful}
-use Rattle.spindle.specs.RoundRule.{Deed, Began, deeds, deeds_of, Stands, Knows, Shows, IsShare, IsEmptied, Counters, InRange, InRest, IsWithin, Words, Shown, home_of}
-use Rattle.spindle.specs.RoundSteps.{claimed, claiming, stolen, stealing, stolen_from, half_of, length_of, start_of, end_of, range_word, rested, resting, number_or, beginning, round_of, Begun, MayClaim}
+use Rattle.spindle.specs.RoundRule.{Began, deeds, Stands, Counters, IsWithin, home_of}
+use Rattle.spindle.specs.RoundSteps.{claimed, claiming, start_of, beginning, round_of, MayClaim}
 use Rattle.spindle.proofs.RoundMoves.{Rule, SeatOf, Before, begins_by, moves_with, still_laid}
-use Rattle.spindle.proofs.RoundWords.{by_equal, by_less}
-use Rattle.spindle.proofs.RoundNumbers.{or_false, or_right, true_or, with_some, taken_first, then_begun, first_party, last_party, last_round, last_words, was_free, range_taken, taken_counters, begun_here}
+use Rattle.spindle.proofs.RoundNumbers.{or_false, or_right, true_or, with_some, taken_first, then_begun, first_party, last_party, last_round, last_words, was_free, range_taken, begun_here}
 
 -- a set of free numbers, which counters that hold the word `old` lose where the word becomes `new`
 pub record Taking (t n i old new k from to : ℕ) (some : ℕ → Bool) : Type 0 where
@@ -58,8 +56,10 @@ module _ {X N : Type 0} (D : Discipline X N) (law : Lawful D) (t slots id : ℕ)
               share = λ j. subst (λ (f : ℕ → Bool). ((f j ≡ true) → (from ≤ j) × (j < to)) × ((from ≤ j) × (j < to) → f j ≡ true)) (sym (ap (λ (z : Party). z.taken) last))
                   (dite (ℕ_discrete j k)
                   (λ e. ((λ on. let a = put_here y k false in let b = ap (put y k false) e in absurd cc), (λ z. absurd (((take.kept j).1 z).1 e))))
-                  (λ apart. ((λ on. ⊎_elim (λ (z : some j ≡ true). (take.kept j).0 z apart) (λ (z : some j ≡ false). absurd (none_held j (sym (or_false ((party S id).taken j) (some j) z) ∙ (sym (put_else y k false j apart) ∙ on)))) (true_or (some j))),
-                  (λ z. put_else y k false j apart ∙ or_right ((party S id).taken j) (some j) ((take.kept j).1 z).0))));
+                  (λ apart. (
+                    (λ on. ⊎_elim (λ (z : some j ≡ true). (take.kept j).0 z apart) (λ (z : some j ≡ false). absurd (none_held j (sym (or_false ((party S id).taken j) (some j) z) ∙ (sym (put_else y k false j apart) ∙ on)))) (true_or (some j))),
+                    (λ z. put_else y k false j apart ∙ or_right ((party S id).taken j) (some j) ((take.kept j).1 z).0),
+                  )));
               inside = λ a e. record {
                 number = λ m e. let old = knows.number m e in (old.0, ap (λ (z : Round). z.stoppable) (last_round S id k some take.mine) ∙ old.1);
                 unpublished = knows.unpublished;

@@ -1,5 +1,5 @@
 -- The leader's stores: the words of a round to come, and the number itself.
-use Rattle.std.proofs.Common.{◌≡◌, ◌≢◌, ◌⊎◌, inl, inr, ⊎_elim, ℕ, zero, suc, ◌+◌, ◌-◌, ◌*◌, ◌/◌, ◌%◌, ◌^◌, ◌<◌, ◌≤◌, Bool, true, false, eq-eqb, le-ltb, lt-ltb, List, [], ◌∷◌, ◌++◌, length, get_or, set, length-set, get_or-set_same, get_or-set_other, div-add-mod', zero-mul, sym, refl, ap, ◌∙◌, subst, arith, Option, Some, None, if◌then◌else◌, ◌==◌, nat_lt}
+use Rattle.std.proofs.Common.{◌≡◌, ◌≢◌, inl, inr, ⊎_elim, ℕ, zero, suc, ◌+◌, ◌*◌, ◌/◌, ◌%◌, ◌<◌, ◌≤◌, Bool, true, false, eq-eqb, List, [], ◌∷◌, ◌++◌, length, get_or, set, length-set, get_or-set_same, get_or-set_other, div-add-mod', zero-mul, sym, refl, ap, ◌∙◌, subst, arith, Some, if◌then◌else◌, ◌==◌}
 use Rattle.std.proofs.Math.Nat.{mul-le-mul_left}
 use mathlib.Core.Logic.{dite}
 use mathlib.Core.Option.{none, some}
@@ -9,17 +9,17 @@ use lib.ListN.{get_elem?}
 use Rattle.atomic_table.specs.Table as table
 use Rattle.atomic_table.specs.Table.{Me, step, keeps, stepped, Allows}
 use Rattle.atomic_table.proofs.Lists.{at_set}
-use Rattle.spindle_parts.specs.State.{State, In, Party, Round, put, now, party, Free, times}
+use Rattle.spindle_parts.specs.State.{State, Round, now, Free, times}
 use Rattle.spindle_parts.specs.Steps.{Event, Publish, PublishTry, IsPublishable, Allowed, after, by, publish}
-use Rattle.spindle_parts.specs.Runs.{state, IsRun}
+use Rattle.spindle_parts.specs.Runs.{state}
 use Rattle.spindle_parts.proofs.Parties.{put_here, put_all, tick_same}
 use Rattle.spindle_parts.proofs.Fates.{none_begun, open_is_free, over}
-use Rattle.spindle_parts.proofs.Soundness.{Sound, sound, no_closer}
-use Rattle.spindle.specs.declared.round_table.view.Standing.TheVariants.{Away, Inside, Waiting, Closing}
+use Rattle.spindle_parts.proofs.Soundness.{sound, no_closer}
+use Rattle.spindle.specs.declared.round_table.view.Standing.TheVariants.{Inside}
 use Rattle.spindle.specs.declared.round_table.view.View.{View}
 use Rattle.spindle.specs.RoundSlots.{Discipline, Lawful, Publishes}
-use Rattle.spindle.specs.RoundRule.{Deed, Showed, deed, deeds, deeds_of, Stands, Shows, Counters, InRange, InRest, Words, Shown, Laid, stored_at, IsFilled, fill_value, home_of, number_of}
-use Rattle.spindle.specs.RoundSteps.{filled, filling, published, published_try, publishing, publish_word, round_of, Turns}
+use Rattle.spindle.specs.RoundRule.{Deed, Showed, deed, deeds, Stands, Shows, Counters, InRange, Words, Laid, stored_at, IsFilled, fill_value, home_of, number_of}
+use Rattle.spindle.specs.RoundSteps.{filled, filling, published, published_try, publishing, publish_word, round_of}
 use Rattle.spindle.specs.RoundAnswers.{FilledUpTo}
 use Rattle.spindle_parts.specs.Trail.{trace}
 use Rattle.spindle.specs.declared.round_table.view.Kind.TheVariants as kind
@@ -70,8 +70,13 @@ module _ {N : Type 0} (t n : ℕ) (v : View N) where
   filled_first w l e = ((16, 0) ∷ v.known.stored, trace 16 kind.Fill 0 0 ∷ [], e, (λ i lt. let z : i ≡ 0 = omega arith in subst (λ (k : ℕ). (if 16 == 16 + 8 * k then Some 0 else stored_at v.known.stored (16 + 8 * k)) ≡ Some (fill_value t n k)) (sym z) refl), refl)
 
   pub filled_more : (j x : ℕ) (u w : View N) → FilledUpTo t n j v u → x ≡ fill_value t n j → w ≡ filling (16 + 8 * j) x u → FilledUpTo t n (suc j) v w
-  filled_more j x u w f is e = let i : ℕ = 16 + 8 * j in ((i, x) ∷ f.0, trace i kind.Fill x x ∷ f.1, e ∙ ap (filling i x) f.2,
-      (λ k lt. by_equal i (16 + 8 * k) (λ b. (if b then Some x else stored_at f.0 (16 + 8 * k)) ≡ Some (fill_value t n k)) (λ same. let z : j ≡ k = omega arith in ap (λ (a : ℕ). Some a) (is ∙ ap (fill_value t n) z)) (λ other. f.3 k (dite (ℕ_discrete k j) (λ z. absurd (other (omega arith))) (λ z. omega arith)))), f.4)
+  filled_more j x u w f is e = let i : ℕ = 16 + 8 * j in (
+    (i, x) ∷ f.0,
+    trace i kind.Fill x x ∷ f.1,
+    e ∙ ap (filling i x) f.2,
+    (λ k lt. by_equal i (16 + 8 * k) (λ b. (if b then Some x else stored_at f.0 (16 + 8 * k)) ≡ Some (fill_value t n k)) (λ same. let z : j ≡ k = omega arith in ap (λ (a : ℕ). Some a) (is ∙ ap (fill_value t n) z)) (λ other. f.3 k (dite (ℕ_discrete k j) (λ z. absurd (other (omega arith))) (λ z. omega arith)))),
+    f.4,
+  )
 
 -- the d numbers from d * i on are those whose quotient is i
 block : (d i k : ℕ) → 0 < d → d * i ≤ k → k < d * i + d → k / d ≡ i

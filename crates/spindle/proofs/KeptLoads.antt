@@ -1,22 +1,20 @@
 -- Loads that leave the state of the round, and what they teach.
-use Rattle.std.proofs.Common.{◌≡◌, ◌≢◌, ◌⊎◌, inl, inr, ⊎_elim, ℕ, zero, suc, ◌+◌, ◌-◌, ◌*◌, ◌/◌, ◌%◌, ◌^◌, ◌<◌, ◌≤◌, Bool, true, false, eqb, eq-eqb, ne_eqb, lt-ltb, le-ltb, div-add-mod', zero-mul, List, [], ◌∷◌, ◌++◌, length, get_or, set, sym, refl, ap, ◌∙◌, subst, arith, Option, Some, None, if◌then◌else◌, ◌==◌, nat_lt}
+use Rattle.std.proofs.Common.{◌≡◌, ◌≢◌, ◌⊎◌, inl, inr, ⊎_elim, ℕ, ◌+◌, ◌*◌, ◌/◌, ◌%◌, ◌<◌, ◌≤◌, Bool, true, false, lt-ltb, le-ltb, div-add-mod', zero-mul, List, [], get_or, sym, refl, ap, ◌∙◌, subst, arith, Option, Some, None, if◌then◌else◌, ◌==◌, nat_lt}
 use mathlib.Core.Logic.{dite}
 use native.Mathlib.Nat.{div-lt_iff_lt-mul}
 use mathlib.Core.Option.{none, some}
-use native.Mathlib.Decide.{ℕ_discrete, dec_le}
+use native.Mathlib.Decide.{ℕ_discrete}
 use lib.ListN.{get_elem?}
 use Rattle.atomic_table.specs.Table as table
 use Rattle.atomic_table.specs.Table.{Me, step, keeps, stepped, Allows}
-use Rattle.spindle_parts.specs.State.{State, Status, In, Party, Round, now, party, Free, IsUsed}
+use Rattle.spindle_parts.specs.State.{State, In, now, party, Free, IsUsed}
 use Rattle.spindle_parts.specs.Runs.{state}
 use Rattle.spindle_parts.proofs.Soundness.{Sound, sound, no_closer}
-use Rattle.spindle.specs.declared.round_table.view.Standing.TheVariants.{Away, Inside, Waiting, Closing}
-use Rattle.spindle.specs.declared.round_table.view.Known.{Known}
 use Rattle.spindle.specs.declared.round_table.view.View.{View}
 use Rattle.spindle.specs.RoundSlots.{Discipline, Lawful}
-use Rattle.spindle.specs.RoundRule.{number_of, Stands, Knows, Shows, Counters, InRange, InRest, Words, Shown, home_of, IsListed, IsEmptied}
-use Rattle.spindle.specs.RoundSteps.{loaded, loading, learned, learning, learn, searched, searching, reading, list_empty, rest_read, reading_rest}
-use Rattle.spindle.proofs.RoundMoves.{Rule, SeatOf, Before, turns, stays, noted_shows, untrue}
+use Rattle.spindle.specs.RoundRule.{number_of, Stands, Knows, Counters, InRange, InRest, home_of, IsListed, IsEmptied}
+use Rattle.spindle.specs.RoundSteps.{loaded, loading, learned, learning, searched, searching, reading, list_empty, rest_read, reading_rest}
+use Rattle.spindle.proofs.RoundMoves.{Rule, SeatOf, turns, stays, noted_shows, untrue}
 use Rattle.spindle.proofs.RoundWords.{by_less, by_equal, word_fields}
 
 stopped_or : (b : Bool) → (b ≡ true) ⊎ (b ≡ false)

@@ -1,28 +1,27 @@
 -- What every kind of step on a round table shares: the other seats show what they showed, and the leader's stores stand.
-use Rattle.std.proofs.Common.{◌≡◌, ◌≢◌, ◌⊎◌, inl, inr, ⊎_elim, ℕ, zero, suc, ◌+◌, ◌*◌, ◌/◌, ◌%◌, ◌^◌, ◌<◌, ◌≤◌, Bool, true, false, eqb, eq-eqb, ne_eqb, List, [], ◌∷◌, ◌++◌, length, get_or, set, length-set, get_or-set_same, get_or-set_other, sym, refl, ap, ◌∙◌, subst, arith, Option, Some, None, if◌then◌else◌, ◌==◌}
+use Rattle.std.proofs.Common.{◌≡◌, ◌≢◌, ◌⊎◌, inl, inr, ⊎_elim, ℕ, zero, suc, ◌+◌, ◌*◌, ◌/◌, ◌%◌, ◌<◌, ◌≤◌, Bool, true, false, eqb, eq-eqb, ne_eqb, List, [], ◌∷◌, ◌++◌, length, get_or, set, length-set, get_or-set_other, sym, refl, ap, ◌∙◌, subst, arith, Option, Some, None, if◌then◌else◌}
 use mathlib.Core.Logic.{dite}
-use mathlib.Core.Option.{none, some, some-injective, some-ne-none}
-use native.Mathlib.Decide.{ℕ_discrete, dec_le}
+use mathlib.Core.Option.{none, some, some-ne-none}
+use native.Mathlib.Decide.{ℕ_discrete}
 use lib.ListN.{get_elem?}
 use lib.Seq.{set-get_or}
 use Rattle.atomic_table.specs.Table as table
 use Rattle.atomic_table.specs.Table.{Me, Act, Step, step, keeps, stepped, Allows, Valid, homes_after, carried_after}
-use Rattle.atomic_table.proofs.Lists.{at_set, set_again}
-use Rattle.spindle_parts.specs.State.{State, Status, Out, In, Arrived, Party, Round, party_of, waking, now, party, times, Free, IsUsed, absent}
+use Rattle.atomic_table.proofs.Lists.{at_set}
+use Rattle.spindle_parts.specs.State.{State, Status, Out, In, Arrived, Party, Round, waking, now, party, times, Free, absent}
 use Rattle.spindle_parts.specs.Steps.{Event, Allowed, by, after, with_status}
 use Rattle.spindle_parts.specs.Runs.{state, IsRun}
 use Rattle.spindle_parts.proofs.Soundness.{Sound, sound}
-use Rattle.spindle_parts.proofs.Frames.{Frame, Steady, Turned, Lessens, Frees, frame, closer_alone}
+use Rattle.spindle_parts.proofs.Frames.{Steady, Turned, Frees, frame, closer_alone}
 use Rattle.spindle_parts.specs.declared.trail.Trace.{Trace}
 use Rattle.spindle.specs.declared.round_table.view.Standing.{Standing}
 use Rattle.spindle.specs.declared.round_table.view.Standing.TheVariants.{Away, Inside, Waiting, Closing}
 use Rattle.spindle.specs.declared.round_table.view.Kind.{Kind}
-use Rattle.spindle.specs.declared.round_table.view.Known.{Known}
 use Rattle.spindle.specs.declared.round_table.view.View.{View}
 use prog.Atomic.{either}
 use Rattle.spindle.specs.RoundSteps.{noted, missing, Turns, Exchanges, Begun}
-use Rattle.spindle.specs.RoundSlots.{Discipline, Lawful, SameSlots, Quiet}
-use Rattle.spindle.specs.RoundRule.{Deed, deed, deeds, deeds_of, Stands, Knows, Shows, IsShare, IsEmptied, InRange, InRest, IsLeft, Counters, Words, Shown, home_of, Laid, StandsFor, stored_at}
+use Rattle.spindle.specs.RoundSlots.{Discipline, Lawful, SameSlots}
+use Rattle.spindle.specs.RoundRule.{deed, deeds, deeds_of, Stands, Knows, Shows, IsShare, InRange, InRest, IsLeft, Words, Shown, home_of, Laid, StandsFor, stored_at}
 use Rattle.spindle.proofs.RoundQuiet.{AllQuiet, quiet_run}
 
 pub untrue : (b : Bool) → (b ≡ true → ⊥) → b ≡ false
@@ -98,9 +97,10 @@ AllBy p (e ∷ es) = (by e ≡ p) × AllBy p es
 -- the same over the few events of one step
 pub others_run : {N : Type 0} (p q : ℕ) (v : View N) → q ≢ p → (new run : List Event) → AllBy p new → IsRun (new ++ run) → Shows (state run) q v × (deeds_of v.trail ≡ deeds q run) → Shows (state (new ++ run)) q v × (deeds_of v.trail ≡ deeds q (new ++ run))
 others_run p q v other [] run all ok h = h
-others_run p q v other (e ∷ es) run all ok h = let r = others_run p q v other es run all.1 ok.1 h in let mine = all.0 in
-    (others_shown (state (es ++ run)) (sound (es ++ run) ok.1) e q ok.0 (λ z. other (z ∙ mine)) v r.0,
-    r.1 ∙ sym (ap (λ (b : Bool). (if b then deed (state (es ++ run)) e else []) ++ deeds q (es ++ run)) (ne_eqb (by e) q (λ z. other (sym z ∙ mine)))))
+others_run p q v other (e ∷ es) run all ok h = let r = others_run p q v other es run all.1 ok.1 h in let mine = all.0 in (
+  others_shown (state (es ++ run)) (sound (es ++ run) ok.1) e q ok.0 (λ z. other (z ∙ mine)) v r.0,
+  r.1 ∙ sym (ap (λ (b : Bool). (if b then deed (state (es ++ run)) e else []) ++ deeds q (es ++ run)) (ne_eqb (by e) q (λ z. other (sym z ∙ mine)))),
+)
 
 -- nobody there stays nobody
 pub nobody_run : (p q : ℕ) → q ≢ p → (new run : List Event) → AllBy p new → IsRun (new ++ run) → (party (state run) q ≡ absent) × ((state run).closer ≢ Some q) × (deeds q run ≡ [])
@@ -108,7 +108,7 @@ pub nobody_run : (p q : ℕ) → q ≢ p → (new run : List Event) → AllBy p 
 nobody_run p q other [] run all ok h = h
 nobody_run p q other (e ∷ es) run all ok h = let r = nobody_run p q other es run all.1 ok.1 h in let mine = all.0 in let s : State = state (es ++ run) in let none_here = ne_eqb (by e) q (λ z. other (sym z ∙ mine)) in
     let same : (party (after s e) q ≡ absent) × ((after s e).closer ≢ Some q) = ⊎_elim (λ (f : Steady s (after s e) q). (f.same ∙ r.0, f.closer.1 r.1))
-        (λ (f : Turned s (after s e) q). (f.same ∙ ap (λ (x : Party). with_status (waking x.status) x) r.0, f.closer)) (frame s (sound (es ++ run) ok.1) e q ok.0 (λ z. other (z ∙ mine))) in
+    (λ (f : Turned s (after s e) q). (f.same ∙ ap (λ (x : Party). with_status (waking x.status) x) r.0, f.closer)) (frame s (sound (es ++ run) ok.1) e q ok.0 (λ z. other (z ∙ mine))) in
     (same.0, same.1, ap (λ (b : Bool). (if b then deed s e else []) ++ deeds q (es ++ run)) none_here ∙ r.2)
 
 -- the numbers of a round that were not begun, where its numbers stay and the words do

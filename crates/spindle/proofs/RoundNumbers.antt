@@ -1,15 +1,15 @@
 -- A party takes a set of free numbers and begins one of them in the same step: what becomes of the state and of the counters.
-use Rattle.std.proofs.Common.{◌≡◌, ◌≢◌, ◌⊎◌, inl, inr, ⊎_elim, ℕ, zero, suc, ◌+◌, ◌-◌, ◌*◌, ◌/◌, ◌%◌, ◌<◌, ◌≤◌, Bool, true, false, ◌||◌, eqb, eq-eqb, ne_eqb, List, [], ◌∷◌, ◌++◌, length, get_or, set, length-set, get_or-set_same, get_or-set_other, sym, refl, ap, ◌∙◌, subst, arith, Option, Some, None, if◌then◌else◌, ◌==◌}
+use Rattle.std.proofs.Common.{◌≡◌, ◌≢◌, ◌⊎◌, inl, inr, ⊎_elim, ℕ, ◌+◌, ◌*◌, ◌<◌, ◌≤◌, Bool, true, false, ◌||◌, List, [], ◌∷◌, ◌++◌, length, get_or, set, length-set, get_or-set_same, get_or-set_other, sym, refl, ap, ◌∙◌, subst, arith, Some}
 use mathlib.Core.Logic.{dite}
-use native.Mathlib.Decide.{ℕ_discrete, dec_le}
-use Rattle.spindle_parts.specs.State.{State, In, Party, Round, put, party_of, put_party, now, party, times, Free, IsUsed, inside, members, weight_in, weight_member, is_in, is_member}
-use Rattle.spindle_parts.specs.Steps.{Event, Take, Begin, Allowed, after}
+use native.Mathlib.Decide.{ℕ_discrete}
+use Rattle.spindle_parts.specs.State.{State, Party, Round, put, now, party, times, Free, weight_in, weight_member, is_in, is_member}
+use Rattle.spindle_parts.specs.Steps.{Event, Take, Begin, after}
 use Rattle.spindle_parts.specs.Runs.{state, IsRun, IsOnce}
 use Rattle.spindle_parts.specs.BarrierWord.{word}
 use Rattle.spindle_parts.proofs.Parties.{put_here, put_else, put_all, look_here, look_else, times_same, times_else}
 use Rattle.spindle_parts.proofs.Soundness.{Sound, sound, run_once}
 use Rattle.spindle.specs.RoundSlots.{Begins}
-use Rattle.spindle.specs.RoundRule.{Counters, IsLeft, InRange, InRest, IsWithin, Words, number_of}
+use Rattle.spindle.specs.RoundRule.{Counters, InRange, InRest, IsWithin, Words, number_of}
 use Rattle.spindle.proofs.RoundWords.{counts_stay, word_stays}
 
 pub or_false : (a b : Bool) → b ≡ false → (a || b) ≡ a

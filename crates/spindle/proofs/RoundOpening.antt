@@ -1,16 +1,14 @@
 -- A fresh table, and a new seat.
-use Rattle.std.proofs.Common.{◌≡◌, ◌≢◌, ◌⊎◌, inl, inr, ⊎_elim, ℕ, zero, suc, ◌+◌, ◌*◌, ◌<◌, ◌≤◌, Bool, true, false, List, [], ◌∷◌, ◌++◌, length, length-append, get_or, set, sym, refl, ap, ◌∙◌, subst, arith, Option, Some, None}
-use mathlib.Core.Option.{none, some, some-injective, some-ne-none}
+use Rattle.std.proofs.Common.{◌≡◌, ◌≢◌, ◌⊎◌, inl, inr, ⊎_elim, ℕ, zero, suc, ◌+◌, ◌*◌, ◌<◌, Bool, true, false, List, [], ◌∷◌, ◌++◌, length, length-append, get_or, sym, refl, ap, subst, arith, Some, None}
+use mathlib.Core.Option.{some, some-injective, some-ne-none}
 use lib.ListN.{get_elem?}
-use Rattle.atomic_table.specs.Table as table
-use Rattle.atomic_table.specs.Table.{Me, opening, Splits}
+use Rattle.atomic_table.specs.Table.{opening, Splits}
 use Rattle.atomic_table.proofs.Lists.{set_again}
 use Rattle.spindle_parts.specs.State.{State, Party, party, absent, fresh}
 use Rattle.spindle_parts.specs.Runs.{state}
-use Rattle.spindle.specs.declared.round_table.view.Standing.TheVariants.{Away, Inside}
 use Rattle.spindle.specs.declared.round_table.view.View.{View}
 use Rattle.spindle.specs.RoundSlots.{Discipline, Lawful}
-use Rattle.spindle.specs.RoundRule.{Shows, Words, Shown, Laid, deeds, deeds_of}
+use Rattle.spindle.specs.RoundRule.{Shows, Laid, deeds, deeds_of}
 use Rattle.spindle.specs.RoundSteps.{outsider}
 use Rattle.spindle.proofs.RoundMoves.{Rule}
 

@@ -1,13 +1,13 @@
 -- The fields of the barrier word, and what the other words show after a step on one of them.
-use Rattle.std.proofs.Common.{◌≡◌, ◌≢◌, ◌⊎◌, inl, inr, ⊎_elim, ℕ, zero, suc, ◌+◌, ◌-◌, ◌*◌, ◌/◌, ◌%◌, ◌^◌, ◌<◌, ◌≤◌, Bool, true, false, eqb, eq-eqb, ne_eqb, le-ltb, lt-ltb, List, [], ◌∷◌, ◌++◌, length, get_or, set, length-set, get_or-set_same, get_or-set_other, sym, refl, ap, ◌∙◌, subst, arith, Option, Some, None, if◌then◌else◌, ◌==◌, nat_lt}
+use Rattle.std.proofs.Common.{◌≡◌, ◌≢◌, inl, inr, ⊎_elim, ℕ, ◌+◌, ◌*◌, ◌/◌, ◌%◌, ◌<◌, ◌≤◌, Bool, true, false, eq-eqb, ne_eqb, le-ltb, lt-ltb, List, length, get_or, set, length-set, get_or-set_same, get_or-set_other, sym, refl, ap, ◌∙◌, subst, arith, Option, ◌==◌, nat_lt}
 use mathlib.Core.Logic.{dite}
 use native.Mathlib.Decide.{ℕ_discrete, dec_le}
-use Rattle.spindle_parts.specs.State.{State, Status, Party, Round, party_of, put_party, now, party, times, Free, inside, members, total, weight_in, weight_member, is_in, is_member, absent}
+use Rattle.spindle_parts.specs.State.{State, Status, Party, Round, party_of, put_party, now, party, times, Free, inside, members, total, absent}
 use Rattle.spindle_parts.specs.Steps.{with_status}
 use Rattle.spindle_parts.specs.BarrierWord.{word}
 use Rattle.spindle_parts.proofs.Parties.{look_here, look_else, total_put, inside_le_members}
 use Rattle.spindle_parts.proofs.Soundness.{Sound}
-use Rattle.spindle.specs.RoundRule.{Counters, IsLeft, InRange, InRest, Words, number_of}
+use Rattle.spindle.specs.RoundRule.{Counters, InRange, InRest, Words, number_of}
 
 -- where a test of two numbers decides
 pub by_less : (a b : ℕ) (P : Bool → Type 0) → (a < b → P true) → (b ≤ a → P false) → P (nat_lt a b)
@@ -30,27 +30,27 @@ fields n a b c e x y z = record { count = omega arith; most = omega arith; sense
 pub word_fields : (s : State) → Sound s → (n : ℕ) → n ≡ word s → Fields n (inside s.parties) (members s.parties) (s.round % 2)
 word_fields s h n e = let few = h.gate.few in let le = inside_le_members s.parties in let p : ℕ = s.round % 2 in let two : p ≤ 1 = omega arith in fields n (inside s.parties) (members s.parties) p e (omega arith) few two
 
--- a step on a word below the counters, which leaves what is free
-pub counters_stay : (t : ℕ) (s s' : State) (ws ws' : List ℕ) (n : ℕ) → ((i : ℕ) → 32 ≤ i → get_or ws' i 0 ≡ get_or ws i 0) → ((k : ℕ) → Free s k → Free s' k) → ((k : ℕ) → Free s' k → Free s k) → ((now s').stopped ≡ false → (now s).stopped ≡ false)
+-- a step that leaves the counters' words, and what is free
+pub counters_stay : (t : ℕ) (s s' : State) (ws ws' : List ℕ) (n : ℕ) → get_or ws' 32 0 ≡ get_or ws 32 0 → ((i : ℕ) → i < t → get_or ws' (40 + 8 * i) 0 ≡ get_or ws (40 + 8 * i) 0) → ((k : ℕ) → Free s k → Free s' k) → ((k : ℕ) → Free s' k → Free s k) → ((now s').stopped ≡ false → (now s).stopped ≡ false)
     → Counters t s ws n → Counters t s' ws' n
-counters_stay t s s' ws ws' n same on back stopped c = let e₄ = same 32 (omega arith) in record {
-  free = λ k f. ⊎_elim (λ (z : (i : ℕ) × (i < t) × InRange ws i k). inl (z.0, z.1, fore z.0 k z.2)) (λ (z : InRest ws n k). inr ((let a = z.0 in omega arith), z.1)) (c.free k (back k f));
-  ranges = λ i k lt z. on k (c.ranges i k lt (aft i k z));
+counters_stay t s s' ws ws' n rest same on back stopped c = let e₄ = rest in record {
+  free = λ k f. ⊎_elim (λ (z : (i : ℕ) × (i < t) × InRange ws i k). inl (z.0, z.1, fore z.0 k z.1 z.2)) (λ (z : InRest ws n k). inr ((let a = z.0 in omega arith), z.1)) (c.free k (back k f));
+  ranges = λ i k lt z. on k (c.ranges i k lt (aft i k lt z));
   rest = λ k z. on k (c.rest k (rest_aft k z));
   few = let a = c.few in omega arith;
-  home = λ st i k lt z. c.home (stopped st) i k lt (aft i k z);
-  apart = λ i j k a b x y. c.apart i j k a b (aft i k x) (aft j k y);
-  rest_apart = λ i k a x y. c.rest_apart i k a (aft i k x) (rest_aft k y);
+  home = λ st i k lt z. c.home (stopped st) i k lt (aft i k lt z);
+  apart = λ i j k a b x y. c.apart i j k a b (aft i k a x) (aft j k b y);
+  rest_apart = λ i k a x y. c.rest_apart i k a (aft i k a x) (rest_aft k y);
 }
   where
-    fore : (i k : ℕ) → InRange ws i k → InRange ws' i k
-    fore i k z = subst (λ (w : ℕ). (w % 4294967296 ≤ k) × (k < w / 4294967296)) (sym (same (40 + 8 * i) (omega arith))) z
+    fore : (i k : ℕ) → i < t → InRange ws i k → InRange ws' i k
+    fore i k lt z = subst (λ (w : ℕ). (w % 4294967296 ≤ k) × (k < w / 4294967296)) (sym (same i lt)) z
 
-    aft : (i k : ℕ) → InRange ws' i k → InRange ws i k
-    aft i k z = subst (λ (w : ℕ). (w % 4294967296 ≤ k) × (k < w / 4294967296)) (same (40 + 8 * i) (omega arith)) z
+    aft : (i k : ℕ) → i < t → InRange ws' i k → InRange ws i k
+    aft i k lt z = subst (λ (w : ℕ). (w % 4294967296 ≤ k) × (k < w / 4294967296)) (same i lt) z
 
     rest_aft : (k : ℕ) → InRest ws' n k → InRest ws n k
-    rest_aft k z = let e = same 32 (omega arith) in ((let a = z.0 in omega arith), z.1)
+    rest_aft k z = let e = rest in ((let a = z.0 in omega arith), z.1)
 
 module _ (t : ℕ) where
   -- a step on the barrier word alone, which leaves the round and what the parties have taken
@@ -61,7 +61,7 @@ module _ (t : ℕ) where
     published = other 8 (λ e. omega arith) ∙ (w.published ∙ (λ i. number_of (sym shown i) (sym round i).stoppable));
     finished = λ some. other 16 (λ e. omega arith) ∙ (w.finished (λ e. some (shown ∙ e)) ∙ ap (λ (r : Round). length r.finished) (sym round));
     stopped = λ some. let old = w.stopped (λ e. some (shown ∙ e)) in let same = ap (λ (r : Round). r.stopped) (sym round) in ((λ e. other 24 (λ e. omega arith) ∙ old.0 (same ∙ e)), (λ e. other 24 (λ e. omega arith) ∙ old.1 (same ∙ e)));
-    counters = λ n e. counters_stay t s s' ws (set ws 0 x) n (λ i le. other i (λ z. omega arith)) (λ k f. freed s s' (sym round) taken k f) (λ k f. freed s' s round (λ a k. sym (taken a k)) k f)
+    counters = λ n e. counters_stay t s s' ws (set ws 0 x) n (other 32 (λ z. omega arith)) (λ i lt. other (40 + 8 * i) (λ z. omega arith)) (λ k f. freed s s' (sym round) taken k f) (λ k f. freed s' s round (λ a k. sym (taken a k)) k f)
         (λ e. sym (ap (λ (r : Round). r.stopped) round) ∙ e) (w.counters n (sym shown ∙ e));
     barren = λ z. shown ∙ w.barren z;
   }

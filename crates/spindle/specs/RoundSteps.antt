@@ -321,9 +321,9 @@ IsDone v = (v.known.unpublished ≡ true) ⊎ ((v.known.seen_stop ≡ true) ⊎ 
 abbrev pub MayFill : {N : Type 0} → View N → Type 0
 MayFill v = ((q : ℕ) × (v.standing ≡ Inside q)) × (v.known.unpublished ≡ true)
 
--- and it has stored all words for n, and put what n jobs need into the slots
-abbrev pub MayPublish : {S N : Type 0} → Discipline S N → ℕ → View N → Type 0
-MayPublish D n v = (q : ℕ) × (v.standing ≡ Inside q) × (v.known.unpublished ≡ true) × IsFilled v.threads n v.known.stored × D.may_publish q n v.board
+-- and it has stored all words for n jobs on t threads, and put what n jobs need into the slots
+abbrev pub MayPublish : {S N : Type 0} → Discipline S N → ℕ → ℕ → View N → Type 0
+MayPublish D t n v = (q : ℕ) × (v.standing ≡ Inside q) × (v.known.unpublished ≡ true) × IsFilled t n v.known.stored × D.may_publish q n v.board
 
 -- the sense that a party keeps for its next look
 abbrev pub HasSense : Standing → ℕ → Type 0

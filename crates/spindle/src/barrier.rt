@@ -5,10 +5,10 @@ ghost use Rattle.spindle.specs.RoundSteps.{outsider, new_view, HasSense};
 ghost use Rattle.spindle.specs.declared.round_table.view.Standing.TheVariants.{Away};
 ghost use Rattle.spindle.specs.declared.barrier.steps.JoinStep.TheVariants.{Joined};
 
+use self::steps::{JoinStep, join};
 use crate::round_table::plays::NewSeat;
 use crate::round_table::slots::{Bare, Slots};
 use crate::round_table::{APART, RANGES, RoundTable, Seat};
-use self::steps::{JoinStep, join};
 use atomic_table::Table;
 use spindle_parts::fault::Fault;
 use std::alloc::Global;

@@ -2,10 +2,9 @@
 //! in the order of the items.
 #![tactic(auto)]
 
-pub mod lock;
 pub mod barrier;
+pub mod lock;
 pub mod round;
 pub mod round_table;
-
 #[cfg(test)]
 mod tests;

@@ -3,13 +3,15 @@ ghost use Rattle.std.specs.Prelude.{◌≡◌, ◌≤◌, [], true, IfOk, OnErr,
 ghost use Rattle.spindle.specs.RoundSteps.{outsider};
 
 use crate::barrier::BarrierInit;
-use crate::round_table::slots::{Bare, Slots};
 use crate::round_table::Seat;
+use crate::round_table::slots::{Bare, Slots};
 use spindle_parts::fault::Fault;
 use std::alloc::Global;
 
+pub mod claim;
 pub mod claiming;
 pub mod publishing;
+pub mod stopping;
 
 /// The rounds of a table, with the barrier that ends them.
 #[derive(Drop)]

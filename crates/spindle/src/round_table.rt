@@ -27,12 +27,17 @@ pub mod slots;
 pub mod view;
 
 pub const BARRIER: usize = 0;
+
 pub const PUBLISHED: usize = 8;
+
 pub const FINISHED: usize = 16;
+
 pub const STOPPED: usize = 24;
+
 pub const REST: usize = 32;
 /// The first range, and how far one word is from the next.
 pub const RANGES: usize = 40;
+
 pub const APART: usize = 8;
 
 /// The rule: between any two atomic steps there is a run that ends in a state which words and seats show.

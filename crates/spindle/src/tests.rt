@@ -3,7 +3,7 @@
 use crate::barrier::JoinRefused;
 use crate::barrier::steps::Arrival;
 use crate::round::Round;
-use crate::round::claiming::{Claim, Claimed};
+use crate::round::claim::{Claim, Claimed};
 use std::test::Fail;
 
 #[test]

@@ -15,7 +15,9 @@ use crate::round_table::{BARRIER, Seat, SharedWords};
 const PARTY: u64 = 65537;
 /// Where the number of members starts, the one past its bits, and the sense.
 const MOST: u64 = 65536;
+
 const FIELD: u64 = 32768;
+
 const SENSE: u64 = 2147483648;
 
 /// What came of one attempt to join.
@@ -33,6 +35,33 @@ pub enum Arrival {
     Arrived,
     /// It was the last, and closes the round.
     Closer,
+}
+
+/// What a party that has arrived sees of its round.
+#[derive(Clone, Copy, Debug, PartialEq, Eq)]
+pub enum Look {
+    /// Its own sense stands in the word.
+    Ended,
+    /// Some member hasn't arrived.
+    Running,
+    /// All have arrived, and the closer is about to end the round.
+    Closing,
+}
+
+/// What came of one attempt to leave.
+pub enum LeaveStep {
+    Left,
+    Ended,
+    Closing,
+    Again,
+}
+
+/// What came of one attempt to exit.
+pub enum ExitStep {
+    Gone,
+    /// The others have arrived, so the party is the closer, though no member.
+    Closer,
+    Again,
 }
 
 pub(crate) fn join<D: Slots>(words: &SharedWords<D>, seat: &mut Seat<D>) -> JoinStep
@@ -75,7 +104,11 @@ impl<'a, D: Slots> Barrier<'a, D> {
         ensures step { ArrivedBy result self.old.seat.me self.new.seat.me }
         ensures sense { HasSense self.new.seat.me.0.standing self.new.sense × (self.new.init ≡ self.old.init) × (self.new.thread_id ≡ self.old.thread_id) }
     {
-        let found = self.init.table.shared.fetch_sub::<Arrives>(&mut self.seat, BARRIER, 1);
+        let found = self
+            .init
+            .table
+            .shared
+            .fetch_sub::<Arrives>(&mut self.seat, BARRIER, 1);
         self.sense = 1 - self.sense;
         if found % FIELD == 1 {
             Arrival::Closer

@@ -4,35 +4,13 @@ ghost use Rattle.spindle.specs.RoundAnswers.{OwnClaimed};
 ghost use Rattle.spindle.specs.RoundSteps.{MayClaim};
 
 use crate::round::Round;
+use crate::round::claim::{Claim, Claimed};
 use crate::round_table::plays::{Claims, Searches};
 use crate::round_table::slots::Slots;
 use crate::round_table::{APART, RANGES, Seat};
 
 /// Where the end of a range starts.
 const HIGH: u64 = 4294967296;
-
-/// A number that a party has begun. It must be spent by `Round::finish`.
-pub struct Claimed {
-    pub number: u64,
-}
-
-impl Claimed {
-    /// The number of the job.
-    pub fn number(&self) -> u64
-        ensures { result ≡ self.now.number }
-    {
-        self.number
-    }
-}
-
-/// What came of a claim.
-pub enum Claim {
-    Job(Claimed),
-    /// The words that were asked were read as empty in this call.
-    Nothing,
-    /// Another step came between.
-    Again,
-}
 
 impl<D: Slots> Round<D> {
     /// Claims the first number of the range of thread t.

@@ -20,7 +20,7 @@ impl<D: Slots> Round<D> {
 
     /// Stores a round of n jobs: nothing finished, not stopped, the remainder, and each thread's range.
     pub fn fill(&self, seat: &mut Seat<D>, jobs: u64)
-        requires seated { (seat.old.table_id ≡ self.now.init.table.shared.table_id) × (seat.old.me.0.threads ≡ self.now.init.threads) }
+        requires seated { seat.old.table_id ≡ self.now.init.table.shared.table_id }
         requires leads { MayFill seat.old.me.0 }
         requires counted { (2 ≤ jobs) × (jobs ≤ 4294967295) }
         requires ranges { 0 < self.now.init.threads }
@@ -35,19 +35,26 @@ impl<D: Slots> Round<D> {
         let part = jobs / threads;
         for i in 0..self.init.threads {
             let start = part * i as u64;
-            words.store::<Fills>(seat, RANGES + APART * i, start + 4294967296 * (start + part));
+            words.store::<Fills>(
+                seat,
+                RANGES + APART * i,
+                start + 4294967296 * (start + part),
+            );
         }
     }
 
     /// Publishes the n jobs that were filled: from now on every member may claim them.
     pub fn publish(&self, seat: &mut Seat<D>, jobs: u64)
-        requires seated { (seat.old.table_id ≡ self.now.init.table.shared.table_id) × (seat.old.me.0.threads ≡ self.now.init.threads) }
-        requires leads { MayPublish D.discipline jobs seat.old.me.0 }
+        requires seated { seat.old.table_id ≡ self.now.init.table.shared.table_id }
+        requires leads { MayPublish D.discipline self.now.init.threads jobs seat.old.me.0 }
         requires counted { (2 ≤ jobs) × (jobs ≤ 4294967295) }
         requires ranges { 0 < self.now.init.threads }
         ensures seat { (seat.new.table_id ≡ seat.old.table_id) × (seat.new.id ≡ seat.old.id) }
         ensures step { seat.new.me ≡ (publishing false jobs seat.old.me.0, seat.old.me.1) }
     {
-        self.init.table.shared.store::<Publishes>(seat, PUBLISHED, jobs);
+        self.init
+            .table
+            .shared
+            .store::<Publishes>(seat, PUBLISHED, jobs);
     }
 }

@@ -1,5 +1,5 @@
 -- A new seat keeps the table's rule.
-use Rattle.std.proofs.Common.{rules, arith, ap, ◌≡◌}
+use Rattle.std.proofs.Common.{rules, arith}
 use Rattle.spindle.proofs.RoundOpening.{splits}
 use Rattle.spindle.proofs.barrier.BarrierInit.new_seat.Goals as goal
 

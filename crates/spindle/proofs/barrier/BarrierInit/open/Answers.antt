@@ -1,5 +1,5 @@
 -- A fresh table meets its rule.
-use Rattle.std.proofs.Common.{rules, ap, ◌≡◌, ◌∙◌, arith, get_or, ℕ, zero, suc, ◌+◌, ◌*◌, List, [], replicate, refl}
+use Rattle.std.proofs.Common.{ap, ◌≡◌, ◌∙◌, get_or, ℕ, zero, suc, ◌+◌, ◌*◌, List, replicate, refl}
 use Rattle.spindle.proofs.RoundOpening.{opens}
 use Rattle.spindle.proofs.barrier.BarrierInit.open.Goals as goal
 

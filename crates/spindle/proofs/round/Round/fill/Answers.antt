@@ -1,5 +1,5 @@
 -- Each store of `fill` keeps the table's rule, and the next word stands.
-use Rattle.std.proofs.Common.{rules, arith, ◌≡◌, ◌∙◌, ℕ, ◌+◌, ◌*◌, ◌/◌, ◌<◌, ◌≤◌, zero, suc, ap, sym, refl, subst, [], ◌%◌}
+use Rattle.std.proofs.Common.{rules, arith, ◌≡◌, ◌∙◌, ℕ, ◌+◌, ◌*◌, ◌/◌, suc, ap, sym, refl, subst, [], ◌%◌}
 use Rattle.spindle.specs.RoundSteps.{MayFill, filling}
 use Rattle.spindle.specs.RoundAnswers.{FilledUpTo}
 use Rattle.spindle.specs.RoundRule.{fill_value}
@@ -16,9 +16,12 @@ pub store-requires-3 : goal.store-requires-3
 store-requires-3 g c = let l = subst MayFill (sym c.store-2.ensures.2.1) (subst MayFill (sym c.store.ensures.2.1) c.requires.leads) in (search rules, omega arith, fills g.D.Slots.discipline g.met.D.Slots.lawful _ _ _ _ _ 2 _ (omega arith) l.0.1 l.1)
 
 pub loop-i-init : goal.loop-i-init
-loop-i-init g c = let t = c.args.self.now.init.threads in let n = c.args.jobs in let v = c.args.seat.now.me.0 in let e = c.store-3.ensures.2.1 in
-    (search rules, search rules, c.store-3.ensures.2.0 ∙ (c.store-2.ensures.2.0 ∙ c.store.ensures.2.0),
-    filled_more t n v 2 (n % t) _ _ (filled_more t n v 1 0 _ _ (filled_first t n v _ [] c.store.ensures.2.1) refl c.store-2.ensures.2.1) refl c.store-3.ensures.2.1)
+loop-i-init g c = let t = c.args.self.now.init.threads in let n = c.args.jobs in let v = c.args.seat.now.me.0 in let e = c.store-3.ensures.2.1 in (
+  search rules,
+  search rules,
+  c.store-3.ensures.2.0 ∙ (c.store-2.ensures.2.0 ∙ c.store.ensures.2.0),
+  filled_more t n v 2 (n % t) _ _ (filled_more t n v 1 0 _ _ (filled_first t n v _ [] c.store.ensures.2.1) refl c.store-2.ensures.2.1) refl c.store-3.ensures.2.1,
+)
 
 pub store-requires-in-loop-i : goal.store-requires-in-loop-i
 store-requires-in-loop-i g c = let i = c.loop-i.i in let f = c.loop-i.invariant.3 in let l = subst MayFill (sym f.2) c.requires.leads in

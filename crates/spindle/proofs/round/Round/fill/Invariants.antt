@@ -1,5 +1,5 @@
 -- The words of the first ranges stand.
-use Rattle.std.proofs.Common.{◌≡◌, ◌<◌, ◌≤◌, ℕ, ◌+◌, ◌/◌}
+use Rattle.std.proofs.Common.{◌≡◌, ◌+◌}
 use Rattle.spindle.specs.RoundAnswers.{FilledUpTo}
 use Rattle.spindle.proofs.round.Round.fill.Given as goal
 

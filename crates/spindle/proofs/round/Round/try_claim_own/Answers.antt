@@ -1,5 +1,5 @@
 -- The load and the exchange of a claim keep the table's rule.
-use Rattle.std.proofs.Common.{rules, arith, subst, sym, refl, ◌≡◌}
+use Rattle.std.proofs.Common.{rules, arith, subst, sym, refl}
 use Rattle.spindle.specs.RoundSteps.{MayClaim}
 use Rattle.spindle.proofs.KeptLoads.{searches}
 use Rattle.spindle.proofs.KeptClaims.{claims}
