@@ -15,7 +15,8 @@ use Rattle.spindle.specs.declared.round_table.view.Standing.TheVariants.{Away, I
 use Rattle.spindle.specs.declared.round_table.view.View.{View}
 use Rattle.spindle.specs.RoundSlots.{Discipline, Lawful}
 use Rattle.spindle.specs.RoundRule.{Deed, deeds, Stands, Knows, Shows, IsShare, IsListed}
-use Rattle.spindle.specs.RoundSteps.{joined, joining, missing, arrived, arriving, round_of, looked, looking, loading, standing, unknown, read_by_closer, closing_read, with_word, IsDone}
+use Rattle.spindle.specs.RoundSteps.{joined, joining, missing, arrived, arriving, round_of, looked, looking, loading, standing, unknown, read_by_closer, closing_read, with_word}
+use Rattle.spindle.specs.RoundConditions.{IsDone}
 use Rattle.spindle.proofs.RoundMoves.{Rule, SeatOf, Before, turns, misses, moves, stays, noted_shows, untrue}
 use Rattle.spindle.proofs.RoundWords.{word_fields, by_equal, status_words}
 use Rattle.spindle.proofs.KeptLoads.{used_up}

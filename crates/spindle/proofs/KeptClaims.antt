@@ -15,7 +15,8 @@ use Rattle.spindle.specs.declared.round_table.view.Standing.TheVariants.{Inside}
 use Rattle.spindle.specs.declared.round_table.view.View.{View}
 use Rattle.spindle.specs.RoundSlots.{Discipline, Lawful}
 use Rattle.spindle.specs.RoundRule.{Began, deeds, Stands, Counters, IsWithin, home_of}
-use Rattle.spindle.specs.RoundSteps.{claimed, claiming, start_of, beginning, round_of, MayClaim}
+use Rattle.spindle.specs.RoundSteps.{claimed, claiming, start_of, beginning, round_of}
+use Rattle.spindle.specs.RoundConditions.{MayClaim}
 use Rattle.spindle.proofs.RoundMoves.{Rule, SeatOf, Before, begins_by, moves_with, still_laid}
 use Rattle.spindle.proofs.RoundNumbers.{or_false, or_right, true_or, with_some, taken_first, then_begun, first_party, last_party, last_round, last_words, was_free, range_taken, begun_here}
 

@@ -1,5 +1,6 @@
 pub mod RoundSlots
 pub mod RoundRule
 pub mod RoundSteps
+pub mod RoundConditions
 pub mod RoundAnswers
 pub mod Seats

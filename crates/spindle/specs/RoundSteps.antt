@@ -10,7 +10,7 @@ use Rattle.spindle.specs.declared.round_table.view.Kind.TheVariants as kind
 use Rattle.spindle.specs.declared.round_table.view.Known.{Known}
 use Rattle.spindle.specs.declared.round_table.view.View.{View}
 use Rattle.spindle.specs.RoundSlots.{Discipline}
-use Rattle.spindle.specs.RoundRule.{number_of, IsListed, IsFilled}
+use Rattle.spindle.specs.RoundRule.{number_of}
 
 -- the fields of a barrier word
 abbrev pub count_of : ℕ → ℕ
@@ -302,32 +302,3 @@ putting i found v = record (noted (trace i kind.PutBack found (range_word v.from
 
 abbrev pub put : {S N : Type 0} → Step S → Me S (View N) → ℕ → Me S (View N) → Type 0
 put st = Exchanges (putting st.word) st
-
--- What a call asks of its seat.
-
--- a member that hasn't arrived, has nothing to finish and no number left in its share
-abbrev pub IsFreeInside : {N : Type 0} → View N → Type 0
-IsFreeInside v = (q : ℕ) × (v.standing ≡ Inside q) × (v.claim ≡ None) × (v.to ≤ v.from)
-
--- it may claim: it knows the number published, and hasn't seen the stop
-abbrev pub MayClaim : {N : Type 0} → View N → Type 0
-MayClaim v = IsFreeInside v × ((n : ℕ) × (v.known.number ≡ Some n)) × (v.known.seen_stop ≡ false)
-
--- it knows that nothing of the round is left for it
-abbrev pub IsDone : {N : Type 0} → View N → Type 0
-IsDone v = (v.known.unpublished ≡ true) ⊎ ((v.known.seen_stop ≡ true) ⊎ ((v.threads ≡ 0) ⊎ ((n : ℕ) × (v.known.number ≡ Some n) × ((i : ℕ) → i ≤ v.threads → IsListed i v.known.emptied))))
-
--- the leader, inside a round in which it has published nothing
-abbrev pub MayFill : {N : Type 0} → View N → Type 0
-MayFill v = ((q : ℕ) × (v.standing ≡ Inside q)) × (v.known.unpublished ≡ true)
-
--- and it has stored all words for n jobs on t threads, and put what n jobs need into the slots
-abbrev pub MayPublish : {S N : Type 0} → Discipline S N → ℕ → ℕ → View N → Type 0
-MayPublish D t n v = (q : ℕ) × (v.standing ≡ Inside q) × (v.known.unpublished ≡ true) × IsFilled t n v.known.stored × D.may_publish q n v.board
-
--- the sense that a party keeps for its next look
-abbrev pub HasSense : Standing → ℕ → Type 0
-HasSense Away b = Unit {0}
-HasSense (Inside q) b = b ≡ q % 2
-HasSense (Waiting q quiet) b = b ≡ (q + 1) % 2
-HasSense (Closing q member was at) b = b ≡ (q + 1) % 2

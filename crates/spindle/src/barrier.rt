@@ -1,7 +1,8 @@
 //! The barrier of a round table: parties join, arrive, leave and exit, and whoever comes last closes the round.
 ghost use Rattle.std.specs.Prelude.{◌≡◌, ◌+◌, ◌*◌, ◌≤◌, [], true, IfOk, IfErr, OnErr, IsErrOf};
 ghost use Rattle.spindle.specs.RoundAnswers.{JoinedBy, JoinRefusedBy};
-ghost use Rattle.spindle.specs.RoundSteps.{outsider, new_view, HasSense};
+ghost use Rattle.spindle.specs.RoundSteps.{outsider, new_view};
+ghost use Rattle.spindle.specs.RoundConditions.{HasSense};
 ghost use Rattle.spindle.specs.declared.round_table.view.Standing.TheVariants.{Away};
 ghost use Rattle.spindle.specs.declared.barrier.steps.JoinStep.TheVariants.{Joined};
 

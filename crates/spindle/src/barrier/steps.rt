@@ -3,7 +3,7 @@ ghost use Rattle.std.specs.Prelude.{◌≡◌, ◌<◌};
 ghost use Rattle.spindle.specs.RoundAnswers.{JoinedBy, ArrivedBy};
 ghost use Rattle.spindle.specs.Seats.{LendsSeat};
 ghost use Rattle.std.specs.Borrow.{sem};
-ghost use Rattle.spindle.specs.RoundSteps.{IsFreeInside, IsDone, HasSense};
+ghost use Rattle.spindle.specs.RoundConditions.{IsFreeInside, IsDone, HasSense};
 ghost use Rattle.spindle.specs.declared.round_table.view.Standing.TheVariants.{Away};
 
 use crate::barrier::{Barrier, MASK};

@@ -1,7 +1,7 @@
 //! Claims: by one exchange each, a number begins.
 ghost use Rattle.std.specs.Prelude.{◌≡◌, ◌<◌};
 ghost use Rattle.spindle.specs.RoundAnswers.{OwnClaimed};
-ghost use Rattle.spindle.specs.RoundSteps.{MayClaim};
+ghost use Rattle.spindle.specs.RoundConditions.{MayClaim};
 
 use crate::round::Round;
 use crate::round::claim::{Claim, Claimed};

@@ -1,7 +1,8 @@
 //! The leader's part of a round, and the published word.
 ghost use Rattle.std.specs.Prelude.{◌≡◌, ◌<◌, ◌≤◌, false};
 ghost use Rattle.spindle.specs.RoundAnswers.{FilledBy};
-ghost use Rattle.spindle.specs.RoundSteps.{MayFill, MayPublish, learning, publishing};
+ghost use Rattle.spindle.specs.RoundSteps.{learning, publishing};
+ghost use Rattle.spindle.specs.RoundConditions.{MayFill, MayPublish};
 
 use crate::round::Round;
 use crate::round_table::plays::{Fills, Learns, Publishes};

@@ -1,6 +1,7 @@
 -- Each store of `fill` keeps the table's rule, and the next word stands.
 use Rattle.std.proofs.Common.{rules, arith, ◌≡◌, ◌∙◌, ℕ, ◌+◌, ◌*◌, ◌/◌, suc, ap, sym, refl, subst, [], ◌%◌}
-use Rattle.spindle.specs.RoundSteps.{MayFill, filling}
+use Rattle.spindle.specs.RoundSteps.{filling}
+use Rattle.spindle.specs.RoundConditions.{MayFill}
 use Rattle.spindle.specs.RoundAnswers.{FilledUpTo}
 use Rattle.spindle.specs.RoundRule.{fill_value}
 use Rattle.spindle.proofs.KeptFill.{fills, fills_range, filled_first, filled_more}

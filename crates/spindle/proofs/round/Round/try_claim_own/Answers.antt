@@ -1,6 +1,6 @@
 -- The load and the exchange of a claim keep the table's rule.
 use Rattle.std.proofs.Common.{rules, arith, subst, sym, refl}
-use Rattle.spindle.specs.RoundSteps.{MayClaim}
+use Rattle.spindle.specs.RoundConditions.{MayClaim}
 use Rattle.spindle.proofs.KeptLoads.{searches}
 use Rattle.spindle.proofs.KeptClaims.{claims}
 use Rattle.spindle.proofs.round.Round.try_claim_own.Goals as goal
