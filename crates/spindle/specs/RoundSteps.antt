@@ -119,10 +119,8 @@ exited = Exchanges exiting
 
 -- the closer reads the barrier word, which stands
 abbrev pub with_word : ℕ → Standing → Standing
-with_word n Away = Away
-with_word n (Inside q) = Inside q
-with_word n (Waiting q quiet) = Waiting q quiet
 with_word n (Closing q member cleared at) = Closing q member cleared (Some n)
+with_word n st = st
 
 abbrev pub closing_read : {N : Type 0} → ℕ → View N → View N
 closing_read found v = loading 0 found (record v { standing = with_word found v.standing })
@@ -132,10 +130,8 @@ read_by_closer st m found m' = (m'.1 ≡ m.1) × (m'.0 ≡ closing_read found m.
 
 -- the published word becomes 0
 abbrev pub cleared : Standing → Standing
-cleared Away = Away
-cleared (Inside q) = Inside q
-cleared (Waiting q quiet) = Waiting q quiet
 cleared (Closing q member was at) = Closing q member true at
+cleared st = st
 
 abbrev pub clearing : {N : Type 0} → ℕ → View N → View N
 clearing stored v = noted (trace 8 kind.Clear stored stored) (record v { standing = cleared v.standing })
@@ -149,11 +145,8 @@ turned_word n = most_of n + 65536 * most_of n + 2147483648 * (1 - sense_of n)
 
 -- the closer is in the next round where it is a member, and else it is out
 abbrev pub after_end : Bool → Standing → Known × Standing
-after_end leads Away = (unknown false false, Away)
-after_end leads (Inside q) = (unknown false false, Inside q)
-after_end leads (Waiting q quiet) = (unknown false false, Waiting q quiet)
 after_end leads (Closing q true was at) = (unknown leads false, Inside (q + 1))
-after_end leads (Closing q false was at) = (unknown false false, Away)
+after_end leads _ = (unknown false false, Away)
 
 abbrev pub ending : {N : Type 0} → ℕ → View N → View N
 ending stored v = let x = after_end v.leader v.standing in noted (trace 0 kind.End stored stored) (standing x.1 x.0 v)
