@@ -7,3 +7,5 @@ pub mod KeptFill
 pub mod RoundNumbers
 pub mod KeptClaims
 pub mod RoundOpening
+pub mod KeptSteals
+pub mod RoundSearch

@@ -1,6 +1,8 @@
+pub mod Spans
 pub mod RoundSlots
 pub mod RoundRule
 pub mod RoundSteps
 pub mod RoundConditions
 pub mod RoundAnswers
 pub mod Seats
+pub mod Done
