@@ -9,3 +9,5 @@ pub mod KeptClaims
 pub mod RoundOpening
 pub mod KeptSteals
 pub mod RoundSearch
+pub mod RoundChanges
+pub mod KeptShares

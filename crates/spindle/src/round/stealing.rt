@@ -1,5 +1,5 @@
 //! Steals: a thief takes the last half of the longest range in one exchange, and spends it number by number.
-ghost use Rattle.std.specs.Prelude.{◌≡◌, ◌<◌, ℕ};
+ghost use Rattle.std.specs.Prelude.{◌≡◌, ◌+◌, ◌<◌, ℕ};
 ghost use Rattle.spindle.specs.RoundAnswers.{ReadAll, StolenBy, SharedBy};
 ghost use Rattle.spindle.specs.RoundSteps.{length_of, stolen_from, end_of, start_of};
 ghost use Rattle.spindle.specs.RoundConditions.{MayClaim, MayBegin, IsItsShare};
@@ -72,5 +72,36 @@ impl<D: Slots> Round<D> {
         } else {
             Steal::Again
         }
+    }
+}
+
+impl<D: Slots> Round<D> {
+    /// Begins the first number of a share, and stores what is left of it in the share word of thread t, which nobody
+    /// reads. `None`, without a step, where the share is empty.
+    pub fn next_of_share(
+        &self,
+        seat: &mut Seat<D>,
+        t: usize,
+        share: &mut Share,
+    ) -> Option<Claimed>
+        requires seated { seat.old.table_id ≡ self.now.init.table.shared.table_id }
+        requires thread { t < self.now.init.threads }
+        requires free { MayBegin seat.old.me.0 }
+        requires own { IsItsShare share.old seat.old.me.0 }
+        ensures seat { (seat.new.table_id ≡ seat.old.table_id) × (seat.new.id ≡ seat.old.id) }
+        ensures step { SharedBy D.discipline (self.now.init.threads + t) share.old result share.new seat.old.me seat.new.me }
+    {
+        let (first, end) = share.bounds();
+        if first == end {
+            return None;
+        }
+        let word = RANGES + APART * (self.init.threads + t);
+        let left = first + 1 + HIGH * end;
+        self.init
+            .table
+            .shared
+            .store::<TakesShare<D>>(seat, word, left);
+        share.drop_first();
+        Some(Claimed::new(first))
     }
 }
