@@ -11,3 +11,4 @@ pub mod KeptSteals
 pub mod RoundSearch
 pub mod RoundChanges
 pub mod KeptShares
+pub mod KeptFinish

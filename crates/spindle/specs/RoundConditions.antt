@@ -1,5 +1,6 @@
 -- What a call on a round table asks of its seat.
 use Rattle.std.specs.Prelude.{◌≡◌, ◌⊎◌, ℕ, ◌+◌, ◌%◌, ◌≤◌, true, false, Some, None}
+use Rattle.atomic_table.specs.Table.{Me}
 use Rattle.spindle.specs.declared.round_table.view.Standing.{Standing}
 use Rattle.spindle.specs.declared.round_table.view.Standing.TheVariants.{Away, Inside, Waiting, Closing}
 use Rattle.spindle.specs.declared.round_table.view.View.{View}
@@ -45,6 +46,10 @@ IsItsShare share v = (share.from ≡ v.from) × (share.to ≡ v.to)
 -- it has begun the number k, and may finish it
 abbrev pub MayFinish : {N : Type 0} → ℕ → View N → Type 0
 MayFinish k v = ((q : ℕ) × (v.standing ≡ Inside q)) × (v.claim ≡ Some k)
+
+-- the slot of the claim k may go back
+abbrev pub MayGive : {S N : Type 0} → Discipline S N → ℕ → Me S (View N) → Type 0
+MayGive D k m = D.may_give k m.0.note m.1
 
 -- and the round may stop, as it knows
 abbrev pub MayStop : {N : Type 0} → ℕ → View N → Type 0

@@ -10,6 +10,7 @@ use std::alloc::Global;
 
 pub mod claim;
 pub mod claiming;
+pub mod finishing;
 pub mod publishing;
 pub mod stealing;
 pub mod stopping;
