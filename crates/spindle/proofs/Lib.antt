@@ -12,3 +12,4 @@ pub mod RoundSearch
 pub mod RoundChanges
 pub mod KeptShares
 pub mod KeptFinish
+pub mod KeptStops

@@ -1,5 +1,5 @@
 -- What each answer of a round table's calls says of the values that were found in the call.
-use Rattle.std.specs.Prelude.{◌≡◌, ◌≢◌, ◌⊎◌, ℕ, ◌+◌, ◌-◌, ◌*◌, ◌%◌, ◌<◌, ◌≤◌, Bool, List, [], ◌∷◌, ◌++◌, length, slice_index, Option, Some, None}
+use Rattle.std.specs.Prelude.{◌≡◌, ◌≢◌, ◌⊎◌, ℕ, ◌+◌, ◌-◌, ◌*◌, ◌%◌, ◌<◌, ◌≤◌, Bool, if◌then◌else◌, List, [], ◌∷◌, ◌++◌, length, slice_index, Option, Some, None}
 use Rattle.atomic_table.specs.Table.{Me, carried_after}
 use Rattle.atomic_table.specs.declared.shared.Seat.{Seat}
 use Rattle.spindle.specs.declared.round_table.view.View.{View}
@@ -26,7 +26,7 @@ use Rattle.spindle_parts.specs.declared.trail.Trace.{Trace}
 use Rattle.spindle.specs.Spans.{Span}
 use Rattle.spindle.specs.RoundSlots.{Discipline}
 use Rattle.spindle.specs.RoundRule.{stored_at, fill_value, deeds_of}
-use Rattle.spindle.specs.RoundSteps.{loading, missing, joining, arriving, looking, leaving, exiting, closing_read, ending, turned_word, claiming, searching, stealing, stolen_from, length_of, resting, reading_rest, recalling, sharing, range_word, finishing, putting, count_of, most_of, sense_of, start_of, end_of}
+use Rattle.spindle.specs.RoundSteps.{loading, missing, joining, arriving, looking, leaving, exiting, closing_read, ending, turned_word, claiming, searching, stealing, stolen_from, length_of, resting, reading_rest, recalling, sharing, range_word, finishing, seeing, putting, count_of, most_of, sense_of, start_of, end_of}
 
 -- of the words for n jobs the first j stand, and nothing has changed but what the leader has stored and the trail
 abbrev pub FilledUpTo : {N : Type 0} → ℕ → ℕ → ℕ → View N → View N → Type 0
@@ -122,6 +122,10 @@ module _ {S N : Type 0} where
   -- a finish: one more is counted, and the claim's slot goes back
   abbrev pub FinishedBy : Discipline S N → Me S (View N) → Me S (View N) → Type 0
   FinishedBy D m w = (found : ℕ) × (w ≡ (finishing found m.0, carried_after m.1 D.gives))
+
+  -- the word `stopped` says whether the round was stopped
+  abbrev pub SeenBy : Bool → Me S (View N) → Me S (View N) → Type 0
+  SeenBy stopped m w = w ≡ (seeing (if stopped then 1 else 0) m.0, m.1)
 
   -- what is left in the place i: a range, or the remainder
   abbrev pub LeftOver : ℕ → ℕ → ℕ → Me S (View N) → Me S (View N) → Type 0
