@@ -1,15 +1,13 @@
 -- The fetch_add with which a number finishes.
-use Rattle.std.proofs.Common.{◌≡◌, ◌≢◌, ◌⊎◌, inl, inr, ⊎_elim, ℕ, zero, suc, ◌+◌, ◌*◌, ◌%◌, ◌^◌, ◌<◌, ◌≤◌, Bool, true, false, eq-eqb, List, [], ◌∷◌, ◌++◌, length, length-append, get_or, set, get_or-set_same, get_or-set_other, sym, refl, ap, ◌∙◌, subst, arith, Option, Some, None, if◌then◌else◌, ◌==◌}
+use Rattle.std.proofs.Common.{◌≡◌, ◌≢◌, ◌⊎◌, inl, inr, ⊎_elim, ℕ, zero, suc, ◌+◌, ◌*◌, ◌%◌, ◌^◌, ◌<◌, ◌≤◌, Bool, true, eq-eqb, List, [], ◌∷◌, ◌++◌, length, length-append, get_or, set, get_or-set_same, get_or-set_other, sym, refl, ap, ◌∙◌, subst, arith, Option, Some, None, if◌then◌else◌}
 use mathlib.Core.Logic.{dite}
 use mathlib.Core.Option.{none, some}
 use native.Mathlib.Decide.{ℕ_discrete}
 use lib.ListN.{get_elem?}
-use Rattle.atomic_table.specs.Table as table
-use Rattle.atomic_table.specs.Table.{Me, step, Allows}
+use Rattle.atomic_table.specs.Table.{step, Allows}
 use Rattle.spindle_parts.specs.State.{State, Party, Round, now, party, times, Free, weight_in, weight_member, is_in, is_member}
 use Rattle.spindle_parts.specs.Steps.{Finish, after, ended_by}
-use Rattle.spindle_parts.specs.Runs.{state, IsRun}
-use Rattle.spindle_parts.specs.BarrierWord.{word}
+use Rattle.spindle_parts.specs.Runs.{state}
 use Rattle.spindle_parts.proofs.Fates.{Fate, Open, Held, Ran, Done, over}
 use Rattle.spindle_parts.proofs.Parties.{put_here, put_all, look_here, look_else, times_same, times_else, tick, tick_same, tick_else}
 use Rattle.spindle_parts.proofs.Soundness.{Sound, sound}

@@ -13,7 +13,7 @@ use Rattle.spindle_parts.proofs.Soundness.{Sound, sound, no_closer}
 use Rattle.spindle.specs.declared.round_table.view.View.{View}
 use Rattle.spindle.specs.RoundSlots.{Discipline, Lawful}
 use Rattle.spindle.specs.RoundRule.{number_of, Stands, Knows, Counters, InRange, InRest, home_of, IsListed, IsEmptied}
-use Rattle.spindle.specs.RoundSteps.{loaded, loading, learned, learning, searched, searching, reading, list_empty, rest_read, reading_rest, recalled, recalling}
+use Rattle.spindle.specs.RoundSteps.{loaded, loading, learned, learning, searched, searching, reading, list_empty, rest_read, reading_rest, recalled}
 use Rattle.spindle.proofs.RoundMoves.{Rule, SeatOf, turns, stays, noted_shows, untrue}
 use Rattle.spindle.proofs.RoundWords.{by_less, by_equal, word_fields}
 

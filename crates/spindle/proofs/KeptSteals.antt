@@ -1,14 +1,10 @@
 -- The exchanges with which a thief takes the last half of a range, and with which the remainder falls.
-use Rattle.std.proofs.Common.{◌≡◌, ◌≢◌, ◌⊎◌, inl, inr, ⊎_elim, ℕ, ◌+◌, ◌-◌, ◌*◌, ◌/◌, ◌%◌, ◌<◌, ◌≤◌, Bool, true, false, eqb, eq-eqb, ne_eqb, div-add-mod', List, length, get_or, set, get_or-set_same, get_or-set_other, sym, refl, ap, ◌∙◌, subst, arith, Some, if◌then◌else◌, ◌==◌, nat_lt}
-use mathlib.Core.Logic.{dite}
+use Rattle.std.proofs.Common.{◌≡◌, ◌⊎◌, inl, inr, ⊎_elim, ℕ, ◌+◌, ◌-◌, ◌*◌, ◌/◌, ◌%◌, ◌<◌, ◌≤◌, Bool, true, false, eqb, eq-eqb, ne_eqb, div-add-mod', List, get_or, set, get_or-set_same, get_or-set_other, sym, refl, ap, subst, arith, if◌then◌else◌, nat_lt}
 use mathlib.Core.Option.{none}
-use native.Mathlib.Decide.{ℕ_discrete, dec_le}
 use prog.Atomic.{either}
-use Rattle.atomic_table.specs.Table.{Me, step, Allows}
-use Rattle.spindle_parts.specs.State.{State}
-use Rattle.spindle.specs.declared.round_table.view.View.{View}
+use Rattle.atomic_table.specs.Table.{step, Allows}
 use Rattle.spindle.specs.RoundSlots.{Discipline, Lawful}
-use Rattle.spindle.specs.RoundRule.{Counters, InRange, InRest, IsWithin}
+use Rattle.spindle.specs.RoundRule.{InRange, InRest, IsWithin}
 use Rattle.spindle.specs.RoundSteps.{stolen, stealing, stolen_from, start_of, end_of, length_of, half_of, range_word, rested, resting, number_or}
 use Rattle.spindle.specs.RoundConditions.{MayClaim}
 use Rattle.spindle.proofs.RoundMoves.{Rule, SeatOf, begins_by}

@@ -1,15 +1,13 @@
 -- A round is stopped, a member sees it, and puts its share back.
-use Rattle.std.proofs.Common.{◌≡◌, ◌≢◌, ◌⊎◌, inl, inr, ⊎_elim, ℕ, ◌+◌, ◌*◌, ◌/◌, ◌%◌, ◌<◌, ◌≤◌, Bool, true, false, eqb, eq-eqb, List, [], ◌∷◌, ◌++◌, length, get_or, set, get_or-set_same, get_or-set_other, sym, refl, ap, ◌∙◌, subst, arith, Option, Some, None, ◌==◌}
+use Rattle.std.proofs.Common.{◌≡◌, ◌≢◌, ◌⊎◌, inl, inr, ⊎_elim, ℕ, ◌+◌, ◌*◌, ◌<◌, ◌≤◌, Bool, true, false, eqb, eq-eqb, List, [], ◌∷◌, length, get_or, set, get_or-set_same, get_or-set_other, sym, refl, ap, ◌∙◌, subst, arith, None, ◌==◌}
 use mathlib.Core.Logic.{dite}
 use mathlib.Core.Option.{none}
 use native.Mathlib.Decide.{ℕ_discrete}
 use prog.Atomic.{either}
-use Rattle.atomic_table.specs.Table as table
-use Rattle.atomic_table.specs.Table.{Me, step, keeps, stepped, Allows}
-use Rattle.spindle_parts.specs.State.{State, In, Party, Round, put, no_set, now, party, Free, times, weight_in, weight_member, is_in, is_member}
-use Rattle.spindle_parts.specs.Steps.{Stop, See, PutBack, Allowed, after}
+use Rattle.atomic_table.specs.Table.{step, keeps, Allows}
+use Rattle.spindle_parts.specs.State.{State, Party, Round, put, no_set, now, party, Free, times, weight_in, weight_member, is_in, is_member}
+use Rattle.spindle_parts.specs.Steps.{Stop, See, PutBack, after}
 use Rattle.spindle_parts.specs.Runs.{state}
-use Rattle.spindle_parts.specs.BarrierWord.{word}
 use Rattle.spindle_parts.proofs.Fates.{Held, started}
 use Rattle.spindle_parts.proofs.Parties.{put_here, look_here, look_else}
 use Rattle.spindle_parts.proofs.Soundness.{Sound, sound}
@@ -18,11 +16,11 @@ use Rattle.spindle.specs.declared.round_table.view.Kind.{Kind}
 use Rattle.spindle.specs.declared.round_table.view.Standing.TheVariants.{Inside}
 use Rattle.spindle.specs.declared.round_table.view.View.{View}
 use Rattle.spindle.specs.RoundSlots.{Discipline, Lawful}
-use Rattle.spindle.specs.RoundRule.{deeds, Stands, Knows, Shows, IsShare, Words, Counters, InRange, InRest, IsWithin}
+use Rattle.spindle.specs.RoundRule.{deeds, Stands, Shows, IsShare, Words, Counters, InRange, InRest, IsWithin}
 use Rattle.spindle.specs.RoundSteps.{stops, stopping, saw, seeing, putting, start_of, end_of}
 use Rattle.spindle.specs.RoundSteps as steps
 use Rattle.spindle.specs.RoundConditions.{MayStop, MaySee, MayPutBack}
-use Rattle.spindle.proofs.RoundMoves.{Rule, SeatOf, Before, turns, stores, exchanges, moves, stays, untrue}
+use Rattle.spindle.proofs.RoundMoves.{Rule, SeatOf, stores, exchanges, moves, stays, untrue}
 use Rattle.spindle.proofs.RoundNumbers.{true_or}
 use Rattle.spindle.proofs.RoundWords.{counts_stay, word_stays, counters_stay}
 use Rattle.spindle.proofs.RoundChanges.{changed_words, some_published}

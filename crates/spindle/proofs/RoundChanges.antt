@@ -1,6 +1,6 @@
 -- What the words show after a step of a member on any word but the first two.
-use Rattle.std.proofs.Common.{◌≡◌, ◌≢◌, ℕ, ◌+◌, ◌*◌, ◌<◌, ◌≤◌, Bool, true, false, List, length, get_or, set, length-set, get_or-set_other, sym, refl, ap, ◌∙◌, arith, Some, None, Option}
-use Rattle.spindle_parts.specs.State.{State, In, now, party, inside}
+use Rattle.std.proofs.Common.{◌≡◌, ◌≢◌, ℕ, ◌<◌, ◌≤◌, true, false, List, length, get_or, set, length-set, get_or-set_other, sym, ◌∙◌, arith, Some, None}
+use Rattle.spindle_parts.specs.State.{State, In, now, party}
 use Rattle.spindle_parts.specs.BarrierWord.{word}
 use Rattle.spindle_parts.proofs.Soundness.{Sound, no_closer}
 use Rattle.spindle.specs.RoundRule.{Counters, Words, number_of}

@@ -1,12 +1,12 @@
 -- A search over all ranges, and what it leaves of a seat.
-use Rattle.std.proofs.Common.{◌≡◌, ℕ, zero, suc, ◌+◌, ◌-◌, ◌/◌, ◌%◌, ◌<◌, ◌≤◌, List, [], ◌∷◌, ◌++◌, length, length-append, get_or, sym, refl, ap, ◌∙◌, subst, arith, Option, Some}
+use Rattle.std.proofs.Common.{◌≡◌, ℕ, zero, suc, ◌+◌, ◌%◌, ◌<◌, ◌≤◌, List, [], ◌∷◌, ◌++◌, length, length-append, get_or, sym, refl, ap, ◌∙◌, subst, arith, Option, Some}
 use mathlib.Core.Logic.{dite}
 use native.Mathlib.Decide.{ℕ_discrete}
 use Rattle.spindle.specs.declared.round_table.view.View.{View}
 use Rattle.spindle.specs.declared.round_table.view.Standing.TheVariants.{Inside}
 use Rattle.spindle.specs.RoundSlots.{Discipline}
 use Rattle.spindle.specs.RoundSteps.{searching, length_of, recalling, reading_rest, number_or}
-use Rattle.spindle.specs.RoundAnswers.{searching_all, IsBest, IsLongest}
+use Rattle.spindle.specs.RoundAnswers.{searching_all, IsBest}
 use Rattle.spindle.specs.RoundConditions.{MayClaim}
 
 pub searched_more : {N : Type 0} (i : ℕ) (xs : List ℕ) (x : ℕ) (v : View N) → searching_all i (xs ++ x ∷ []) v ≡ searching (i + length xs) x (searching_all i xs v)

@@ -1,5 +1,5 @@
 -- What each kind of step on a round table tells its seat.
-use Rattle.std.specs.Prelude.{◌≡◌, ◌≢◌, ◌⊎◌, ℕ, ◌+◌, ◌-◌, ◌*◌, ◌/◌, ◌%◌, ◌<◌, ◌≤◌, Bool, true, false, List, [], ◌∷◌, Option, Some, None, if◌then◌else◌, ◌==◌, ◌&&◌, nat_lt}
+use Rattle.std.specs.Prelude.{◌≡◌, ◌≢◌, ℕ, ◌+◌, ◌-◌, ◌*◌, ◌/◌, ◌%◌, ◌<◌, ◌≤◌, Bool, true, false, List, [], ◌∷◌, Option, Some, None, if◌then◌else◌, ◌==◌, ◌&&◌, nat_lt}
 use Rattle.atomic_table.specs.Table.{Me, Step, carried_after}
 use Rattle.spindle_parts.specs.declared.trail.Trace.{Trace}
 use Rattle.spindle_parts.specs.Trail.{trace}

@@ -1,7 +1,7 @@
 -- Each load of a range keeps the table's rule, and the longest so far is known.
 use Rattle.std.proofs.Common.{rules, arith, ◌≡◌, ◌∙◌, ℕ, ◌+◌, List, [], ◌∷◌, ◌++◌, length, ap, sym, refl, subst}
 use Rattle.spindle.specs.RoundSteps.{searching}
-use Rattle.spindle.specs.RoundAnswers.{searching_all, IsBest}
+use Rattle.spindle.specs.RoundAnswers.{IsBest}
 use Rattle.spindle.proofs.KeptLoads.{searches}
 use Rattle.spindle.proofs.RoundSearch.{length_more, searched_more, best_last, best_stays}
 use Rattle.spindle.proofs.round.Round.longest.Goals as goal

@@ -1,5 +1,5 @@
 -- The published number of a round that may stop keeps the table's rule.
-use Rattle.std.proofs.Common.{rules, arith, ◌≡◌, ◌∙◌, ap, sym, subst, ℕ, ◌+◌, ◌%◌}
+use Rattle.std.proofs.Common.{rules, arith, subst, ℕ}
 use Rattle.spindle.specs.RoundRule.{IsFilled}
 use Rattle.spindle.proofs.KeptFill.{publishes_try}
 use Rattle.spindle.proofs.round.Round.publish_try.Goals as goal

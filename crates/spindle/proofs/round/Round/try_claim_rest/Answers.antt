@@ -1,5 +1,5 @@
 -- The loads and the exchange of a claim on the remainder keep the table's rule.
-use Rattle.std.proofs.Common.{rules, arith, ◌≡◌, ◌∙◌, ℕ, ◌%◌, ◌-◌, ap, subst, sym, refl}
+use Rattle.std.proofs.Common.{rules, arith, ◌≡◌, ◌∙◌, ℕ, ◌-◌, ap, subst, sym}
 use Rattle.spindle.specs.RoundConditions.{MayClaim}
 use Rattle.spindle.specs.RoundSteps.{missing, resting, number_or}
 use Rattle.spindle.proofs.KeptLoads.{rest_reads, recalls}

@@ -1,9 +1,8 @@
 -- The exchange of a steal keeps the table's rule.
-use Rattle.std.proofs.Common.{rules, arith, ◌≡◌, ◌∙◌, ℕ, ap, subst, sym, refl}
+use Rattle.std.proofs.Common.{rules, arith, ap, subst, sym}
 use Rattle.spindle.specs.RoundConditions.{MayClaim}
-use Rattle.spindle.specs.RoundSteps.{stealing, missing, stolen_from}
 use Rattle.spindle.proofs.KeptSteals.{steals}
-use Rattle.spindle.proofs.RoundSearch.{may_still, took_at}
+use Rattle.spindle.proofs.RoundSearch.{may_still}
 use Rattle.spindle.proofs.round.Round.try_steal.Goals as goal
 
 pub compare_exchange-requires : goal.compare_exchange-requires
