@@ -13,3 +13,4 @@ pub mod RoundChanges
 pub mod KeptShares
 pub mod KeptFinish
 pub mod KeptStops
+pub mod RoundClients

@@ -4,5 +4,6 @@ pub mod RoundRule
 pub mod RoundSteps
 pub mod RoundConditions
 pub mod RoundAnswers
+pub mod RoundViews
 pub mod Seats
 pub mod Done
