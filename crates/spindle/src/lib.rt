@@ -17,3 +17,9 @@ pub const DEFAULT_SPIN_LIMIT: u32 = 65536;
 
 /// How many of these pauses make one turn, after which an idle party looks again.
 pub const DEFAULT_PAUSE_LIMIT: u32 = 8;
+pub mod barrier;
+pub mod lock;
+pub mod round;
+pub mod round_table;
+#[cfg(test)]
+mod tests;

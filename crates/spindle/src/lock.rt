@@ -32,3 +32,8 @@ pub use nest::{End, Nest, Under};
 pub use pool::Pool;
 pub use root::with_lock;
 pub use shared::{Lock, Opens};
+mod finished;
+pub mod job;
+
+pub use finished::Finished;
+pub use job::Job;

@@ -25,6 +25,7 @@ pub record Steady (s s' : State) (q : ℕ) : Type 0 where
   pub frees : Lessens s s'
   pub stops : (now s).stopped ≡ true → (now s').stopped ≡ true
   pub seen : (now s').seen q ≡ (now s).seen q
+  pub may_stop : s.published ≢ None → (now s').stoppable ≡ (now s).stoppable
 
 -- the round ends, and the party q, which was not in, is in if it is a member
 pub record Turned (s s' : State) (q : ℕ) : Type 0 where
@@ -57,6 +58,7 @@ module _ (s : State) (h : Sound s) (p q : ℕ) (other : q ≢ p) where
     frees = used;
     stops = λ e. e;
     seen = refl;
+    may_stop = λ _. refl;
   }
 
   -- a new status and no more
@@ -65,9 +67,9 @@ module _ (s : State) (h : Sound s) (p q : ℕ) (other : q ≢ p) where
       (inl (λ _ k f. (f.0, f.1, taken_put (with_status t (party s p)) k (λ e. e) f.2)))
 
   -- the round's record becomes r too
-  reworked : (ps : List Party) (r : Round) → party_of ps q ≡ party s q → r.seen q ≡ (now s).seen q → ((now s).stopped ≡ true → r.stopped ≡ true) → Lessens s record { round = s.round; parties = ps; closer = s.closer; published = s.published; rounds = put s.rounds s.round r }
+  reworked : (ps : List Party) (r : Round) → party_of ps q ≡ party s q → r.seen q ≡ (now s).seen q → r.stoppable ≡ (now s).stoppable → ((now s).stopped ≡ true → r.stopped ≡ true) → Lessens s record { round = s.round; parties = ps; closer = s.closer; published = s.published; rounds = put s.rounds s.round r }
       → Frame s record { round = s.round; parties = ps; closer = s.closer; published = s.published; rounds = put s.rounds s.round r } q
-  reworked ps r same seen stopped used = inl record {
+  reworked ps r same seen may_stop stopped used = inl record {
     round = refl;
     same = same;
     closer = ((λ e. e), (λ e. e));
@@ -76,6 +78,7 @@ module _ (s : State) (h : Sound s) (p q : ℕ) (other : q ≢ p) where
     frees = used;
     stops = λ e. ap (λ (z : Round). z.stopped) (put_here s.rounds s.round r) ∙ stopped e;
     seen = ap (λ (z : Round). z.seen q) (put_here s.rounds s.round r) ∙ seen;
+    may_stop = λ _. ap (λ (z : Round). z.stoppable) (put_here s.rounds s.round r) ∙ may_stop;
   }
 
   -- nobody but p can have become the closer
@@ -84,10 +87,10 @@ module _ (s : State) (h : Sound s) (p q : ℕ) (other : q ≢ p) where
       (λ _. ((λ e. absurd cc), (λ _ e. let a : p ≡ q = cc in other (sym a)))) (λ _. ((λ e. e), (λ e. e)))
 
   -- the same, where what is free afterwards was free
-  reworked_free : (ps : List Party) (r : Round) → party_of ps q ≡ party s q → r.seen q ≡ (now s).seen q → ((now s).stopped ≡ true → r.stopped ≡ true) → ((k : ℕ) → (k < r.jobs) × (times k r.begun ≡ 0) × ((a : ℕ) → (party_of ps a).taken k ≡ false) → Free s k)
+  reworked_free : (ps : List Party) (r : Round) → party_of ps q ≡ party s q → r.seen q ≡ (now s).seen q → r.stoppable ≡ (now s).stoppable → ((now s).stopped ≡ true → r.stopped ≡ true) → ((k : ℕ) → (k < r.jobs) × (times k r.begun ≡ 0) × ((a : ℕ) → (party_of ps a).taken k ≡ false) → Free s k)
       → Frame s record { round = s.round; parties = ps; closer = s.closer; published = s.published; rounds = put s.rounds s.round r } q
-  reworked_free ps r same seen stopped frees = let is = put_here s.rounds s.round r in
-      reworked ps r same seen stopped (inl (λ _ k f. frees k (subst (λ (z : Round). (k < z.jobs) × (times k z.begun ≡ 0) × ((a : ℕ) → (party_of ps a).taken k ≡ false)) is f)))
+  reworked_free ps r same seen may_stop stopped frees = let is = put_here s.rounds s.round r in
+      reworked ps r same seen may_stop stopped (inl (λ _ k f. frees k (subst (λ (z : Round). (k < z.jobs) × (times k z.begun ≡ 0) × ((a : ℕ) → (party_of ps a).taken k ≡ false)) is f)))
 
   publishing : (b : Bool) (n : ℕ) → (p ≡ 0) × ((party s p).status ≡ In) × (s.published ≡ None) × (2 ≤ n) × (n ≤ 4294967295) → Frame s (publish s b n) q
   publishing b n ok = inl record {
@@ -99,6 +102,7 @@ module _ (s : State) (h : Sound s) (p q : ℕ) (other : q ≢ p) where
     frees = inl (λ some. absurd (some ok.2));
     stops = λ e. ap (λ (z : Round). z.stopped) (put_here s.rounds s.round (record (now s) { jobs = n; stoppable = b })) ∙ e;
     seen = ap (λ (z : Round). z.seen q) (put_here s.rounds s.round (record (now s) { jobs = n; stoppable = b }));
+    may_stop = λ is. absurd (is ok.2);
   }
 
   exiting : (party s p).status ≡ In → (p ≡ 0 → s.published ≡ None) → Frame s (left s p (put_party s.parties p (with_status Out (party s p)))) q
@@ -130,14 +134,14 @@ frame s h (PublishTry p n) q ok other = publishing s h p q other true n ok
 frame s h (Take p some) q ok other = let y : Party = record (party s p) { taken = λ k. (party s p).taken k || some k } in
     changed s h p q other y s.closer ((λ e. e), (λ e. e)) (inl (λ _ k f. (f.0, f.1, taken_put s h p q other y k (and_left ((party s p).taken k) (some k)) f.2)))
 frame s h (Begin p k) q ok other = let y : Party = record (party s p) { running = Some k; taken = put (party s p).taken k false } in
-    reworked_free s h p q other (put_party s.parties p y) (record (now s) { begun = (now s).begun ++ k ∷ [] }) (look_else s.parties p y q other) refl (λ e. e)
+    reworked_free s h p q other (put_party s.parties p y) (record (now s) { begun = (now s).begun ++ k ∷ [] }) (look_else s.parties p y q other) refl refl (λ e. e)
     (λ j f. let a = times_snoc j (now s).begun k in let b = f.1 in
     (f.0, omega arith, taken_put s h p q other y j (λ e. dite (ℕ_discrete j k) (λ i. let c = times_same k (now s).begun in let d = ap (λ (z : ℕ). times z ((now s).begun ++ k ∷ [])) i in absurd (omega arith)) (λ n. sym (put_else (party s p).taken k false j n) ∙ e)) f.2))
 frame s h (Finish p) q ok other = let y : Party = record (party s p) { running = None } in
-    reworked_free s h p q other (put_party s.parties p y) (record (now s) { finished = (now s).finished ++ ended_by (party s p).running }) (look_else s.parties p y q other) refl (λ e. e)
+    reworked_free s h p q other (put_party s.parties p y) (record (now s) { finished = (now s).finished ++ ended_by (party s p).running }) (look_else s.parties p y q other) refl refl (λ e. e)
     (λ j f. (f.0, f.1, taken_put s h p q other y j (λ e. e) f.2))
-frame s h (Stop p) q ok other = reworked_free s h p q other s.parties (record (now s) { stopped = true; seen = put (now s).seen p true }) refl (put_else (now s).seen p true q other) (λ _. refl) (λ j f. f)
-frame s h (See p) q ok other = reworked_free s h p q other s.parties (record (now s) { seen = put (now s).seen p true }) refl (put_else (now s).seen p true q other) (λ e. e) (λ j f. f)
+frame s h (Stop p) q ok other = reworked_free s h p q other s.parties (record (now s) { stopped = true; seen = put (now s).seen p true }) refl (put_else (now s).seen p true q other) refl (λ _. refl) (λ j f. f)
+frame s h (See p) q ok other = reworked_free s h p q other s.parties (record (now s) { seen = put (now s).seen p true }) refl (put_else (now s).seen p true q other) refl (λ e. e) (λ j f. f)
 frame s h (PutBack p) q ok other = changed s h p q other (record (party s p) { taken = no_set }) s.closer ((λ e. e), (λ e. e)) (inr (h.work.saw p ok.1))
 frame s h (Arrive p) q ok other = restatus s h p q other Arrived _ (new_closer s h p q other (put_party s.parties p (with_status Arrived (party s p))) ok.0)
 frame s h (Leave p) q ok other = restatus s h p q other Out s.closer ((λ e. e), (λ e. e))
@@ -151,6 +155,7 @@ frame s h (Clear p) q ok other = inl record {
   frees = inl (λ _ k f. f);
   stops = λ e. e;
   seen = refl;
+  may_stop = λ _. refl;
 }
 frame s h (End p) q ok other = let z = ok.0 in inr record {
   round = omega arith;

@@ -1,0 +1,118 @@
+//! The barrier of a round table: parties join, arrive, leave and exit, and whoever comes last closes the round.
+ghost use Rattle.std.specs.Prelude.{◌≡◌, ◌+◌, ◌*◌, ◌≤◌, [], true, IfOk, IfErr, OnErr, IsErrOf};
+ghost use Rattle.spindle.specs.RoundAnswers.{JoinedBy, JoinRefusedBy};
+ghost use Rattle.spindle.specs.RoundSteps.{outsider, new_view};
+ghost use Rattle.spindle.specs.RoundConditions.{HasSense};
+ghost use Rattle.spindle.specs.declared.round_table.view.Standing.TheVariants.{Away};
+ghost use Rattle.spindle.specs.declared.barrier.steps.JoinStep.TheVariants.{Joined};
+
+use self::steps::{JoinStep, join};
+use crate::round_table::plays::NewSeat;
+use crate::round_table::slots::{Bare, Slots};
+use crate::round_table::{APART, RANGES, RoundTable, Seat};
+use atomic_table::Table;
+use spindle_parts::fault::Fault;
+use std::alloc::Global;
+
+pub mod steps;
+
+/// The most parties of a barrier (`MASK` of spindle).
+pub const MASK: u32 = 32767;
+
+/// A barrier that parties may join, over the table of a round (`BarrierInit` of spindle).
+#[derive(Drop)]
+pub struct BarrierInit<D: Slots> {
+    pub table: RoundTable<D>,
+    pub threads: usize,
+    ghost sized: { (table.shared.key ≡ threads) × (table.shared.table_id.words ≡ 40 + 16 * threads) },
+    ghost few: { threads ≤ 32767 },
+}
+
+/// Why a party didn't join. The seat comes back.
+#[derive(Drop)]
+pub enum JoinRefused<P> {
+    /// As many parties as there may be.
+    Full(P),
+    /// All members have arrived, and one of them closes the round.
+    Closing(P),
+    /// Another step came between.
+    Again(P),
+}
+
+/// A party that has joined, or is the closer, with its seat (`Barrier` of spindle).
+#[derive(Drop)]
+pub struct Barrier<'a, D: Slots> {
+    pub init: &'a BarrierInit<D>,
+    pub seat: Seat<D>,
+    pub sense: u64,
+    pub thread_id: usize,
+}
+
+impl BarrierInit<Bare> {
+    /// A barrier without a round: nothing can be published on it.
+    ///
+    /// # Errors
+    /// `Memory`.
+    pub fn new(alloc: Global) -> Result<(BarrierInit<Bare>, Seat<Bare>), Fault>
+        ensures opened { IfOk result (λ t. (t.0.threads ≡ 0) × (t.1.table_id ≡ t.0.table.shared.table_id) × (t.1.id ≡ 0) × (t.1.me ≡ (outsider 0 true, []))) }
+        ensures memory { OnErr result (IsErrOf result Fault.Memory) }
+    {
+        BarrierInit::open(alloc, 0, 0)
+    }
+}
+
+impl<D: Slots> BarrierInit<D> {
+    pub(crate) fn open(
+        alloc: Global,
+        threads: usize,
+        slots: usize,
+    ) -> Result<(BarrierInit<D>, Seat<D>), Fault>
+        requires few { threads ≤ 32767 }
+        ensures opened { IfOk result (λ t. (t.0.threads ≡ threads) × (t.1.table_id ≡ t.0.table.shared.table_id) × (t.1.id ≡ 0) × (t.1.me ≡ (outsider threads true, []))) }
+        ensures memory { OnErr result (IsErrOf result Fault.Memory) }
+    {
+        let words = Vec::from_elem(alloc, 0u64, RANGES + 2 * APART * threads)?;
+        let key = threads as u64;
+        match Table::new(alloc, words.as_slice(), D::vacant(alloc, slots)?, &key) {
+            Ok((table, seat)) => Ok((BarrierInit { table, threads }, seat)),
+            Err(_) => Err(Fault::Memory),
+        }
+    }
+
+    /// A seat for another party, which is out. It may be handed to another thread.
+    pub fn new_seat(&self, seat: &mut Seat<D>) -> Seat<D>
+        requires seated { seat.old.table_id ≡ self.now.table.shared.table_id }
+        ensures old { (seat.new.table_id ≡ seat.old.table_id) × (seat.new.id ≡ seat.old.id) × (seat.new.me ≡ seat.old.me) }
+        ensures new { (result.table_id ≡ seat.old.table_id) × (result.me ≡ (new_view seat.old.me.0, [])) }
+    {
+        self.table.shared.split_seat::<NewSeat>(seat)
+    }
+
+    /// Joins the barrier by one exchange. The party's sense starts as the word's; `thread_id` decides nothing.
+    ///
+    /// # Errors
+    /// `Full`, `Closing` or `Again`, each with the seat.
+    pub fn try_join(
+        &self,
+        mut seat: Seat<D>,
+        thread_id: usize,
+    ) -> Result<Barrier<'_, D>, JoinRefused<Seat<D>>>
+        requires seated { seat.table_id ≡ self.now.table.shared.table_id }
+        requires away { seat.me.0.standing ≡ Away }
+        ensures joined { IfOk result (λ b. JoinedBy (Joined b.sense) seat.me b.seat.me × HasSense b.seat.me.0.standing b.sense × (b.seat.id ≡ seat.id) × (b.thread_id ≡ thread_id)) }
+        ensures table { IfOk result (λ b. (b.seat.table_id ≡ self.now.table.shared.table_id) × (b.init.now ≡ self.now)) }
+        ensures refused { IfErr result (λ e. JoinRefusedBy seat e) }
+    {
+        match join(&self.table.shared, &mut seat) {
+            JoinStep::Joined(sense) => Ok(Barrier {
+                init: self,
+                seat,
+                sense,
+                thread_id,
+            }),
+            JoinStep::Full => Err(JoinRefused::Full(seat)),
+            JoinStep::Closing => Err(JoinRefused::Closing(seat)),
+            JoinStep::Again => Err(JoinRefused::Again(seat)),
+        }
+    }
+}
