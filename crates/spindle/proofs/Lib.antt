@@ -7,3 +7,4 @@ pub mod KeptFill
 pub mod RoundNumbers
 pub mod KeptClaims
 pub mod RoundOpening
+pub mod KeptLeaving
