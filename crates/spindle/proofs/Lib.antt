@@ -8,3 +8,4 @@ pub mod RoundNumbers
 pub mod KeptClaims
 pub mod RoundOpening
 pub mod KeptLeaving
+pub mod KeptEnding
