@@ -23,6 +23,7 @@ use Rattle.spindle.specs.RoundSlots.{Discipline, Lawful}
 use Rattle.spindle.specs.declared.round_table.view.Kind.TheVariants as kind
 use Rattle.spindle.specs.RoundRule.{deeds, Stands, Shows, Knows, Words, Laid, InRange, InRest, IsLeft, StandsFor, stored_at, number_of}
 use Rattle.spindle.specs.RoundSteps.{exited, exiting, exit_word, ends, ending, turned_word, clears, clearing, cleared, outside, noted, unknown, round_of, standing, after_end, count_of, most_of, sense_of}
+use Rattle.spindle.specs.RoundConditions.{MayExit}
 use Rattle.spindle.proofs.RoundQuiet.{quiet_run}
 use Rattle.spindle.proofs.RoundMoves.{Rule, SeatOf, Before, exchanges, stores, moves, moves_with, stands_on}
 use Rattle.spindle.proofs.RoundWords.{word_fields, status_words, by_equal}
@@ -64,24 +65,28 @@ module _ {X N : Type 0} (D : Discipline X N) (law : Lawful D) (t : ℕ) where
           let ok : Allowed S (Exit id) = (st.0, idle_seat S id me.0 shows idle empty, λ zero. ⊎_elim (λ (a : me.0.leader ≡ false). absurd (shows.leads.1 a zero)) (λ (a : me.0.known.unpublished ≡ true). ((shows.inside q inside_q).unpublished a).1) free) in
           let on : State = record { round = S.round + 1; parties = ps; closer = S.closer; published = S.published; rounds = S.rounds } in let own : S.round ≡ round_of me.0.standing = st.1 ∙ sym (ap round_of inside_q) in
           let both : Words t (after S (Exit id)) (set s.words 0 (exit_word old)) × Shows (after S (Exit id)) id (exiting old me.0) × ((after S (Exit id)).published ≡ S.published) =
-              by_equal (members ps) 0 (λ b. let s' : State = if b then on else arrived S id ps in Words t s' (set s.words 0 (exit_word old)) × Shows s' id (exiting old me.0) × (s'.published ≡ S.published))
-              (λ sole. let hidden = alone_hidden S h id st.0 ok.2 sole in let one : most_of old ≡ 1 = omega arith in let new : exit_word old ≡ 2147483648 * (1 - sense_of old) = ap (λ (z : Bool). if z then 2147483648 * (1 - sense_of old) else old - 65537) (eq-eqb (most_of old) 1 one) in (
-              hidden_words t S on s.words (exit_word old) r.words hidden hidden (new ∙ omega arith),
-              subst (λ (z : Bool). Shows on id (noted (trace 0 kind.Exit old (exit_word old)) (outside (if (count_of old == 1) && z then Closing (round_of me.0.standing) false false None else Away) me.0))) (sym (le-ltb 1 (most_of old) (omega arith)))
-              (by_equal (count_of old) 1 (λ z. Shows on id (noted (trace 0 kind.Exit old (exit_word old)) (outside (if z && false then Closing (round_of me.0.standing) false false None else Away) me.0)))
-              (λ _. gone S on id me.0 Away _ shows look (ap (λ (z : Party). z.status) look, λ e. cc) (λ _ e. cc)) (λ _. gone S on id me.0 Away _ shows look (ap (λ (z : Party). z.status) look, λ e. cc) (λ _ e. cc))),
-              refl,
-              ))
-              (λ others. let more : most_of old ≢ 1 = (λ e. others (omega arith)) in let new : exit_word old ≡ old - 65537 = ap (λ (z : Bool). if z then 2147483648 * (1 - sense_of old) else old - 65537) (ne_eqb (most_of old) 1 more) in let s' : State = arrived S id ps in (
-              status_words t S s.words id (exit_word old) Out (closer_after S ps id) r.words (new ∙ omega arith),
-              subst (λ (z : Bool). Shows s' id (noted (trace 0 kind.Exit old (exit_word old)) (outside (if (count_of old == 1) && z then Closing (round_of me.0.standing) false false None else Away) me.0))) (sym (lt-ltb 1 (most_of old) (omega arith)))
-              (by_equal (count_of old) 1 (λ z. Shows s' id (noted (trace 0 kind.Exit old (exit_word old)) (outside (if z && true then Closing (round_of me.0.standing) false false None else Away) me.0)))
-              (λ one. gone S s' id me.0 (Closing (round_of me.0.standing) false false None) _ shows look (ap (λ (z : Bool). if z then Some id else S.closer) (eq-eqb (inside ps) 0 (omega arith)), own, (λ z. absurd cc), ap (λ (z : Party). z.status) look, λ n z. absurd cc) (λ _ e. cc))
-              (λ some. gone S s' id me.0 Away _ shows look (ap (λ (z : Party). z.status) look, λ e. let a = ap (λ (z : Bool). if z then Some id else S.closer) (ne_eqb (inside ps) 0 (λ z. some (omega arith))) in cc) (λ _ e. cc))),
-              refl,
-              )) in
+          by_equal (members ps) 0 (λ b. let s' : State = if b then on else arrived S id ps in Words t s' (set s.words 0 (exit_word old)) × Shows s' id (exiting old me.0) × (s'.published ≡ S.published))
+          (λ sole. let hidden = alone_hidden S h id st.0 ok.2 sole in let one : most_of old ≡ 1 = omega arith in let new : exit_word old ≡ 2147483648 * (1 - sense_of old) = ap (λ (z : Bool). if z then 2147483648 * (1 - sense_of old) else old - 65537) (eq-eqb (most_of old) 1 one) in (
+            hidden_words t S on s.words (exit_word old) r.words hidden hidden (new ∙ omega arith),
+            subst (λ (z : Bool). Shows on id (noted (trace 0 kind.Exit old (exit_word old)) (outside (if (count_of old == 1) && z then Closing (round_of me.0.standing) false false None else Away) me.0))) (sym (le-ltb 1 (most_of old) (omega arith)))
+                (by_equal (count_of old) 1 (λ z. Shows on id (noted (trace 0 kind.Exit old (exit_word old)) (outside (if z && false then Closing (round_of me.0.standing) false false None else Away) me.0)))
+                (λ _. gone S on id me.0 Away _ shows look (ap (λ (z : Party). z.status) look, λ e. cc) (λ _ e. cc)) (λ _. gone S on id me.0 Away _ shows look (ap (λ (z : Party). z.status) look, λ e. cc) (λ _ e. cc))),
+            refl,
+          ))
+          (λ others. let more : most_of old ≢ 1 = (λ e. others (omega arith)) in let new : exit_word old ≡ old - 65537 = ap (λ (z : Bool). if z then 2147483648 * (1 - sense_of old) else old - 65537) (ne_eqb (most_of old) 1 more) in let s' : State = arrived S id ps in (
+            status_words t S s.words id (exit_word old) Out (closer_after S ps id) r.words (new ∙ omega arith),
+            subst (λ (z : Bool). Shows s' id (noted (trace 0 kind.Exit old (exit_word old)) (outside (if (count_of old == 1) && z then Closing (round_of me.0.standing) false false None else Away) me.0))) (sym (lt-ltb 1 (most_of old) (omega arith)))
+                (by_equal (count_of old) 1 (λ z. Shows s' id (noted (trace 0 kind.Exit old (exit_word old)) (outside (if z && true then Closing (round_of me.0.standing) false false None else Away) me.0)))
+                (λ one. gone S s' id me.0 (Closing (round_of me.0.standing) false false None) _ shows look (ap (λ (z : Bool). if z then Some id else S.closer) (eq-eqb (inside ps) 0 (omega arith)), own, (λ z. absurd cc), ap (λ (z : Party). z.status) look, λ n z. absurd cc) (λ _ e. cc))
+                (λ some. gone S s' id me.0 Away _ shows look (ap (λ (z : Party). z.status) look, λ e. let a = ap (λ (z : Bool). if z then Some id else S.closer) (ne_eqb (inside ps) 0 (λ z. some (omega arith))) in cc) (λ _ e. cc))),
+            refl,
+          )) in
           moves D law t s r 0 (exit_word old) id me (exiting old me.0) (Exit id ∷ []) at (refl, tt) (tt, tt) (refl, refl, refl) (ok, r.is_run) both.0 both.1
           (seat.1 ∙ sym (no_deed id (deeds id r.run))) refl (inl refl) refl both.2 (inl (omega arith))
+
+  -- the same, the word being computed elsewhere
+  pub exits_to : (slots id : ℕ) (me : SeatOf D t) (old new : ℕ) → MayExit me.0 → new ≡ exit_word old → Allows (Rule D t) slots id me 0 (λ x. either (eqb x old) new x) (exited (step slots 0 old new none) me)
+  exits_to slots id me old new may is = subst (λ (z : ℕ). Allows (Rule D t) slots id me 0 (λ x. either (eqb x old) z x) (exited (step slots 0 old z none) me)) (sym is) (exits slots id me may.0.0 old may.0.1 may.0.2 may.0.3 may.1)
 
   pub ends_round : (slots id : ℕ) (me : SeatOf D t) (q n : ℕ) (member : Bool) → me.0.standing ≡ Closing q member true (Some n) → Allows (Rule D t) slots id me 0 (λ _. turned_word n) (λ _. ends (step slots 0 (turned_word n) 0 none) me (turned_word n))
   ends_round slots id me q n member closes = stores D law t slots id me 0 (turned_word n) ending (step slots 0 (turned_word n) 0 none) owed
@@ -135,8 +140,8 @@ module _ {X N : Type 0} (D : Discipline X N) (law : Lawful D) (t : ℕ) where
       go q e (Some n) shown = let here : q ≡ S.round = (let a = l.current (λ z. cc) in cc) in let jobs = (h.gate.shown n shown).0 in let k = w.counters n shown in
           let quiet : (p j : ℕ) → (party S p).taken j ≡ false = (λ p j. (idle_out h.fate (now S) S.parties h.work p (none_in S.parties (h.gate.closing c closes).0 p)).0 j) in
           subst (λ (z : ℕ). StandsFor t (S.rounds z) ws) (sym here) (λ j. (
-          (λ a. subst (λ (m : ℕ). IsLeft t ws m j) (sym jobs) (k.free j (a.0, a.1, λ p. quiet p j))),
-          (λ a. let is : Free S j = ⊎_elim (λ (z : (i : ℕ) × (i < t) × InRange ws i j). k.ranges z.0 j z.1 z.2) (λ (z : InRest ws n j). k.rest j z) (subst (λ (m : ℕ). IsLeft t ws m j) jobs a) in (is.0, is.1)),
+            (λ a. subst (λ (m : ℕ). IsLeft t ws m j) (sym jobs) (k.free j (a.0, a.1, λ p. quiet p j))),
+            (λ a. let is : Free S j = ⊎_elim (λ (z : (i : ℕ) × (i < t) × InRange ws i j). k.ranges z.0 j z.1 z.2) (λ (z : InRest ws n j). k.rest j z) (subst (λ (m : ℕ). IsLeft t ws m j) jobs a) in (is.0, is.1)),
           ))
 
   pub clears_round : (slots id : ℕ) (me : SeatOf D t) (q : ℕ) (member was : Bool) (read : Option ℕ) → me.0.standing ≡ Closing q member was read → Allows (Rule D t) slots id me 8 (λ _. 0) (λ _. clears (step slots 8 0 0 none) me 0)

@@ -9,3 +9,4 @@ pub mod KeptClaims
 pub mod RoundOpening
 pub mod KeptLeaving
 pub mod KeptEnding
+pub mod BarrierClients

@@ -4,3 +4,4 @@ pub mod RoundSteps
 pub mod RoundConditions
 pub mod RoundAnswers
 pub mod Seats
+pub mod Holding
