@@ -5,3 +5,4 @@ pub mod RoundConditions
 pub mod RoundAnswers
 pub mod Seats
 pub mod Holding
+pub mod Passing
