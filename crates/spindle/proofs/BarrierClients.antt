@@ -18,7 +18,13 @@ use Rattle.spindle_parts.specs.Trail.{trace}
 use Rattle.spindle.specs.declared.round_table.view.Kind.TheVariants as kind
 use Rattle.spindle.specs.RoundSteps.{noted, missing, leaving, exit_word, outside, looking, loading, standing, unknown, sense_of, count_of, most_of, round_of, clearing, ending, closing_read, with_word, cleared, after_end, turned_word}
 use Rattle.spindle.specs.RoundConditions.{HasSense, HasPart, IsWaiting, MayLeave}
-use Rattle.spindle.specs.RoundAnswers.{JoinedBy, ArrivedBy, LookedBy, LeftBy, ExitedBy, EndedBy}
+use Rattle.spindle.specs.RoundAnswers.{JoinedBy, JoinRefusedBy, ArrivedBy, LookedBy, LeftBy, ExitedBy, EndedBy}
+use Rattle.spindle.specs.declared.barrier.Barrier.{Barrier}
+use Rattle.spindle.specs.declared.barrier.steps.Look.{Look}
+use Rattle.spindle.specs.declared.barrier.JoinRefused.{JoinRefused}
+use Rattle.spindle.specs.declared.barrier.JoinRefused.TheVariants as refused
+use Rattle.atomic_table.specs.declared.shared.Seat.{Seat}
+use Rattle.spindle.specs.Holding.{IsHeld, Keeps}
 use Rattle.spindle.specs.Passing.{Moved, Stayed, InNext, WentOut}
 
 module _ {N : Type 0} (v : View N) (q : ℕ) (quiet : Bool) (waits : v.standing ≡ Waiting q quiet) (n : ℕ) where
@@ -41,31 +47,31 @@ deeds_append (x ∷ xs) b = ap (λ (l : List Deed). deed_of x.kind ++ l) (deeds_
 module _ {S N : Type 0} where
   -- one step more
   pub moved_once : (st : Standing) (k : Known) (m : Me S (View N)) (x : Trace Kind) → deed_of x.kind ≡ [] → Moved st k m (noted x (standing st k m.0), m.1)
-  moved_once st k m x none = (x ∷ [], refl, ap (λ (l : List Deed). l ++ []) none)
+  moved_once st k m x none = record { steps = x ∷ []; seat = refl; quiet = ap (λ (l : List Deed). l ++ []) none }
 
   -- steps after steps
   pub moved_on : (st st' : Standing) (k k' : Known) (m u w : Me S (View N)) → Moved st k m u → Moved st' k' u w → Moved st' k' m w
-  moved_on st st' k k' m u w a b = (
-    b.0 ++ a.0,
-    b.1 ∙ (ap (λ (z : Me S (View N)). (record z.0 { standing = st'; known = k'; trail = b.0 ++ z.0.trail }, z.1)) a.1 ∙ ap (λ (l : List (Trace Kind)). (record m.0 { standing = st'; known = k'; trail = l }, m.1)) (sym (append_assoc b.0 a.0 m.0.trail))),
-    deeds_append b.0 a.0 ∙ ((λ i. b.2 i ++ a.2 i)),
-  )
+  moved_on st st' k k' m u w a b = record {
+    steps = b.steps ++ a.steps;
+    seat = b.seat ∙ (ap (λ (z : Me S (View N)). (record z.0 { standing = st'; known = k'; trail = b.steps ++ z.0.trail }, z.1)) a.seat ∙ ap (λ (l : List (Trace Kind)). (record m.0 { standing = st'; known = k'; trail = l }, m.1)) (sym (append_assoc b.steps a.steps m.0.trail)));
+    quiet = deeds_append b.steps a.steps ∙ (λ i. b.quiet i ++ a.quiet i);
+  }
 
   pub stayed_first : (m : Me S (View N)) → Stayed m m
-  stayed_first m = ([], refl, refl)
+  stayed_first m = record { steps = []; seat = refl; quiet = refl }
 
   pub stayed_on : (m u w : Me S (View N)) → Stayed m u → Stayed u w → Stayed m w
-  stayed_on m u w a b = moved_on m.0.standing m.0.standing m.0.known m.0.known m u w a (subst (λ (z : Standing × Known). Moved z.0 z.1 u w) (λ i. ((a.1 i).0.standing, (a.1 i).0.known)) b)
+  stayed_on m u w a b = moved_on m.0.standing m.0.standing m.0.known m.0.known m u w a (subst (λ (z : Standing × Known). Moved z.0 z.1 u w) (λ i. ((a.seat i).0.standing, (a.seat i).0.known)) b)
 
   pub passed_on : (m u w : Me S (View N)) → Stayed m u → InNext u w → InNext m w
-  passed_on m u w a b = moved_on m.0.standing (Inside (round_of m.0.standing + 1)) m.0.known (unknown m.0.leader false) m u w a (subst (λ (z : ℕ × Bool). Moved (Inside (z.0 + 1)) (unknown z.1 false) u w) (λ i. (round_of (a.1 i).0.standing, (a.1 i).0.leader)) b)
+  passed_on m u w a b = moved_on m.0.standing (Inside (round_of m.0.standing + 1)) m.0.known (unknown m.0.leader false) m u w a (subst (λ (z : ℕ × Bool). Moved (Inside (z.0 + 1)) (unknown z.1 false) u w) (λ i. (round_of (a.seat i).0.standing, (a.seat i).0.leader)) b)
 
   pub went_on : (m u w : Me S (View N)) → Stayed m u → WentOut u w → WentOut m w
   went_on m u w a b = moved_on m.0.standing Away m.0.known (unknown false false) m u w a b
 
   -- its round ends after steps within the round
   pub passed_from : (st : Standing) (k : Known) (m u w : Me S (View N)) → round_of st ≡ round_of m.0.standing → Moved st k m u → InNext u w → InNext m w
-  passed_from st k m u w same a b = moved_on st (Inside (round_of m.0.standing + 1)) k (unknown m.0.leader false) m u w a (subst (λ (z : ℕ × Bool). Moved (Inside (z.0 + 1)) (unknown z.1 false) u w) (λ i. ((ap (λ (z : Me S (View N)). round_of z.0.standing) a.1 ∙ same) i, (a.1 i).0.leader)) b)
+  passed_from st k m u w same a b = moved_on st (Inside (round_of m.0.standing + 1)) k (unknown m.0.leader false) m u w a (subst (λ (z : ℕ × Bool). Moved (Inside (z.0 + 1)) (unknown z.1 false) u w) (λ i. ((ap (λ (z : Me S (View N)). round_of z.0.standing) a.seat ∙ same) i, (a.seat i).0.leader)) b)
 
   -- Joins.
   module _ (m w : Me S (View N)) where
@@ -156,3 +162,40 @@ module _ {S N : Type 0} where
     pub leave_again : LeftBy sense leave.Again m w → Stayed m w
     leave_again a = subst (λ (z : Me S (View N)). Stayed m z) (sym (a.2 ∙ (λ i. (missing 0 a.1 (still_waits m.0 waits.0 waits.1 waits.2 a.0 sense has a.3 a.4 i), m.1))))
         (stayed_on m (loading 0 a.0 m.0, m.1) _ (moved_once m.0.standing m.0.known m _ refl) (moved_once m.0.standing m.0.known (loading 0 a.0 m.0, m.1) _ refl))
+
+    -- a look that sees no end
+    pub look_on : (l : Look) → (l ≡ look.Ended → ⊥) → LookedBy sense l m w → Stayed m w
+    look_on look.Ended n a = absurd (n refl)
+    look_on look.Running n a = look_running a
+    look_on look.Closing n a = look_closing a
+
+  -- it still waits where it stayed
+  pub stayed_waiting : (m u : Me S (View N)) → Stayed m u → IsWaiting m.0 → IsWaiting u.0
+  stayed_waiting m u a w = (w.0, w.1, ap (λ (z : Me S (View N)). z.0.standing) a.seat ∙ w.2)
+
+  -- a clear and an end
+  module _ (m u w : Me S (View N)) (q : ℕ) (was : Bool) (read : Option ℕ) (clears : u ≡ (clearing 0 m.0, m.1)) (ends : EndedBy u w) where
+    pub closed_next : m.0.standing ≡ Closing q true was read → InNext m w
+    closed_next closes = let c = cleared_once m u clears in let is : cleared m.0.standing ≡ Closing q true true read = ap cleared closes in
+        passed_from (cleared m.0.standing) m.0.known m u w (ap round_of is ∙ sym (ap round_of closes)) c (ended_next u w q read (ap (λ (z : Me S (View N)). z.0.standing) c.seat ∙ is) ends)
+
+    pub closed_out : m.0.standing ≡ Closing q false was read → WentOut m w
+    closed_out closes = let c = cleared_once m u clears in let is : cleared m.0.standing ≡ Closing q false true read = ap cleared closes in
+        moved_on (cleared m.0.standing) Away m.0.known (unknown false false) m u w c (ended_out u w q read (ap (λ (z : Me S (View N)). z.0.standing) c.seat ∙ is) ends)
+
+-- The party of a barrier.
+module _ {T S N : Type 0} where
+  pub keeps_first : (a : Barrier T S N) → IsHeld a → Keeps a a
+  keeps_first a h = (h, (refl, refl, refl))
+
+  pub keeps_on : (a b c : Barrier T S N) → Keeps a b → Keeps b c → Keeps a c
+  keeps_on a b c x y = let e = x.1 in let f = y.1 in (y.0, (f.0 ∙ e.0, f.1 ∙ e.1, f.2 ∙ e.2))
+
+module _ {S N : Type 0} where
+  -- a join refused for a moment leaves the seat as it was
+  pub refused_stays : (s u : Seat S (View N)) (e : JoinRefused (Seat S (View N))) → (e ≡ refused.Closing u) ⊎ (e ≡ refused.Again u) → JoinRefusedBy s e → (u.table_id ≡ s.table_id) × (u.id ≡ s.id) × Stayed s.me u.me
+  refused_stays s u e why told = ⊎_elim (λ (z : e ≡ refused.Closing u). let a = subst (JoinRefusedBy s) z told in (a.0, a.1, join_closing s.me u.me a.2))
+      (λ (z : e ≡ refused.Again u). let a = subst (JoinRefusedBy s) z told in (a.0, a.1, join_again s.me u.me a.2)) why
+
+  pub refused_on : (s t u : Seat S (View N)) → (t.table_id ≡ s.table_id) × (t.id ≡ s.id) × Stayed s.me t.me → (u.table_id ≡ t.table_id) × (u.id ≡ t.id) × Stayed t.me u.me → (u.table_id ≡ s.table_id) × (u.id ≡ s.id) × Stayed s.me u.me
+  refused_on s t u a b = (b.0 ∙ a.0, b.1 ∙ a.1, stayed_on s.me t.me u.me a.2 b.2)

@@ -14,11 +14,13 @@ use Rattle.spindle.specs.RoundRule.{deeds_of}
 use Rattle.spindle.specs.RoundSteps.{unknown, round_of}
 use Rattle.spindle.specs.RoundAnswers.{JoinedBy, ArrivedBy, LeftBy}
 
-module _ {S N : Type 0} where
-  -- it stands elsewhere and knows something else, and no number began, finished or was published by its steps
-  abbrev pub Moved : Standing → Known → Me S (View N) → Me S (View N) → Type 0
-  Moved st k m w = (steps : List (Trace Kind)) × (w ≡ (record m.0 { standing = st; known = k; trail = steps ++ m.0.trail }, m.1)) × (deeds_of steps ≡ [])
+-- it stands elsewhere and knows something else, and no number began, finished or was published by its steps
+pub record Moved {S N : Type 0} (st : Standing) (k : Known) (m w : Me S (View N)) : Type 0 where
+  pub steps : List (Trace Kind)
+  pub seat : w ≡ (record m.0 { standing = st; known = k; trail = steps ++ m.0.trail }, m.1)
+  pub quiet : deeds_of steps ≡ []
 
+module _ {S N : Type 0} where
   -- it is as before, but for its trail
   abbrev pub Stayed : Me S (View N) → Me S (View N) → Type 0
   Stayed m w = Moved m.0.standing m.0.known m w

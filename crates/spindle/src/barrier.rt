@@ -14,6 +14,7 @@ pub mod ending;
 pub mod joining;
 pub mod leaving;
 pub mod steps;
+pub mod waiting;
 
 /// The most parties of a barrier (`MASK` of spindle).
 pub const MASK: u32 = 32767;

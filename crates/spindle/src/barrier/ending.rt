@@ -20,7 +20,7 @@ pub enum AfterEnd<'a, D: Slots> {
     Gone(Seat<D>),
 }
 
-fn end_round<D: Slots>(words: &SharedWords<D>, seat: &mut Seat<D>)
+pub(crate) fn end_round<D: Slots>(words: &SharedWords<D>, seat: &mut Seat<D>)
     requires seated { (seat.old.table_id ≡ words.now.table_id) × (0 < words.now.table_id.words) }
     requires cleared { HasCleared seat.old.me.0 }
     ensures seat { (seat.new.table_id ≡ seat.old.table_id) × (seat.new.id ≡ seat.old.id) }
