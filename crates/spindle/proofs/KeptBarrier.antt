@@ -21,7 +21,7 @@ use Rattle.spindle.proofs.RoundMoves.{Rule, SeatOf, Before, turns, misses, moves
 use Rattle.spindle.proofs.RoundWords.{word_fields, by_equal, status_words}
 use Rattle.spindle.proofs.KeptLoads.{used_up}
 
-none_of : (o : Option ℕ) → ((c : ℕ) → o ≡ Some c → ⊥) → o ≡ None
+pub none_of : (o : Option ℕ) → ((c : ℕ) → o ≡ Some c → ⊥) → o ≡ None
 none_of None n = refl
 none_of (Some c) n = absurd (n c refl)
 

@@ -20,3 +20,6 @@ pub mod KeptShares
 pub mod KeptFinish
 pub mod KeptStops
 pub mod RoundClients
+pub mod KeptLeaving
+pub mod KeptEnding
+pub mod BarrierClients

@@ -15,3 +15,5 @@ pub mod RoundAnswers
 pub mod RoundViews
 pub mod Seats
 pub mod Done
+pub mod Holding
+pub mod Passing

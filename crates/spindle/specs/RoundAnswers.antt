@@ -75,16 +75,16 @@ module _ {S N : Type 0} where
 
   -- what a party with that sense sees: its round has ended; else some member is in; else the round is closing
   abbrev pub LookedBy : ℕ → Look → Me S (View N) → Me S (View N) → Type 0
-  LookedBy sense look.Ended m w = (n : ℕ) × (w ≡ (looking n m.0, m.1)) × (sense_of n ≡ sense)
-  LookedBy sense look.Running m w = (n : ℕ) × (w ≡ (looking n m.0, m.1)) × (sense_of n ≢ sense) × (0 < count_of n)
-  LookedBy sense look.Closing m w = (n : ℕ) × (w ≡ (looking n m.0, m.1)) × (sense_of n ≢ sense) × (count_of n ≡ 0)
+  LookedBy sense look.Ended m w = (n : ℕ) × (w ≡ (looking n m.0, m.1)) × (n < 4294967296) × (sense_of n ≡ sense)
+  LookedBy sense look.Running m w = (n : ℕ) × (w ≡ (looking n m.0, m.1)) × (n < 4294967296) × (sense_of n ≢ sense) × (0 < count_of n)
+  LookedBy sense look.Closing m w = (n : ℕ) × (w ≡ (looking n m.0, m.1)) × (n < 4294967296) × (sense_of n ≢ sense) × (count_of n ≡ 0)
 
   -- a leave looks first, and then exchanges
   abbrev pub LeftBy : ℕ → LeaveStep → Me S (View N) → Me S (View N) → Type 0
-  LeftBy sense leave.Left m w = (n : ℕ) × (w ≡ (leaving n (looking n m.0), m.1)) × (sense_of n ≢ sense) × (0 < count_of n)
+  LeftBy sense leave.Left m w = (n : ℕ) × (w ≡ (leaving n (looking n m.0), m.1)) × (n < 4294967296) × (sense_of n ≢ sense) × (0 < count_of n)
   LeftBy sense leave.Ended m w = LookedBy sense look.Ended m w
   LeftBy sense leave.Closing m w = LookedBy sense look.Closing m w
-  LeftBy sense leave.Again m w = (n found : ℕ) × (w ≡ (missing 0 found (looking n m.0), m.1)) × (sense_of n ≢ sense) × (0 < count_of n) × (found ≢ n)
+  LeftBy sense leave.Again m w = (n found : ℕ) × (w ≡ (missing 0 found (looking n m.0), m.1)) × (n < 4294967296) × (sense_of n ≢ sense) × (0 < count_of n) × (found ≢ n)
 
   -- an exit: who found count 1 beside other members is the closer
   abbrev pub ExitedBy : ExitStep → Me S (View N) → Me S (View N) → Type 0

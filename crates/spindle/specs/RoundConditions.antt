@@ -1,5 +1,5 @@
 -- What a call on a round table asks of its seat.
-use Rattle.std.specs.Prelude.{◌≡◌, ◌⊎◌, ℕ, ◌+◌, ◌%◌, ◌≤◌, true, false, Some, None}
+use Rattle.std.specs.Prelude.{◌≡◌, ◌⊎◌, ℕ, ◌+◌, ◌%◌, ◌≤◌, Bool, true, false, Option, Some, None}
 use Rattle.atomic_table.specs.Table.{Me}
 use Rattle.spindle.specs.declared.round_table.view.Standing.{Standing}
 use Rattle.spindle.specs.declared.round_table.view.Standing.TheVariants.{Away, Inside, Waiting, Closing}
@@ -66,3 +66,30 @@ MayPutBack v = ((q : ℕ) × (v.standing ≡ Inside q)) × (v.claim ≡ None) ×
 -- it may arrive
 abbrev pub MayArrive : {N : Type 0} → View N → Type 0
 MayArrive v = IsFreeInside v × IsDone v
+
+-- whether the party is a member, as it keeps it for the round's end
+abbrev pub HasPart : Standing → Bool → Type 0
+HasPart Away b = Unit {0}
+HasPart (Inside q) b = b ≡ true
+HasPart (Waiting q quiet) b = b ≡ true
+HasPart (Closing q member was at) b = b ≡ member
+
+-- it has arrived, and its round may have ended by now
+abbrev pub IsWaiting : {N : Type 0} → View N → Type 0
+IsWaiting v = (q : ℕ) × (quiet : Bool) × (v.standing ≡ Waiting q quiet)
+
+-- and it isn't the leader of a published round
+abbrev pub MayLeave : {N : Type 0} → View N → Type 0
+MayLeave v = (q : ℕ) × (quiet : Bool) × (v.standing ≡ Waiting q quiet) × ((v.leader ≡ false) ⊎ (quiet ≡ true))
+
+-- a member that hasn't arrived and has nothing to finish, but not the leader of a published round
+abbrev pub MayExit : {N : Type 0} → View N → Type 0
+MayExit v = IsFreeInside v × ((v.leader ≡ false) ⊎ (v.known.unpublished ≡ true))
+
+-- it closes its round
+abbrev pub IsClosing : {N : Type 0} → View N → Type 0
+IsClosing v = (q : ℕ) × (member was : Bool) × (read : Option ℕ) × (v.standing ≡ Closing q member was read)
+
+-- and it has cleared it
+abbrev pub HasCleared : {N : Type 0} → View N → Type 0
+HasCleared v = (q : ℕ) × (member : Bool) × (read : Option ℕ) × (v.standing ≡ Closing q member true read)

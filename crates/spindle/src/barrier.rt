@@ -1,20 +1,20 @@
 //! The barrier of a round table: parties join, arrive, leave and exit, and whoever comes last closes the round.
-ghost use Rattle.std.specs.Prelude.{◌≡◌, ◌+◌, ◌*◌, ◌≤◌, [], true, IfOk, IfErr, OnErr, IsErrOf};
-ghost use Rattle.spindle.specs.RoundAnswers.{JoinedBy, JoinRefusedBy};
+ghost use Rattle.std.specs.Prelude.{◌≡◌, ◌+◌, ◌*◌, ◌≤◌, [], true, IfOk, OnErr, IsErrOf};
 ghost use Rattle.spindle.specs.RoundSteps.{outsider, new_view};
-ghost use Rattle.spindle.specs.RoundConditions.{HasSense};
-ghost use Rattle.spindle.specs.declared.round_table.view.Standing.TheVariants.{Away};
-ghost use Rattle.spindle.specs.declared.barrier.steps.JoinStep.TheVariants.{Joined};
 
-use self::steps::{JoinStep, join};
+use self::steps::{FIELD, MOST};
 use crate::round_table::plays::NewSeat;
 use crate::round_table::slots::{Bare, Slots};
-use crate::round_table::{APART, RANGES, RoundTable, Seat};
+use crate::round_table::{APART, BARRIER, RANGES, RoundTable, Seat};
 use atomic_table::Table;
 use spindle_parts::fault::Fault;
 use std::alloc::Global;
 
+pub mod ending;
+pub mod joining;
+pub mod leaving;
 pub mod steps;
+pub mod waiting;
 
 /// The most parties of a barrier (`MASK` of spindle).
 pub const MASK: u32 = 32767;
@@ -45,6 +45,8 @@ pub struct Barrier<'a, D: Slots> {
     pub init: &'a BarrierInit<D>,
     pub seat: Seat<D>,
     pub sense: u64,
+    /// Not so of a closer that has exited.
+    pub is_member: bool,
     pub thread_id: usize,
 }
 
@@ -88,31 +90,10 @@ impl<D: Slots> BarrierInit<D> {
         self.table.shared.split_seat::<NewSeat>(seat)
     }
 
-    /// Joins the barrier by one exchange. The party's sense starts as the word's; `thread_id` decides nothing.
-    ///
-    /// # Errors
-    /// `Full`, `Closing` or `Again`, each with the seat.
-    pub fn try_join(
-        &self,
-        mut seat: Seat<D>,
-        thread_id: usize,
-    ) -> Result<Barrier<'_, D>, JoinRefused<Seat<D>>>
-        requires seated { seat.table_id ≡ self.now.table.shared.table_id }
-        requires away { seat.me.0.standing ≡ Away }
-        ensures joined { IfOk result (λ b. JoinedBy (Joined b.sense) seat.me b.seat.me × HasSense b.seat.me.0.standing b.sense × (b.seat.id ≡ seat.id) × (b.thread_id ≡ thread_id)) }
-        ensures table { IfOk result (λ b. (b.seat.table_id ≡ self.now.table.shared.table_id) × (b.init.now ≡ self.now)) }
-        ensures refused { IfErr result (λ e. JoinRefusedBy seat e) }
+    /// How many parties are members, as the word shows at this moment.
+    pub fn current_num_threads(&self) -> usize
+        ensures { result ≤ 32767 }
     {
-        match join(&self.table.shared, &mut seat) {
-            JoinStep::Joined(sense) => Ok(Barrier {
-                init: self,
-                seat,
-                sense,
-                thread_id,
-            }),
-            JoinStep::Full => Err(JoinRefused::Full(seat)),
-            JoinStep::Closing => Err(JoinRefused::Closing(seat)),
-            JoinStep::Again => Err(JoinRefused::Again(seat)),
-        }
+        (self.table.shared.peek(BARRIER) / MOST % FIELD) as usize
     }
 }

@@ -2,8 +2,8 @@
 use Rattle.std.proofs.Common.{rules, arith, ap, ◌∙◌, ◌⊎◌, inl, inr, ◌≡◌, ◌<◌, ◌/◌, ◌%◌}
 use Rattle.spindle.proofs.KeptLoads.{loads}
 use Rattle.spindle.proofs.KeptBarrier.{joins}
-use Rattle.spindle.proofs.barrier.steps.join.Goals as goal
-use Rattle.spindle.proofs.barrier.steps.join.Goals.{else-word-eq0-via-then-word-eq0+else-most-gt0, else-word-eq0-via-else-word-eq0}
+use Rattle.spindle.proofs.barrier.joining.join.Goals as goal
+use Rattle.spindle.proofs.barrier.joining.join.Goals.{else-word-eq0-via-then-word-eq0+else-most-gt0, else-word-eq0-via-else-word-eq0}
 
 pub load-word-requires : goal.load-word-requires
 load-word-requires g c = (search rules, search rules, loads g.D.Slots.discipline g.met.D.Slots.lawful _ _ _ _)
