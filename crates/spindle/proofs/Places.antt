@@ -8,7 +8,7 @@ use Rattle.std.proofs.lemmas.List.{take_more, take_all, append-nil}
 use Rattle.std.proofs.lemmas.Slice.Zip.{AllZip-long}
 use Rattle.spindle_parts.specs.declared.cut.Piece.{Piece}
 use Rattle.spindle_parts.proofs.Lists.{joined_snoc, map_snoc}
-use Rattle.spindle.proofs.Outputs.{AllZip-append}
+use Rattle.spindle_parts.proofs.Lists.{all_zip_append}
 use Rattle.spindle.specs.Done.{Done}
 use Rattle.spindle.specs.Outputs.{HoldAll, items_of, inputs_in, all_inputs_in}
 
@@ -33,7 +33,7 @@ all_zip_at R k xs ys x y h h' z = at_last R k xs ys x y h h' (rw add-one at z)
 -- one more place at which two lists agree
 pub all_zip_more : {A B : Type 0} (R : A → B → Type 0) (k : ℕ) (xs : List A) (ys : List B) (x : A) (y : B) → k < length xs → k < length ys → AllZip R (take k xs) (take k ys) → R (get_or xs k x) (get_or ys k y) → AllZip R (take (k + 1) xs) (take (k + 1) ys)
 all_zip_more R k xs ys x y h h' z r =
-    rw (take_more xs k x h, take_more ys k y h') (AllZip-append R (take k xs) (take k ys) (get_or xs k x ∷ []) (get_or ys k y ∷ []) z (r, tt))
+    rw (take_more xs k x h, take_more ys k y h') (all_zip_append R (take k xs) (take k ys) (get_or xs k x ∷ []) (get_or ys k y ∷ []) z (r, tt))
 
 -- the inputs in the places are the items of the pieces that they hold
 pub inputs_of_pieces : {A B : Type 0} (pieces : List (Piece A)) (places : List (Option (Done A B))) → HoldAll pieces places → all_inputs_in places ≡ items_of pieces
@@ -84,7 +84,7 @@ all_zip_all R k xs ys h h' z = rw (take_all k xs h, take_all k ys h') at z
 -- one more place's outputs answer one more place's inputs
 pub outputs_more : {A B : Type 0} (R : A → B → Type 0) (places : List (Option (Done A B))) (k : ℕ) (d : Option (Done A B)) (done : Done A B) (room outputs : List B) → k < length places → get_or places k d ≡ Some done → AllZip R (all_inputs_in (take k places)) room → AllZip R done.inputs outputs → AllZip R (all_inputs_in (take (k + 1) places)) (room ++ outputs)
 outputs_more R places k d done room outputs h e z w =
-    rw (inputs_more places k d h, e) (AllZip-append R (all_inputs_in (take k places)) room done.inputs outputs z w)
+    rw (inputs_more places k d h, e) (all_zip_append R (all_inputs_in (take k places)) room done.inputs outputs z w)
 
 -- an empty place has no inputs
 pub nothing_more : {A B : Type 0} (R : A → B → Type 0) (places : List (Option (Done A B))) (k : ℕ) (d : Option (Done A B)) (room : List B) → k < length places → get_or places k d ≡ None → AllZip R (all_inputs_in (take k places)) room → AllZip R (all_inputs_in (take (k + 1) places)) room

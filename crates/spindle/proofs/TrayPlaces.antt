@@ -7,7 +7,7 @@ use Rattle.std.specs.List.{AllZip}
 use Rattle.spindle_parts.specs.declared.cut.Piece.{Piece}
 use Rattle.spindle.specs.Done.{Given, Slot}
 use Rattle.spindle.specs.Trays.{Awaits}
-use Rattle.spindle.proofs.Outputs.{AllZip-append}
+use Rattle.spindle_parts.proofs.Lists.{all_zip_append}
 use Rattle.spindle_parts.specs.Pieces.{counted}
 use Rattle.spindle_parts.proofs.Lists.{counted_snoc, map_snoc}
 
@@ -60,7 +60,7 @@ numbers_await (p ∷ pieces) (s ∷ places) z =
 pub await_more : {A B : Type 0} (pieces : List (Piece A)) (places : List (Slot A B)) (piece : Piece A) (given : Given A) (slot : Slot A B) → AllZip Awaits pieces places → given.number ≡ piece.number → given.inputs ≡ piece.items.items → slot.number ≡ given.number → slot.ready ≡ Some given → slot.finished ≡ None → AllZip Awaits (pieces ++ piece ∷ []) (places ++ slot ∷ [])
 await_more pieces places piece given slot z n i m r f =
     let ready = r ∙ (λ j. Some (record { number = n j; inputs = i j })) in
-    AllZip-append Awaits pieces places (piece ∷ []) (slot ∷ []) z ((m ∙ n, ready, f), tt)
+    all_zip_append Awaits pieces places (piece ∷ []) (slot ∷ []) z ((m ∙ n, ready, f), tt)
 
 -- a function of each element of a list that was walked to its end
 pub walked : {A B : Type 0} (f : A → B) (xs all : List A) → map (λ x. x) xs ≡ all → map f xs ≡ map f all

@@ -14,6 +14,5 @@ pub mod RoundConditions
 pub mod RoundAnswers
 pub mod RoundViews
 pub mod Seats
-pub mod Done
 pub mod Holding
 pub mod Passing

@@ -17,9 +17,9 @@ mod place;
 mod pool;
 mod ready;
 mod root;
+mod shared;
 mod tray;
 mod trays;
-mod shared;
 
 pub use context::JobCx;
 pub use finished::Finished;
@@ -32,8 +32,3 @@ pub use nest::{End, Nest, Under};
 pub use pool::Pool;
 pub use root::with_lock;
 pub use shared::{Lock, Opens};
-mod finished;
-pub mod job;
-
-pub use finished::Finished;
-pub use job::Job;

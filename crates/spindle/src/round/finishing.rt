@@ -5,7 +5,7 @@ ghost use Rattle.spindle.specs.RoundSteps.{finishing};
 ghost use Rattle.spindle.specs.RoundConditions.{MayFinish, MayGive};
 
 use crate::lock::Finished;
-use crate::lock::job::Job;
+use crate::lock::Job;
 use crate::round::Round;
 use crate::round::claim::Claimed;
 use crate::round_table::plays::Finishes;
