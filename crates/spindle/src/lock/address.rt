@@ -15,7 +15,8 @@ impl Address {
         requires number { number < pieces }
         requires threads { 0 < threads }
         ensures thread { result.thread < threads }
-        ensures place { slice_get (dealt (counted 0 pieces) threads result.thread) result.place ≡ Some number }
+        ensures place { slice_get (dealt (counted 0 pieces) threads result.thread) result.place
+            ≡ Some number }
     {
         let each = pieces / threads;
         let in_runs = each * threads;

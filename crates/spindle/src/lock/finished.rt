@@ -19,7 +19,8 @@ impl<J: Job> Model for Finished<J> {
 
     ghost Value = { Done J.In J.Out };
 
-    ghost view = { λ piece. record { number = piece.number; inputs = piece.inputs.items; outputs = piece.outputs.items } };
+    ghost view = { λ piece.
+        record { number = piece.number; inputs = piece.inputs.items; outputs = piece.outputs.items } };
 
     ghost invariant = { λ piece. AllZip J.meets piece.inputs.items piece.outputs.items };
 }

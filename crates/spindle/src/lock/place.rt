@@ -22,7 +22,8 @@ impl<J: Job> Model for Place<J> {
 
     ghost view = { λ place. record { number = place.number; ready = place.ready; finished = place.finished } };
 
-    ghost invariant = { λ place. IfSome place.ready (λ piece. piece.number ≡ place.number) × IfSome place.finished (λ piece. piece.number ≡ place.number) };
+    ghost invariant = { λ place. IfSome place.ready (λ piece. piece.number ≡ place.number)
+        × IfSome place.finished (λ piece. piece.number ≡ place.number) };
 }
 
 impl<J: Job> Place<J> {

@@ -22,7 +22,8 @@ impl<J: Job> Model for Ready<J> {
 
     ghost view = { λ piece. record { number = piece.number; inputs = piece.inputs.items } };
 
-    ghost invariant = { λ piece. (piece.room.items ≡ []) × (vec_len piece.inputs ≤ vec_capacity piece.room) };
+    ghost invariant = { λ piece. (piece.room.items ≡ [])
+        × (vec_len piece.inputs ≤ vec_capacity piece.room) };
 }
 
 impl<J: Job> Ready<J> {

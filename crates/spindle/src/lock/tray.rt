@@ -67,7 +67,8 @@ impl<J: Job> Tray<J> {
     pub(crate) fn take(&mut self, at: usize) -> Option<Ready<J>>
         ensures piece { result ≡ ready_at self.old.places.items at }
         ensures taken { ready_at self.new.places.items at ≡ None }
-        ensures others { (k : ℕ) → k ≢ at → slice_get self.new.places.items k ≡ slice_get self.old.places.items k }
+        ensures others { (k : ℕ) → k ≢ at
+            → slice_get self.new.places.items k ≡ slice_get self.old.places.items k }
     {
         if at >= self.places.len() {
             return None;
@@ -78,11 +79,14 @@ impl<J: Job> Tray<J> {
 
     /// Brings a piece back to its place, run. Refused where one was brought already, or the place has another number.
     pub(crate) fn put(&mut self, at: usize, finished: Finished<J>) -> Result<(), Finished<J>>
-        ensures free { IsOk result ↔ ((number_at self.old.places.items at ≡ Some finished.number) × (finished_at self.old.places.items at ≡ None)) }
+        ensures free { IsOk result
+            ↔ ((number_at self.old.places.items at ≡ Some finished.number)
+            × (finished_at self.old.places.items at ≡ None)) }
         ensures held { OnOk result (finished_at self.new.places.items at ≡ Some finished) }
         ensures returned { IfErr result (λ back. back ≡ finished) }
         ensures kept { OnErr result (self.new.places.items ≡ self.old.places.items) }
-        ensures others { (k : ℕ) → k ≢ at → slice_get self.new.places.items k ≡ slice_get self.old.places.items k }
+        ensures others { (k : ℕ) → k ≢ at
+            → slice_get self.new.places.items k ≡ slice_get self.old.places.items k }
     {
         if at >= self.places.len() {
             return Err(finished);
@@ -102,7 +106,8 @@ impl<J: Job> Tray<J> {
     )
         requires room { vec_len list.old + count ≤ vec_capacity list.old }
         requires places { from + count < 2 ^ 64 }
-        ensures moved { list.new.items ≡ list.old.items ++ map (finished_at self.old.places.items) (counted from count) }
+        ensures moved { list.new.items
+            ≡ list.old.items ++ map (finished_at self.old.places.items) (counted from count) }
         ensures room { vec_capacity list.new ≡ vec_capacity list.old }
         ensures len { vec_len list.new ≡ vec_len list.old + count }
     {
@@ -114,7 +119,8 @@ impl<J: Job> Tray<J> {
     // Takes what was brought back to a place.
     fn take_finished(&mut self, at: usize) -> Option<Finished<J>>
         ensures piece { result ≡ finished_at self.old.places.items at }
-        ensures others { (k : ℕ) → k ≢ at → slice_get self.new.places.items k ≡ slice_get self.old.places.items k }
+        ensures others { (k : ℕ) → k ≢ at
+            → slice_get self.new.places.items k ≡ slice_get self.old.places.items k }
     {
         if at >= self.places.len() {
             return None;

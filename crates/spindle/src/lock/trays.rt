@@ -45,7 +45,9 @@ impl<J: Job> Trays<J> {
         mut hands: Vec<Vec<Piece<J::In>>>,
         pieces: usize,
     ) -> Result<(), Fault>
-        requires { map (λ hand. map (λ piece. piece.number) hand.items) hands.items ≡ map (dealt (counted 0 pieces) (vec_len self.now.trays)) (counted 0 (vec_len self.now.trays)) }
+        requires { let threads = vec_len self.now.trays in
+            map (λ hand. map (λ piece. piece.number) hand.items) hands.items
+            ≡ map (dealt (counted 0 pieces) threads) (counted 0 threads) }
         ensures { OnErr result (IsErrOf result Fault.Memory) }
     {
         for thread in 0..self.trays.len() {
@@ -65,7 +67,8 @@ impl<J: Job> Trays<J> {
         pieces: usize,
     ) -> Result<(), AllocError>
         requires thread { thread < vec_len self.now.trays }
-        requires numbers { map (λ piece. piece.number) hand.items ≡ dealt (counted 0 pieces) (vec_len self.now.trays) thread }
+        requires numbers { map (λ piece. piece.number) hand.items
+            ≡ dealt (counted 0 pieces) (vec_len self.now.trays) thread }
     {
         let threads = self.trays.len();
         let mut tray = self.trays[thread].lock(rt);
