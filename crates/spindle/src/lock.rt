@@ -4,4 +4,4 @@ mod finished;
 pub mod job;
 
 pub use finished::Finished;
-pub use job::Job;
+pub use job::{End, Job, JobCx, Nest};
