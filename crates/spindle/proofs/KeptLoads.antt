@@ -159,6 +159,9 @@ module _ {X N : Type 0} (D : Discipline X N) (law : Lawful D) (t : ℕ) where
     keeps,
     tt,
     stays D law t s r 8 id me (loading 8 x me.0) at (refl, refl, refl) (noted_shows S id me.0 _ seat.0) refl refl (inr refl) refl,
-    (refl, λ q n inside_q known. let k = (seat.0.inside q inside_q).number n known in let is : x ≡ number_of (Some n) me.0.known.may_stop = r.words.published ∙ (λ i. number_of (k.0 i) (k.1 i)) in
-        let few = ((sound r.run r.is_run).gate.shown n k.0).2 in let low = low_half me.0.known.may_stop n few in (ap (λ (z : ℕ). loading 8 z me.0) is, ap (λ (z : ℕ). z % 4294967296) is ∙ low)),
+    (
+      refl,
+      λ q n inside_q known. let k = (seat.0.inside q inside_q).number n known in let is : x ≡ number_of (Some n) me.0.known.may_stop = r.words.published ∙ (λ i. number_of (k.0 i) (k.1 i)) in
+          let few = ((sound r.run r.is_run).gate.shown n k.0).2 in let low = low_half me.0.known.may_stop n few in (ap (λ (z : ℕ). loading 8 z me.0) is, ap (λ (z : ℕ). z % 4294967296) is ∙ low),
+    ),
   )

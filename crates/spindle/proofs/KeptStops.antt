@@ -129,19 +129,30 @@ module _ (S : State) (h : Sound S) (id from to : ℕ) (share : IsShare (party S 
 
   -- its numbers are free, and what was free is
   pub given_free : (j : ℕ) → from ≤ j → j < to → Free given j
-  given_free j low high = let mine = (h.work.fits id).held j ((share j).1 (low, high)) in
-      (h.work.below j (λ e. cc), h.work.begun j ∙ ap started mine, λ a. dite (ℕ_discrete a id)
-      (λ e. subst (λ (z : ℕ). (party given z).taken j ≡ false) (sym e) (ap (λ (z : Party). z.taken j) (look_here S.parties id emptied)))
-      (λ n. ap (λ (z : Party). z.taken j) (look_else S.parties id emptied a n) ∙ untrue ((party S a).taken j) (λ on. let other = (h.work.fits a).held j on in let both : Held id ≡ Held a = sym mine ∙ other in let same : id ≡ a = cc in n (sym same))))
+  given_free j low high = let mine = (h.work.fits id).held j ((share j).1 (low, high)) in (
+    h.work.below j (λ e. cc),
+    h.work.begun j ∙ ap started mine,
+    λ a. dite (ℕ_discrete a id)
+        (λ e. subst (λ (z : ℕ). (party given z).taken j ≡ false) (sym e) (ap (λ (z : Party). z.taken j) (look_here S.parties id emptied)))
+        (λ n. ap (λ (z : Party). z.taken j) (look_else S.parties id emptied a n) ∙ untrue ((party S a).taken j) (λ on. let other = (h.work.fits a).held j on in let both : Held id ≡ Held a = sym mine ∙ other in let same : id ≡ a = cc in n (sym same))),
+  )
 
   given_on : (j : ℕ) → Free S j → Free given j
-  given_on j f = (f.0, f.1, λ a. dite (ℕ_discrete a id)
-      (λ e. subst (λ (z : ℕ). (party given z).taken j ≡ false) (sym e) (ap (λ (z : Party). z.taken j) (look_here S.parties id emptied)))
-      (λ n. ap (λ (z : Party). z.taken j) (look_else S.parties id emptied a n) ∙ f.2 a))
+  given_on j f = (
+    f.0,
+    f.1,
+    λ a. dite (ℕ_discrete a id)
+        (λ e. subst (λ (z : ℕ). (party given z).taken j ≡ false) (sym e) (ap (λ (z : Party). z.taken j) (look_here S.parties id emptied)))
+        (λ n. ap (λ (z : Party). z.taken j) (look_else S.parties id emptied a n) ∙ f.2 a),
+  )
 
   free_or : (j : ℕ) → Free given j → (Free S j) ⊎ ((from ≤ j) × (j < to))
-  free_or j f = ⊎_elim (λ on. inr ((share j).0 on)) (λ off. inl (f.0, f.1, λ a. dite (ℕ_discrete a id) (λ e. subst (λ (z : ℕ). (party S z).taken j ≡ false) (sym e) off)
-      (λ n. sym (ap (λ (z : Party). z.taken j) (look_else S.parties id emptied a n)) ∙ f.2 a))) (true_or ((party S id).taken j))
+  free_or j f = ⊎_elim (λ on. inr ((share j).0 on)) (λ off. inl (
+    f.0,
+    f.1,
+    λ a. dite (ℕ_discrete a id) (λ e. subst (λ (z : ℕ). (party S z).taken j ≡ false) (sym e) off)
+        (λ n. sym (ap (λ (z : Party). z.taken j) (look_else S.parties id emptied a n)) ∙ f.2 a),
+  )) (true_or ((party S id).taken j))
 
   not_shared : (j : ℕ) → Free S j → (from ≤ j) × (j < to) → ⊥
   not_shared j f z = let a = f.2 id in let b = (share j).1 z in cc

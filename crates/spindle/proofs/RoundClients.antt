@@ -1,5 +1,5 @@
 -- What the calls of a round leave a party, for the loops of those who call them.
-use Rattle.std.proofs.Common.{◌≡◌, inl, inr, ℕ, zero, suc, ◌+◌, ◌-◌, ◌*◌, ◌<◌, ◌≤◌, Bool, true, false, List, [], ◌∷◌, ◌++◌, length, get_or, append_assoc, sym, refl, ap, ◌∙◌, subst, arith, Option, Some, None, if◌then◌else◌, nat_lt, ◌==◌}
+use Rattle.std.proofs.Common.{◌≡◌, ◌≢◌, inl, inr, ℕ, zero, suc, ◌+◌, ◌-◌, ◌*◌, ◌%◌, ◌<◌, ◌≤◌, Bool, true, false, List, [], ◌∷◌, ◌++◌, length, get_or, append_assoc, sym, refl, ap, ◌∙◌, subst, arith, Option, Some, None, if◌then◌else◌, nat_lt, ◌==◌}
 use mathlib.Core.Logic.{dite}
 use native.Mathlib.Decide.{ℕ_discrete}
 use Rattle.atomic_table.specs.Table.{Me}
@@ -16,11 +16,11 @@ use Rattle.spindle.specs.declared.round.stopping.PutBack.TheVariants as back
 use Rattle.spindle.specs.Spans.{Span}
 use Rattle.spindle.specs.RoundSlots.{Discipline}
 use Rattle.spindle.specs.RoundRule.{Deed, Began, Ended, Showed, IsListed, deeds_of, deed_of}
-use Rattle.spindle.specs.RoundSteps.{beginning, range_word, list_empty, searching, reading_rest, recalling, missing, claiming, stealing, resting, sharing, finishing, stopping, seeing, putting, publishing, round_of, start_of, end_of}
+use Rattle.spindle.specs.RoundSteps.{beginning, range_word, list_empty, searching, reading_rest, recalling, missing, claiming, stealing, resting, sharing, finishing, stopping, seeing, putting, publishing, learning, round_of, start_of, end_of}
 use Rattle.spindle.specs.RoundConditions.{MayPublish, MayClaim, MayBegin, MayFinish, MayPutBack, MayArrive, IsItsShare, IsDone}
 use Rattle.spindle.specs.RoundAnswers.{searching_all, OwnClaimed, StolenBy, RestClaimed, SharedBy, FinishedBy, SeenBy, PutBy, FilledBy}
 use Rattle.spindle.specs.RoundViews.{shown_of, published_of, AtWork, Onward, SeesAsBefore, SharesAsBefore, AfterClaim, AfterSteal}
-use Rattle.spindle.proofs.RoundWords.{by_less}
+use Rattle.spindle.proofs.RoundWords.{by_less, by_equal}
 use Rattle.spindle.proofs.RoundSearch.{may_still}
 
 -- deeds without a publish show nothing more
@@ -160,8 +160,13 @@ module _ {S N : Type 0} (D : Discipline S N) (m w : Me S (View N)) (may : MayCla
   pub stolen : (t : ℕ) (r : Steal) → StolenBy D t r m w → AfterSteal t r m.0 w.0
   stolen t (steal.Job c share) a = let v : View N = searching_all 0 a.0 m.0 in let b = all_searched_on 0 a.0 m.0 in let x : ℕ = get_or a.0 a.1 0 in let u : View N = stealing (40 + 8 * a.1) x a.2 v in
       subst (AfterSteal t (steal.Job c share) m.0) (sym a.5) (onward_then m.0 v u b.0 (stole_on (40 + 8 * a.1) x a.2 v), b.1, ((may.0.0, b.0.standing ∙ may.0.1), ap (λ (k : ℕ). Some k) (sym a.7)), (a.8 ∙ ap (λ (k : ℕ). k + 1) a.7, a.9))
-  stolen t steal.Nothing a = let b = all_searched_on 0 a.0 m.0 in subst (AfterSteal t steal.Nothing m.0) (sym (ap (λ z. z.0) a.3)) (b.0, b.1, b.2, may_still 0 a.0 m.0 may,
-      (λ i lt. let len = a.1 in let same : 0 + i ≡ i = omega arith in subst (λ (j : ℕ). IsListed j (searching_all 0 a.0 m.0).known.emptied) same (all_listed may.1.0 0 a.0 m.0 may.1.1 (λ j l. a.2 j (omega arith)) i (omega arith))))
+  stolen t steal.Nothing a = let b = all_searched_on 0 a.0 m.0 in subst (AfterSteal t steal.Nothing m.0) (sym (ap (λ z. z.0) a.3)) (
+    b.0,
+    b.1,
+    b.2,
+    may_still 0 a.0 m.0 may,
+    (λ i lt. let len = a.1 in let same : 0 + i ≡ i = omega arith in subst (λ (j : ℕ). IsListed j (searching_all 0 a.0 m.0).known.emptied) same (all_listed may.1.0 0 a.0 m.0 may.1.1 (λ j l. a.2 j (omega arith)) i (omega arith))),
+  )
   stolen t steal.Again a = let v : View N = searching_all 0 a.0 m.0 in let b = all_searched_on 0 a.0 m.0 in let u : View N = missing (40 + 8 * a.1) a.2 v in
       subst (AfterSteal t steal.Again m.0) (sym (ap (λ z. z.0) a.5)) (onward_then m.0 v u b.0 (missed_on (40 + 8 * a.1) a.2 v), b.1, b.2, may_still 0 a.0 m.0 may)
 
@@ -205,11 +210,26 @@ may_arrive n b v a idle empty done = ((a.inside.0, a.inside.1, idle, empty), don
 -- The leader.
 
 -- after `fill` the same number may be published, and nothing was
-pub filled_round : {S N : Type 0} (D : Discipline S N) (t n q : ℕ) (v w : View N) → v.standing ≡ Inside q → v.known.unpublished ≡ true → D.may_publish q n v.board → FilledBy t n v w → MayPublish D t n w × (published_of w.trail ≡ published_of v.trail) × (w.claim ≡ v.claim) × SharesAsBefore v w
-filled_round {N = N} D t n q v w inside_q alone may f = subst (λ (u : View N). MayPublish D t n u × (published_of u.trail ≡ published_of v.trail) × (u.claim ≡ v.claim) × SharesAsBefore v u) (sym f.2)
-    ((q, inside_q, alone, f.3, may), shown_more f.1 v.trail f.4, refl, (refl, refl))
+pub filled_round : {S N : Type 0} (D : Discipline S N) (t n q : ℕ) (v w : View N) → v.standing ≡ Inside q → v.known.unpublished ≡ true → D.may_publish q n v.board → FilledBy t n v w → MayPublish D t n w × (published_of w.trail ≡ published_of v.trail) × (w.claim ≡ v.claim) × SharesAsBefore v w × (w.standing ≡ Inside q)
+filled_round {N = N} D t n q v w inside_q alone may f = subst (λ (u : View N). MayPublish D t n u × (published_of u.trail ≡ published_of v.trail) × (u.claim ≡ v.claim) × SharesAsBefore v u × (u.standing ≡ Inside q)) (sym f.2)
+    ((q, inside_q, alone, f.3, may), shown_more f.1 v.trail f.4, refl, (refl, refl), inside_q)
 
 -- a published round is the leader's work, and stands in its trail
 pub round_published : {S N : Type 0} (m w : Me S (View N)) (q n : ℕ) (b : Bool) → m.0.standing ≡ Inside q → w ≡ (publishing b n m.0, m.1) → AtWork n b w.0 × (w.0.known.seen_stop ≡ false) × (w.0.claim ≡ m.0.claim) × SharesAsBefore m.0 w.0 × (published_of w.0.trail ≡ Showed q n b ∷ published_of m.0.trail)
 round_published {N = N} m w q n b inside_q a = subst (λ (u : View N). AtWork n b u × (u.known.seen_stop ≡ false) × (u.claim ≡ m.0.claim) × SharesAsBefore m.0 u × (published_of u.trail ≡ Showed q n b ∷ published_of m.0.trail)) (sym (ap (λ z. z.0) a))
     (record { inside = (q, inside_q); number = refl; may_stop = refl }, refl, refl, (refl, refl), ap (λ (z : ℕ). Showed z n b ∷ published_of m.0.trail) (ap round_of inside_q))
+
+-- who may claim may claim again, once what it has begun since is finished and its share is empty
+pub claims_again : {N : Type 0} (v w : View N) → MayClaim v → Onward v w → SeesAsBefore v w → w.to ≤ w.from → w.claim ≡ None → MayClaim w
+claims_again v w may on same empty idle = ((may.0.0, on.standing ∙ may.0.1, idle, empty), (may.1.0, on.number ∙ may.1.1), same ∙ may.2)
+
+-- the published word tells a member the number
+pub number_learned : {S N : Type 0} (m w : Me S (View N)) (q found : ℕ) → m.0.standing ≡ Inside q → w ≡ (learning found m.0, m.1) → found ≢ 0
+    → AtWork (found % 4294967296) (nat_lt 4294967295 found) w.0 × (found ≤ 4294967295 → w.0.known.seen_stop ≡ false) × (w.0.claim ≡ m.0.claim) × SharesAsBefore m.0 w.0 × (published_of w.0.trail ≡ published_of m.0.trail)
+number_learned {N = N} m w q found inside_q a some = subst (λ (u : View N). AtWork (found % 4294967296) (nat_lt 4294967295 found) u × (found ≤ 4294967295 → u.known.seen_stop ≡ false) × (u.claim ≡ m.0.claim) × SharesAsBefore m.0 u × (published_of u.trail ≡ published_of m.0.trail)) (sym (ap (λ z. z.0) a)) (
+  record { inside = (q, inside_q); number = by_equal found 0 (λ b. (if b then None else Some (found % 4294967296)) ≡ Some (found % 4294967296)) (λ z. absurd (some z)) (λ _. refl); may_stop = refl },
+  (λ few. by_less 4294967295 found (λ b. (if b then m.0.known.seen_stop else false) ≡ false) (λ lt. absurd (omega arith)) (λ _. refl)),
+  refl,
+  (refl, refl),
+  refl,
+)

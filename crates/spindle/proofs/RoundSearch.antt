@@ -42,17 +42,30 @@ module _ (xs : List ℕ) (x i range : ℕ) (b : IsBest xs i range) where
   -- the next range is longer
   pub best_last : length_of range < length_of x → IsBest (xs ++ x ∷ []) (length xs) x
   best_last longer = let w = length_more xs x in let here = at_last xs x in let e = ap length_of here in (
-    (λ some. (((omega arith), (omega arith), each (λ j y. length_of y ≤ length_of (get_or (xs ++ x ∷ []) (length xs) 0)) (λ j lt. let a = no_longer j lt in omega arith) (omega arith),
-      (λ j lt. let a = no_longer j lt in let c = ap length_of (before_last xs x j lt) in omega arith)), here)),
+    (λ some. (
+      (
+        (omega arith),
+        (omega arith),
+        each (λ j y. length_of y ≤ length_of (get_or (xs ++ x ∷ []) (length xs) 0)) (λ j lt. let a = no_longer j lt in omega arith) (omega arith),
+        (λ j lt. let a = no_longer j lt in let c = ap length_of (before_last xs x j lt) in omega arith),
+      ),
+      here,
+    )),
     (λ z. absurd (omega arith)),
   )
 
   -- it isn't
   pub best_stays : length_of x ≤ length_of range → IsBest (xs ++ x ∷ []) i range
   best_stays le = let w = length_more xs x in (
-    (λ some. let a = b.0 some in let lt = a.0.0 in let here = before_last xs x i lt in let same = here ∙ a.1 in let e = ap length_of same in let f = ap length_of a.1 in
-        (((omega arith), (omega arith), each (λ j y. length_of y ≤ length_of (get_or (xs ++ x ∷ []) i 0)) (λ j lt. let c = no_longer j lt in omega arith) (omega arith),
-        (λ j lt'. let c = a.0.3 j lt' in let d = ap length_of (before_last xs x j (omega arith)) in omega arith)), same)),
+    (λ some. let a = b.0 some in let lt = a.0.0 in let here = before_last xs x i lt in let same = here ∙ a.1 in let e = ap length_of same in let f = ap length_of a.1 in (
+      (
+        (omega arith),
+        (omega arith),
+        each (λ j y. length_of y ≤ length_of (get_or (xs ++ x ∷ []) i 0)) (λ j lt. let c = no_longer j lt in omega arith) (omega arith),
+        (λ j lt'. let c = a.0.3 j lt' in let d = ap length_of (before_last xs x j (omega arith)) in omega arith),
+      ),
+      same,
+    )),
     (λ z. each (λ j y. length_of y ≡ 0) (b.1 z) (omega arith)),
   )
 

@@ -31,12 +31,7 @@ impl<D: Slots> Round<D> {
 
 impl Round<Bare> {
     /// Finishes the job that the seat has claimed, whose piece was run.
-    pub fn finish<J: Job>(
-        &self,
-        seat: &mut Seat<Bare>,
-        claimed: Claimed,
-        finished: &Finished<J>,
-    )
+    pub fn finish<J: Job>(&self, seat: &mut Seat<Bare>, claimed: Claimed, finished: &Finished<J>)
         requires seated { seat.old.table_id ≡ self.now.init.table.shared.table_id }
         requires own { MayFinish claimed seat.old.me.0 }
         requires piece { finished.now.number ≡ claimed }

@@ -36,11 +36,7 @@ impl<D: Slots> Round<D> {
         let part = jobs / threads;
         for i in 0..self.init.threads {
             let start = part * i as u64;
-            words.store::<Fills>(
-                seat,
-                RANGES + APART * i,
-                start + HIGH * (start + part),
-            );
+            words.store::<Fills>(seat, RANGES + APART * i, start + HIGH * (start + part));
         }
     }
 

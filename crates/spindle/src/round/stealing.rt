@@ -78,12 +78,7 @@ impl<D: Slots> Round<D> {
 impl<D: Slots> Round<D> {
     /// Begins the first number of a share, and stores what is left of it in the share word of thread t, which nobody
     /// reads. `None`, without a step, where the share is empty.
-    pub fn next_of_share(
-        &self,
-        seat: &mut Seat<D>,
-        t: usize,
-        share: &mut Share,
-    ) -> Option<Claimed>
+    pub fn next_of_share(&self, seat: &mut Seat<D>, t: usize, share: &mut Share) -> Option<Claimed>
         requires seated { seat.old.table_id ≡ self.now.init.table.shared.table_id }
         requires thread { t < self.now.init.threads }
         requires free { MayBegin seat.old.me.0 }
