@@ -8,6 +8,9 @@ use std::io::{ErrorKind, Read, Write};
 use std::sync::Wait;
 use std::thread::Threads;
 
+/// So many bytes of a run's output take no memory while it runs.
+const ROOM: usize = 256;
+
 /// What a run wrote, and how it ended.
 #[derive(Drop)]
 pub struct Trial {
@@ -43,7 +46,7 @@ pub fn outcome<H: Threads + Wait + AllocGlobal + Sync>(
     input: &str,
 ) -> Result<Trial, AllocError> {
     let list = as_words(rt, words)?;
-    let mut text = Vec::new(rt.alloc());
+    let mut text = Vec::with_capacity(rt.alloc(), ROOM)?;
     let mut bytes = input.as_bytes();
     let end = run(rt, rt.alloc(), list.as_slice(), &mut bytes, &mut text);
     Ok(Trial { text, end })

@@ -2,6 +2,9 @@
 //!
 //! The tests named `refused_` hold with any one allocation refused, which
 //! `rt try --test --fail-alloc N` does to the Nth.
+ghost use Rattle.std.specs.Prelude.{◌≡◌, map, IfOk, vec_len};
+ghost use Rattle.spindle_parts.specs.Pieces.{counted};
+
 use super::*;
 use std::alloc::AllocError;
 use std::test::Fail;
@@ -67,7 +70,7 @@ fn pieces_hold_the_items_in_order(rt: HostRuntime) -> Result<(), Fail> {
 fn more_jobs_than_items_make_no_empty_piece(rt: HostRuntime) -> Result<(), Fail> {
     let pieces = singles(rt.alloc(), 3)?;
     assert!(rt; holds(&pieces, &[0, 1, 2]));
-    let mut none = numbers(rt.alloc(), 0)?;
+    let mut none = Vec::<u64>::new(rt.alloc());
     assert!(rt; cut(rt.alloc(), &mut none, 0)?.is_empty());
     Ok(())
 }

@@ -1,4 +1,7 @@
 //! Runs of `cut` and `squares` by their worked rows, the ends of every range, and a failing output.
+//!
+//! The tests named `refused_` hold with any one allocation refused, which
+//! `rt try --test --fail-alloc N` does to the Nth.
 use super::*;
 use crate::trials::{Brief, Torn, as_words, outcome};
 use std::test::Fail;
@@ -143,6 +146,24 @@ fn texts_and_statuses(rt: HostRuntime) -> Result<(), Fail> {
     for (stop, text, status) in rows {
         assert_eq!(rt; format!(in rt.alloc(); "{stop}")?.as_str(), text);
         assert_eq!(rt; stop.status(), status);
+    }
+    Ok(())
+}
+
+#[test]
+fn refused_memory_leaves_no_half_line(rt: HostRuntime) -> Result<(), Fail> {
+    let rows: [(&[&str], &str); 3] = [
+        (&["cut", "10", "4"], "3 3 2 2\n"),
+        (&["squares", "10", "4", "4"], "0 1 4 9 16 25 36 49 64 81\n"),
+        (&["squares", "3", "1", "1"], "0 1 4\n"),
+    ];
+    for (words, text) in rows {
+        if let Ok(trial) = outcome(&rt, words, "") {
+            assert!(rt;
+                trial.is(text) || trial.stopped("", Stop::Memory),
+                "{words:?}"
+            );
+        }
     }
     Ok(())
 }

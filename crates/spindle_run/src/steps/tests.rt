@@ -231,3 +231,14 @@ fn the_last_place_is_taken(rt: HostRuntime) -> Result<(), Fail> {
     assert_eq!(rt; played.text.len(), 32767 * 9 + 8);
     Ok(())
 }
+
+#[test]
+fn refused_memory_leaves_the_answers_before(rt: HostRuntime) -> Result<(), Fail> {
+    let whole = "00010001\n00020002\n00030003\n00030002\n";
+    if let Ok(trial) = outcome(&rt, &["steps"], "join 0\njoin 7\njoin 900\narrive 7\n") {
+        assert!(rt; whole.as_bytes().starts_with(trial.text.as_slice()));
+        assert!(rt; trial.text.len() % 9 == 0);
+        assert!(rt; trial.is(whole) || trial.end == Err(Stop::Memory));
+    }
+    Ok(())
+}
