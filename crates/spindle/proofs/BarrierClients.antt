@@ -59,6 +59,22 @@ module _ {S N : Type 0} where
     quiet = deeds_append b.steps a.steps ∙ (λ i. b.quiet i ++ a.quiet i);
   }
 
+  -- what such steps leave of the seat
+  pub moved_standing : (st : Standing) (k : Known) (m w : Me S (View N)) → Moved st k m w → w.0.standing ≡ st
+  moved_standing st k m w a = ap (λ (z : Me S (View N)). z.0.standing) a.seat
+
+  pub moved_known : (st : Standing) (k : Known) (m w : Me S (View N)) → Moved st k m w → w.0.known ≡ k
+  moved_known st k m w a = ap (λ (z : Me S (View N)). z.0.known) a.seat
+
+  pub moved_claim : (st : Standing) (k : Known) (m w : Me S (View N)) → Moved st k m w → (w.0.claim ≡ m.0.claim) × (w.0.from ≡ m.0.from) × (w.0.to ≡ m.0.to)
+  moved_claim st k m w a = (ap (λ (z : Me S (View N)). z.0.claim) a.seat, ap (λ (z : Me S (View N)). z.0.from) a.seat, ap (λ (z : Me S (View N)). z.0.to) a.seat)
+
+  pub moved_leader : (st : Standing) (k : Known) (m w : Me S (View N)) → Moved st k m w → (w.0.leader ≡ m.0.leader) × (w.0.threads ≡ m.0.threads)
+  moved_leader st k m w a = (ap (λ (z : Me S (View N)). z.0.leader) a.seat, ap (λ (z : Me S (View N)). z.0.threads) a.seat)
+
+  pub moved_deeds : (st : Standing) (k : Known) (m w : Me S (View N)) → Moved st k m w → deeds_of w.0.trail ≡ deeds_of m.0.trail
+  moved_deeds st k m w a = ap (λ (z : Me S (View N)). deeds_of z.0.trail) a.seat ∙ (deeds_append a.steps m.0.trail ∙ ap (λ (l : List Deed). l ++ deeds_of m.0.trail) a.quiet)
+
   pub stayed_first : (m : Me S (View N)) → Stayed m m
   stayed_first m = record { steps = []; seat = refl; quiet = refl }
 
