@@ -24,7 +24,9 @@ use Rattle.spindle.specs.declared.barrier.steps.Look.{Look}
 use Rattle.spindle.specs.declared.barrier.JoinRefused.{JoinRefused}
 use Rattle.spindle.specs.declared.barrier.JoinRefused.TheVariants as refused
 use Rattle.atomic_table.specs.declared.shared.Seat.{Seat}
-use Rattle.spindle.specs.Holding.{IsHeld, Keeps}
+use Rattle.spindle.specs.declared.barrier.waiting.ExitStatus.{ExitStatus}
+use Rattle.spindle.specs.declared.barrier.waiting.ExitStatus.TheVariants as status
+use Rattle.spindle.specs.Holding.{IsHeld, Keeps, AwaitTold, StatusTold}
 use Rattle.spindle.specs.Passing.{Moved, Stayed, InNext, WentOut}
 
 module _ {N : Type 0} (v : View N) (q : ℕ) (quiet : Bool) (waits : v.standing ≡ Waiting q quiet) (n : ℕ) where
@@ -56,6 +58,22 @@ module _ {S N : Type 0} where
     seat = b.seat ∙ (ap (λ (z : Me S (View N)). (record z.0 { standing = st'; known = k'; trail = b.steps ++ z.0.trail }, z.1)) a.seat ∙ ap (λ (l : List (Trace Kind)). (record m.0 { standing = st'; known = k'; trail = l }, m.1)) (sym (append_assoc b.steps a.steps m.0.trail)));
     quiet = deeds_append b.steps a.steps ∙ (λ i. b.quiet i ++ a.quiet i);
   }
+
+  -- what such steps leave of the seat
+  pub moved_standing : (st : Standing) (k : Known) (m w : Me S (View N)) → Moved st k m w → w.0.standing ≡ st
+  moved_standing st k m w a = ap (λ (z : Me S (View N)). z.0.standing) a.seat
+
+  pub moved_known : (st : Standing) (k : Known) (m w : Me S (View N)) → Moved st k m w → w.0.known ≡ k
+  moved_known st k m w a = ap (λ (z : Me S (View N)). z.0.known) a.seat
+
+  pub moved_claim : (st : Standing) (k : Known) (m w : Me S (View N)) → Moved st k m w → (w.0.claim ≡ m.0.claim) × (w.0.from ≡ m.0.from) × (w.0.to ≡ m.0.to)
+  moved_claim st k m w a = (ap (λ (z : Me S (View N)). z.0.claim) a.seat, ap (λ (z : Me S (View N)). z.0.from) a.seat, ap (λ (z : Me S (View N)). z.0.to) a.seat)
+
+  pub moved_leader : (st : Standing) (k : Known) (m w : Me S (View N)) → Moved st k m w → (w.0.leader ≡ m.0.leader) × (w.0.threads ≡ m.0.threads)
+  moved_leader st k m w a = (ap (λ (z : Me S (View N)). z.0.leader) a.seat, ap (λ (z : Me S (View N)). z.0.threads) a.seat)
+
+  pub moved_deeds : (st : Standing) (k : Known) (m w : Me S (View N)) → Moved st k m w → deeds_of w.0.trail ≡ deeds_of m.0.trail
+  moved_deeds st k m w a = ap (λ (z : Me S (View N)). deeds_of z.0.trail) a.seat ∙ (deeds_append a.steps m.0.trail ∙ ap (λ (l : List Deed). l ++ deeds_of m.0.trail) a.quiet)
 
   pub stayed_first : (m : Me S (View N)) → Stayed m m
   stayed_first m = record { steps = []; seat = refl; quiet = refl }
@@ -169,6 +187,13 @@ module _ {S N : Type 0} where
     look_on look.Running n a = look_running a
     look_on look.Closing n a = look_closing a
 
+  -- it may still leave where it stayed
+  pub may_wait : (m : Me S (View N)) → MayLeave m.0 → IsWaiting m.0
+  may_wait m w = (w.0, w.1, w.2)
+
+  pub stayed_leaving : (m u : Me S (View N)) → Stayed m u → MayLeave m.0 → MayLeave u.0
+  stayed_leaving m u a w = (w.0, w.1, ap (λ (z : Me S (View N)). z.0.standing) a.seat ∙ w.2, subst (λ (b : Bool). (b ≡ false) ⊎ (w.1 ≡ true)) (sym (ap (λ (z : Me S (View N)). z.0.leader) a.seat)) w.3)
+
   -- it still waits where it stayed
   pub stayed_waiting : (m u : Me S (View N)) → Stayed m u → IsWaiting m.0 → IsWaiting u.0
   stayed_waiting m u a w = (w.0, w.1, ap (λ (z : Me S (View N)). z.0.standing) a.seat ∙ w.2)
@@ -190,6 +215,28 @@ module _ {T S N : Type 0} where
 
   pub keeps_on : (a b c : Barrier T S N) → Keeps a b → Keeps b c → Keeps a c
   keeps_on a b c x y = let e = x.1 in let f = y.1 in (y.0, (f.0 ∙ e.0, f.1 ∙ e.1, f.2 ∙ e.2))
+
+  -- the sense that a party waits for is its round's
+  same_sense : (a b : Barrier T S N) → IsHeld a → IsHeld b → Stayed a.seat.me b.seat.me → IsWaiting a.seat.me.0 → b.sense ≡ a.sense
+  same_sense a b x y s w = let e = ap (λ (z : Me S (View N)). z.0.standing) s.seat in subst (λ (z : Standing). HasSense z b.sense) (e ∙ w.2) y.1 ∙ sym (subst (λ (z : Standing). HasSense z a.sense) w.2 x.1)
+
+  -- what a party that stayed is told, it is told from the start
+  pub await_on : (asked more : Type 0) (a b : Barrier T S N) (e : ExitStatus T S N) → IsHeld a → MayLeave a.seat.me.0 → Keeps a b × Stayed a.seat.me b.seat.me → (asked → more) → AwaitTold asked b e → AwaitTold more a e
+  await_on asked more a b (status.Exit u) held may s why told = let k = s.0.1 in let c = told.1 in (
+    (told.0.0 ∙ (s.0.0.0 ∙ (ap (λ i. i.now.table.shared.table_id) k.0 ∙ sym held.0)), told.0.1 ∙ k.2),
+    (c.0, stayed_on a.seat.me b.seat.me c.0 s.1 c.1, subst (λ (z : ℕ). LeftBy z leave.Left c.0 u.me) (same_sense a b held s.0.0 s.1 (may_wait a.seat.me may)) c.2),
+    why told.2,
+  )
+  await_on asked more a b (status.Remain c) held may s why told = (keeps_on a b c s.0 told.0, passed_on a.seat.me b.seat.me c.seat.me s.1 told.1)
+
+  -- an arrival and then a wait
+  pub status_of : (asked : Type 0) (a b : Barrier T S N) (e : ExitStatus T S N) → IsHeld a → Keeps a b → ArrivedBy arrival.Arrived a.seat.me b.seat.me → AwaitTold asked b e → StatusTold asked a e
+  status_of asked a b (status.Exit u) held keeps came told = let k = keeps.1 in let c = told.1 in let m = arrived_waits a.seat.me b.seat.me came in let st = ap (λ (z : Me S (View N)). z.0.standing) m.seat in (
+    (told.0.0 ∙ (keeps.0.0 ∙ (ap (λ i. i.now.table.shared.table_id) k.0 ∙ sym held.0)), told.0.1 ∙ k.2),
+    (b.seat.me, c.0, came, c.1, subst (λ (z : ℕ). LeftBy z leave.Left c.0 u.me) (subst (λ (z : Standing). HasSense z b.sense) st keeps.0.1) c.2),
+    told.2,
+  )
+  status_of asked a b (status.Remain c) held keeps came told = (keeps_on a b c keeps told.0, passed_from _ _ a.seat.me b.seat.me c.seat.me refl (arrived_waits a.seat.me b.seat.me came) told.1)
 
 module _ {S N : Type 0} where
   -- a join refused for a moment leaves the seat as it was

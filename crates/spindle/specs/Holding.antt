@@ -9,6 +9,10 @@ use Rattle.spindle.specs.declared.barrier.ending.AfterEnd.{AfterEnd}
 use Rattle.spindle.specs.declared.barrier.ending.AfterEnd.TheVariants as end
 use Rattle.spindle.specs.declared.barrier.steps.LeaveStep.TheVariants as left
 use Rattle.spindle.specs.declared.barrier.steps.ExitStep.TheVariants as gone
+use Rattle.spindle.specs.declared.barrier.waiting.ExitStatus.{ExitStatus}
+use Rattle.spindle.specs.declared.barrier.waiting.ExitStatus.TheVariants as status
+use Rattle.spindle.specs.Passing.{Stayed, InNext, LeftWaiting}
+use Rattle.atomic_table.specs.Table.{Me}
 use Rattle.atomic_table.specs.declared.shared.Seat.{Seat}
 use Rattle.spindle.specs.declared.round_table.view.View.{View}
 use Rattle.spindle.specs.RoundConditions.{HasSense, HasPart}
@@ -45,3 +49,13 @@ module _ {T S N : Type 0} where
   abbrev pub EndTold : Barrier T S N → AfterEnd T S N → Type 0
   EndTold b (end.Next c) = Keeps b c × (b.is_member ≡ true) × EndedBy b.seat.me c.seat.me
   EndTold b (end.Gone s) = IsSeatOf b s × (b.is_member ≡ false) × EndedBy b.seat.me s.me
+
+  -- a party that has arrived stayed until its round ended, or left where it was asked to
+  abbrev pub AwaitTold : Type 0 → Barrier T S N → ExitStatus T S N → Type 0
+  AwaitTold asked b (status.Exit s) = IsSeatOf b s × ((u : Me S (View N)) × Stayed b.seat.me u × LeftBy b.sense left.Left u s.me) × asked
+  AwaitTold asked b (status.Remain c) = Keeps b c × InNext b.seat.me c.seat.me
+
+  -- a party arrived, and then its round ended, or it was no closer and left where it was asked to
+  abbrev pub StatusTold : Type 0 → Barrier T S N → ExitStatus T S N → Type 0
+  StatusTold asked b (status.Exit s) = IsSeatOf b s × LeftWaiting b.seat.me s.me × asked
+  StatusTold asked b (status.Remain c) = Keeps b c × InNext b.seat.me c.seat.me

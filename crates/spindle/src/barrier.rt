@@ -22,8 +22,8 @@ pub const MASK: u32 = 32767;
 /// A barrier that parties may join, over the table of a round (`BarrierInit` of spindle).
 #[derive(Drop)]
 pub struct BarrierInit<D: Slots> {
-    pub table: RoundTable<D>,
-    pub threads: usize,
+    pub(crate) table: RoundTable<D>,
+    pub(crate) threads: usize,
     ghost sized: { (table.shared.key ≡ threads) × (table.shared.table_id.words ≡ 40 + 16 * threads) },
     ghost few: { threads ≤ 32767 },
 }
@@ -42,12 +42,12 @@ pub enum JoinRefused<P> {
 /// A party that has joined, or is the closer, with its seat (`Barrier` of spindle).
 #[derive(Drop)]
 pub struct Barrier<'a, D: Slots> {
-    pub init: &'a BarrierInit<D>,
-    pub seat: Seat<D>,
-    pub sense: u64,
+    init: &'a BarrierInit<D>,
+    seat: Seat<D>,
+    sense: u64,
     /// Not so of a closer that has exited.
-    pub is_member: bool,
-    pub thread_id: usize,
+    is_member: bool,
+    thread_id: usize,
 }
 
 impl BarrierInit<Bare> {

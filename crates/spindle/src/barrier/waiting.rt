@@ -1,12 +1,12 @@
 //! The forms of the barrier's calls that wait: loops, which spin between the first looks and then yield.
 ghost use Rattle.std.specs.Prelude.{◌≡◌, ◌⊎◌, ℕ, ◌<◌, IfOk, IfErr, true, false, Option, Bool};
-ghost use Rattle.spindle.specs.RoundConditions.{IsFreeInside, IsDone, IsWaiting, MayExit};
-ghost use Rattle.spindle.specs.Holding.{IsHeld, Keeps, IsSeatOf};
-ghost use Rattle.spindle.specs.Passing.{InNext, WentOut, JoinedAtLast, FullAtLast};
+ghost use Rattle.spindle.specs.RoundConditions.{IsFreeInside, IsDone, IsWaiting, MayExit, MayLeave};
+ghost use Rattle.spindle.specs.Holding.{IsHeld, Keeps, IsSeatOf, AwaitTold, StatusTold};
+ghost use Rattle.spindle.specs.Passing.{Stayed, InNext, WentOut, JoinedAtLast, FullAtLast};
 ghost use Rattle.spindle.specs.declared.round_table.view.Standing.TheVariants.{Away, Closing};
 
 use super::ending::end_round;
-use super::leaving::Exit;
+use super::leaving::{Exit, Leave};
 use super::steps::{Arrival, Look};
 use super::{Barrier, BarrierInit, JoinRefused};
 use crate::round_table::Seat;
@@ -147,6 +147,73 @@ impl<'a, D: Slots> Barrier<'a, D> {
             pauses.pause();
         }
         unreachable!()
+    }
+
+    /// Arrives, and waits until the round has ended, but leaves where `requests`, which it calls each turn, answers more
+    /// than 0. The closer remains (`Barrier::wait_and_clear_while` of spindle).
+    pub fn wait_and_clear_while<R: Wait, F: FnMut() -> u64>(
+        mut self,
+        rt: &R,
+        requests: F,
+    ) -> ExitStatus<'a, D>
+        requires held { IsHeld self }
+        requires free { MayExit self.seat.me.0 }
+        requires done { IsDone self.seat.me.0 }
+        requires requests { F.IsAlwaysCallable requests }
+        ensures { StatusTold ((f g : F) × (n : ℕ) × F.step f n g × (0 < n)) self.entry result }
+    {
+        match self.arrive() {
+            Arrival::Closer => {
+                self.close();
+                ExitStatus::Remain(self)
+            }
+            Arrival::Arrived => self.await_end_while(rt, requests),
+        }
+    }
+
+    // A member that has arrived waits for the closer, or leaves.
+    fn await_end_while<R: Wait, F: FnMut() -> u64>(
+        self,
+        rt: &R,
+        mut requests: F,
+    ) -> ExitStatus<'a, D>
+        requires held { IsHeld self }
+        requires waiting { MayLeave self.seat.me.0 }
+        requires requests { F.IsAlwaysCallable requests }
+        ensures { AwaitTold ((f g : F) × (n : ℕ) × F.step f n g × (0 < n)) self.entry result }
+    {
+        let mut pauses = Pauses::new();
+        let mut barrier = self;
+        for _ in rt.forever() {
+            let asked = requests();
+            barrier = match barrier.take_turn(asked) {
+                Ok(barrier) => barrier,
+                Err(status) => return status,
+            };
+            pauses.pause();
+        }
+        unreachable!()
+    }
+
+    // One turn of a member that waits: it leaves where it is asked to, and else looks.
+    fn take_turn(mut self, asked: u64) -> Result<Barrier<'a, D>, ExitStatus<'a, D>>
+        requires held { IsHeld self }
+        requires waiting { MayLeave self.seat.me.0 }
+        ensures stays { IfOk result (λ b. Keeps self.entry b × Stayed self.entry.seat.me b.seat.me) }
+        ensures ends { IfErr result (λ e. AwaitTold (0 < asked) self.entry e) }
+    {
+        if asked > 0 {
+            return match self.try_leave() {
+                Leave::Left(seat) => Err(ExitStatus::Exit(seat)),
+                Leave::Ended(next) => Err(ExitStatus::Remain(next)),
+                Leave::Closing(barrier) => Ok(barrier),
+                Leave::Again(barrier) => Ok(barrier),
+            };
+        }
+        match self.look() {
+            Look::Ended => Err(ExitStatus::Remain(self)),
+            _ => Ok(self),
+        }
     }
 
     // A member that has arrived waits for the closer.
