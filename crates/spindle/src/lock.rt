@@ -32,4 +32,3 @@ pub use nest::{End, Nest, Under};
 pub use pool::Pool;
 pub use root::with_lock;
 pub use shared::{Lock, Opens};
-pub use job::{End, Job, JobCx, Nest};
