@@ -77,7 +77,7 @@ where
         pause: DEFAULT_PAUSE_LIMIT,
     };
     let pool = Pool::new(settings.threads, limits, NoGate);
-    with_lock::<S::Kind, NoGate, Result<(), Stop>, _, H>(
+    with_lock::<S::Kind, NoGate, Result<(), Stop>, _, _, H>(
         rt,
         rt.alloc(),
         &pool,

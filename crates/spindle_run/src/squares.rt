@@ -83,7 +83,7 @@ fn squares_of<H: Threads + Wait + Sync>(
         pause: DEFAULT_PAUSE_LIMIT,
     };
     let pool = Pool::new(threads, limits, NoGate);
-    with_lock::<Square, NoGate, Result<Vec<u64>, Fault>, _, H>(
+    with_lock::<Square, NoGate, Result<Vec<u64>, Fault>, _, _, H>(
         rt,
         alloc,
         &pool,
