@@ -1,4 +1,4 @@
-use Rattle.std.proofs.Common.{◌≡◌, ℕ, ◌+◌, ◌<◌, List, [], ◌∷◌, ◌++◌, length, take, drop, get_or, map, refl, ap, sym, ◌∙◌, subst, append_assoc, zero-add, add_assoc, replicate, ◌*◌, ◌-◌, ◌/◌, ◌%◌, ◌≤◌, zero, suc, arith, add-zero, add-one}
+use Rattle.std.proofs.Common.{◌≡◌, ℕ, ◌+◌, ◌<◌, List, [], ◌∷◌, ◌++◌, length, take, drop, get_or, map, refl, ap, sym, ◌∙◌, append_assoc, zero-add, add_assoc, replicate, ◌*◌, ◌-◌, ◌/◌, ◌%◌, ◌≤◌, zero, suc, arith, add-zero, add-one}
 use Rattle.std.proofs.lemmas.List.{reverse-append, map-append}
 use Rattle.std.proofs.Common.{reverse}
 use Rattle.std.proofs.lemmas.List.{take_more, append-nil}

@@ -1,8 +1,6 @@
 -- The machine as plain data: the tests of each step in order, what an accepted step changes, and what it answers.
-use Rattle.std.specs.Prelude.{◌≡◌, ℕ, ◌+◌, ◌*◌, ◌-◌, ◌/◌, ◌%◌, Bool, true, false, not, ◌&&◌, ◌==◌, nat_lt, List, [], ◌∷◌, ◌++◌, length, sum, replicate, slice_index, slice_set, Option, Some, None, is_some, unwrap_or, if◌then◌else◌}
+use Rattle.std.specs.Prelude.{ℕ, ◌+◌, ◌*◌, ◌-◌, ◌/◌, ◌%◌, Bool, true, false, not, ◌&&◌, ◌==◌, nat_lt, List, [], ◌∷◌, ◌++◌, length, sum, replicate, slice_index, slice_set, Option, Some, None, is_some, unwrap_or, if◌then◌else◌}
 use Rattle.spindle_parts.specs.State.{Status, Out, In, Arrived, put, waking}
-use Rattle.spindle_parts.specs.Steps.{Event}
-use Rattle.spindle_parts.specs.Steps as events
 use Rattle.spindle_parts.specs.declared.steps.Step.{Step}
 use Rattle.spindle_parts.specs.declared.steps.Step.TheVariants.{Join, Publish, PublishTry, Claim, Rest, Finish, Stop, See, Arrive, Leave, Exit, Clear, End}
 use Rattle.spindle_parts.specs.declared.steps.Why.{Why}

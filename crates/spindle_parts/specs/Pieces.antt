@@ -1,5 +1,5 @@
 -- The pieces of a list.
-use Rattle.std.specs.Prelude.{ℕ, ◌+◌, ◌/◌, ◌%◌, ◌<◌, ◌-◌, List, [], ◌∷◌, ◌++◌, min, replicate, zero, suc}
+use Rattle.std.specs.Prelude.{ℕ, ◌+◌, ◌/◌, ◌%◌, ◌-◌, List, [], ◌∷◌, ◌++◌, min, replicate, zero, suc}
 
 -- the lengths of the pieces: the first `len % m` are one longer, where m is the smaller of len and n_jobs
 abbrev pub lengths_of : (len m : ℕ) → List ℕ

@@ -1,8 +1,8 @@
 -- The configuration that the machine's registers show, and what is kept of them between two steps.
-use Rattle.std.specs.Prelude.{◌≡◌, ℕ, ◌+◌, ◌<◌, ◌≤◌, Bool, true, false, ◌==◌, List, length, sum, slice_get, Option, Some, None, vec_capacity}
-use Rattle.std.specs.List.{list_any, IsDistinct}
+use Rattle.std.specs.Prelude.{◌≡◌, ℕ, ◌+◌, ◌<◌, ◌≤◌, Bool, true, false, ◌==◌, List, sum, Option, Some, None, vec_capacity}
+use Rattle.std.specs.List.{list_any}
 use Rattle.std.specs.Ordering.{nat_cmp}
-use Rattle.std.specs.BTreeMap.{BTreeMap, get, btree_map_len}
+use Rattle.std.specs.BTreeMap.{get}
 use Rattle.spindle_parts.specs.State.{Status, Out, In, Arrived}
 use Rattle.spindle_parts.specs.Machine.{Configuration}
 use Rattle.spindle_parts.specs.EverySchedule.{Call, IsSchedule, machine}

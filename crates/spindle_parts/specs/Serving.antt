@@ -1,5 +1,5 @@
 -- What a step of the machine's code does: the step of its configuration, or a refusal that changes nothing.
-use Rattle.std.specs.Prelude.{◌≡◌, ℕ, Bool, true, false, List, Option, Some, None, Result, Ok, Err, MatchResult}
+use Rattle.std.specs.Prelude.{◌≡◌, ℕ, Bool, true, false, List, Some, None, Result, Err, MatchResult}
 use Rattle.spindle_parts.specs.Machine.{Configuration, first, tests, effect, serve, word}
 use Rattle.spindle_parts.specs.declared.steps.Step.{Step}
 use Rattle.spindle_parts.specs.declared.steps.Why.{Why}

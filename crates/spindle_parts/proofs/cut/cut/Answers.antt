@@ -1,9 +1,8 @@
-use Rattle.std.proofs.Common.{◌≡◌, ℕ, ◌+◌, ◌≤◌, ◌<◌, ◌-◌, ◌++◌, ◌∷◌, [], length, take, drop, arith, rules, vec_capacity, vec_len, Vec, subst, sym, map, get_or, List, ◌∙◌, ap, append_assoc, min, length-append, reverse, refl, add-one}
-use Rattle.std.proofs.lemmas.List.{take-append-drop, take_all, drop_all, drop_more, length-take, get_or_default, append-nil}
+use Rattle.std.proofs.Common.{◌≡◌, ℕ, ◌+◌, ◌≤◌, ◌<◌, ◌-◌, ◌++◌, ◌∷◌, [], length, take, drop, arith, rules, vec_len, sym, map, get_or, List, ◌∙◌, ap, append_assoc, min, reverse, refl, add-one}
+use Rattle.std.proofs.lemmas.List.{take-append-drop, take_all, drop_all, drop_more, get_or_default, append-nil}
 use Rattle.spindle_parts.specs.declared.cut.Piece.{Piece}
-use Rattle.spindle_parts.specs.Pieces.{joined, counted, total, cut_lengths, lengths_of}
+use Rattle.spindle_parts.specs.Pieces.{joined, counted, total, cut_lengths}
 use Rattle.spindle_parts.proofs.Lists.{total-lengths, total_last, map_snoc, reverse_snoc, back_snoc, map-reverse, nil_if}
-use Rattle.std.proofs.lemmas.Grind.{common_steps}
 use Rattle.spindle_parts.proofs.cut.cut.Goals as goal
 
 pub loop-done-init : goal.loop-done-init

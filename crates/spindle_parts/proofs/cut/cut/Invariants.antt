@@ -1,4 +1,4 @@
-use Rattle.std.proofs.Common.{◌≡◌, ℕ, ◌+◌, ◌≤◌, ◌-◌, ◌++◌, take, drop, vec_len, vec_capacity, [], Vec, map, length, reverse}
+use Rattle.std.proofs.Common.{◌≡◌, ◌≤◌, ◌-◌, ◌++◌, take, drop, vec_len, vec_capacity, map, length, reverse}
 use Rattle.spindle_parts.specs.Pieces.{joined, counted, total}
 use Rattle.spindle_parts.proofs.cut.cut.Given as goal
 

@@ -1,4 +1,4 @@
-use Rattle.std.proofs.Common.{◌≡◌, ℕ, ◌+◌, ◌≤◌, ◌<◌, ◌++◌, ◌∷◌, [], length, arith, rules, vec_capacity, vec_len, sym, map, List, ◌∙◌, ap, length-append, reverse}
+use Rattle.std.proofs.Common.{◌≡◌, map, List, ◌∙◌, ap, reverse}
 use Rattle.std.proofs.lemmas.List.{reverse-reverse}
 use Rattle.spindle_parts.specs.declared.cut.Piece.{Piece}
 use Rattle.spindle_parts.specs.Pieces.{joined}

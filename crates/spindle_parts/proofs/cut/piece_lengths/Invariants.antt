@@ -1,4 +1,4 @@
-use Rattle.std.proofs.Common.{◌≡◌, ℕ, ◌+◌, ◌-◌, ◌++◌, replicate}
+use Rattle.std.proofs.Common.{◌≡◌, ◌+◌, ◌-◌, ◌++◌, replicate}
 use Rattle.spindle_parts.proofs.cut.piece_lengths.Given as goal
 
 abbrev pub invariant-loop-number : goal.invariant-loop-number

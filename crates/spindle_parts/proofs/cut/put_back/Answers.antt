@@ -1,8 +1,7 @@
-use Rattle.std.proofs.Common.{◌≡◌, ℕ, ◌+◌, ◌≤◌, ◌<◌, ◌++◌, ◌∷◌, [], length, arith, rules, vec_capacity, vec_len, sym, map, List, ◌∙◌, ap, length-append, reverse, append_assoc}
+use Rattle.std.proofs.Common.{◌≡◌, ◌+◌, ◌++◌, length, arith, sym, map, List, ◌∙◌, ap, length-append, reverse, append_assoc}
 use Rattle.spindle_parts.specs.declared.cut.Piece.{Piece}
 use Rattle.spindle_parts.specs.Pieces.{joined}
 use Rattle.spindle_parts.proofs.Lists.{back_snoc}
-use Rattle.std.proofs.lemmas.Grind.{common_steps}
 use Rattle.spindle_parts.proofs.cut.put_back.Goals as goal
 
 pub unwrap-requires : goal.unwrap-requires

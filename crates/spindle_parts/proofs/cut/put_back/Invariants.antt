@@ -1,4 +1,4 @@
-use Rattle.std.proofs.Common.{◌≡◌, ℕ, ◌+◌, ◌≤◌, length, map, vec_len, vec_capacity, ◌++◌, reverse}
+use Rattle.std.proofs.Common.{◌≡◌, ◌+◌, ◌≤◌, map, vec_len, vec_capacity, ◌++◌, reverse}
 use Rattle.spindle_parts.specs.Pieces.{joined}
 use Rattle.spindle_parts.proofs.cut.put_back.Given as goal
 

@@ -1,4 +1,4 @@
-use Rattle.std.proofs.Common.{◌≤◌, arith}
+use Rattle.std.proofs.Common.{arith}
 use Rattle.spindle_parts.proofs.Marks.{marks_fit}
 use Rattle.spindle_parts.proofs.steps.entries.admit.Goals as goal
 

@@ -1,4 +1,4 @@
-use Rattle.std.proofs.Common.{rules, ◌≡◌, ◌≤◌, ◌-◌, refl, sym, ap, ◌∙◌, subst, arith, eq-eqb, Bool, if◌then◌else◌, ◌==◌}
+use Rattle.std.proofs.Common.{rules, ◌≡◌, ◌-◌, sym, ap, ◌∙◌, subst, arith, eq-eqb, Bool, if◌then◌else◌}
 use Rattle.spindle_parts.specs.State.{Out}
 use Rattle.spindle_parts.specs.Machine.{Configuration, standing, turned, closing}
 use Rattle.spindle_parts.specs.Registers.{shown, IsTidy}

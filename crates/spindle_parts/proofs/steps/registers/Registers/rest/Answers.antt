@@ -1,4 +1,3 @@
-use Rattle.std.proofs.Common.{◌≤◌, ◌%◌, length, arith}
 use Rattle.spindle_parts.specs.Registers.{shown}
 use Rattle.spindle_parts.proofs.Reached.{bounds}
 use Rattle.spindle_parts.proofs.steps.registers.Registers.rest.Goals as goal
