@@ -82,9 +82,11 @@ abbrev pub history : Configuration → List Call → List Event
 history m [] = []
 history m (c ∷ cs) = accepted (played m cs) c ++ history m cs
 
--- job k is among the last `count t` of a thread's own, of which each thread has as many, or among the last `rest` of all n
+-- job k is among the last `count t` of the own jobs of some thread t, of which each thread has as many, or among the last
+-- `rest` of all n
 abbrev pub StandsFor : (threads own : ℕ) (count : ℕ → ℕ) (rest n k : ℕ) → Type 0
-StandsFor threads own count rest n k = ((t : ℕ) × (t < threads) × (k < own * t + own) × (own * t + own ≤ k + count t)) ⊎ ((k < n) × (n ≤ k + rest))
+StandsFor threads own count rest n k = ((t : ℕ) × (t < threads) × (k < own * t + own) × (own * t + own ≤ k + count t))
+    ⊎ ((k < n) × (n ≤ k + rest))
 
 -- the counters and the remainder stand for job k, where n are published
 abbrev pub IsLeft : Configuration → ℕ → ℕ → Type 0
@@ -136,7 +138,8 @@ IsFair m s (Exit p) = Allowed s (events.Exit p)
 IsFair m s (Clear p) = Allowed s (events.Clear p)
 IsFair m s (End p) = Allowed s (events.End p)
 
--- a round that has ended: each number begun was below its jobs, begun once and finished once, and every one where nothing stopped it
+-- an ended round: each number begun was below its jobs and has finished once, and every number has begun where nothing
+-- stopped it
 pub record IsWhole (r : Round) : Type 0 where
   pub once : (k : ℕ) → times k r.begun ≤ 1
   pub finished : (k : ℕ) → times k r.finished ≡ times k r.begun

@@ -20,7 +20,11 @@ stands false (Some false) = In
 -- the configuration that the registers show
 abbrev pub shown : Registers → Configuration
 shown r = record {
-  seat = λ p. record { status = stands r.sense (sense_of (get nat_cmp r.entries p)); running = running_of (get nat_cmp r.entries p); seen = list_any (λ q. p == q) r.saw.items };
+  seat = λ p. record {
+    status = stands r.sense (sense_of (get nat_cmp r.entries p));
+    running = running_of (get nat_cmp r.entries p);
+    seen = list_any (λ q. p == q) r.saw.items;
+  };
   inside = r.inside;
   members = r.members;
   sense = r.sense;

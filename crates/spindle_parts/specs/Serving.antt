@@ -18,7 +18,9 @@ Passes ts outcome = MatchResult outcome (λ _. first ts ≡ None) (λ why. first
 
 -- Ok with that effect where no test is true, else refused by the first that is, with nothing changed
 abbrev pub Judges : {T : Type 0} → List (Why × Bool) → (m to m' : Configuration) → Result T Why → Type 0
-Judges ts m to m' outcome = MatchResult outcome (λ _. (first ts ≡ None) × (m' ≡ to)) (λ why. (first ts ≡ Some why) × (m' ≡ m))
+Judges ts m to m' outcome = MatchResult outcome
+    (λ _. (first ts ≡ None) × (m' ≡ to))
+    (λ why. (first ts ≡ Some why) × (m' ≡ m))
 
 -- the step of the step table, made or refused
 abbrev pub Serves : {T : Type 0} → Configuration → (granted : Bool) → Step → Configuration → Result T Why → Type 0

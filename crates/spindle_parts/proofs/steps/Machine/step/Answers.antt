@@ -1,3 +1,4 @@
+-- Each kind of step: what its call on the registers does is what the machine's step does.
 use Rattle.std.proofs.Common.{◌≡◌, true, sym, refl, subst}
 use Rattle.spindle_parts.specs.Machine.{word, effect, claimed, rested}
 use Rattle.spindle_parts.specs.Registers.{shown, IsSteady}

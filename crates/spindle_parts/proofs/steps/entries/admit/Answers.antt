@@ -1,3 +1,4 @@
+-- The list is no longer than the entries are many.
 use Rattle.std.proofs.Common.{arith}
 use Rattle.spindle_parts.proofs.Marks.{marks_fit}
 use Rattle.spindle_parts.proofs.steps.entries.admit.Goals as goal

@@ -1,3 +1,4 @@
+-- Who stands in the list stands at its entry's mark.
 use Rattle.std.proofs.Common.{sym, ◌∙◌, arith}
 use Rattle.std.proofs.lemmas.Bool.{le-ltb}
 use Rattle.spindle_parts.proofs.Marks.{unknown_unseen, past_unseen, seen_at}

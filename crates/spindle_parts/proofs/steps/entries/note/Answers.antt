@@ -1,3 +1,4 @@
+-- There is room for one more in the list, which keeps its marks.
 use Rattle.std.proofs.Common.{ℕ, List, sym, ◌∙◌, subst, arith}
 use Rattle.spindle_parts.specs.Entries.{IsMarked}
 use Rattle.spindle_parts.proofs.Marks.{mark_fits, marked_more}

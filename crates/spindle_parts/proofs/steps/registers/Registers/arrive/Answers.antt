@@ -1,3 +1,4 @@
+-- Who arrives was counted among those inside.
 use Rattle.std.proofs.Common.{sym, ◌∙◌, subst, arith}
 use Rattle.spindle_parts.specs.Registers.{shown, IsTidy}
 use Rattle.spindle_parts.proofs.Reached.{bounds}

@@ -1,3 +1,4 @@
+-- At an end nobody is in, so the flip of the sense wakes every member.
 use Rattle.std.proofs.Common.{rules, sym, ◌∙◌, subst, arith}
 use Rattle.spindle_parts.specs.Registers.{shown, IsTidy}
 use Rattle.spindle_parts.proofs.Tests.{party_by}

@@ -1,3 +1,4 @@
+-- One more finished is at most the jobs published.
 use Rattle.std.proofs.Common.{sym, ◌∙◌, arith}
 use Rattle.spindle_parts.specs.Registers.{shown}
 use Rattle.spindle_parts.proofs.Reached.{bounds}

@@ -1,3 +1,4 @@
+-- Who leaves was counted among the members, and not among those inside.
 use Rattle.std.proofs.Common.{sym, ◌∙◌, arith}
 use Rattle.spindle_parts.specs.Registers.{shown}
 use Rattle.spindle_parts.proofs.Reached.{bounds}

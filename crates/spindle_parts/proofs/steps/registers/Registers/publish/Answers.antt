@@ -1,3 +1,4 @@
+-- There are counters, and not too many.
 use Rattle.std.proofs.Common.{arith}
 use Rattle.spindle_parts.specs.Registers.{shown}
 use Rattle.spindle_parts.proofs.Reached.{bounds}
