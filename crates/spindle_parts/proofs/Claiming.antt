@@ -1,14 +1,14 @@
 -- The machine shows the state after a publish and after a claim.
-use Rattle.std.proofs.Common.{◌≡◌, ◌≢◌, ◌⊎◌, ⊎_elim, ℕ, zero, suc, ◌+◌, ◌*◌, ◌-◌, ◌/◌, ◌%◌, ◌<◌, ◌≤◌, Bool, true, false, ◌||◌, eqb, eq-eqb, ne_eqb, List, [], ◌∷◌, ◌++◌, length, get_or, set, replicate, sym, refl, ap, ◌∙◌, subst, arith, Option, Some, None, unwrap_or, if◌then◌else◌, ◌==◌, get_or-set_same, get_or-set_other}
+use Rattle.std.proofs.Common.{◌≡◌, ◌≢◌, ℕ, ◌+◌, ◌*◌, ◌-◌, ◌/◌, ◌%◌, ◌<◌, ◌≤◌, Bool, true, false, ◌||◌, eq-eqb, ne_eqb, List, [], ◌∷◌, ◌++◌, length, get_or, set, replicate, sym, refl, ap, ◌∙◌, subst, arith, Option, Some, None, unwrap_or, get_or-set_same, get_or-set_other}
 use mathlib.Core.Logic.{dite}
 use native.Mathlib.Decide.{ℕ_discrete}
 use Rattle.std.proofs.lemmas.Nat.{div-add-mod'}
 use Rattle.std.proofs.lemmas.List.{length-set, length-replicate, get_or-replicate}
-use Rattle.spindle_parts.specs.State.{Status, Out, In, Arrived, Party, Round, State, put, party_of, put_party, times, now, party, Free}
-use Rattle.spindle_parts.specs.Steps.{Allowed, after, publish, Event, Take, Begin}
-use Rattle.spindle_parts.specs.Machine.{Seat, Configuration, counter, own, claimed, rested, publishing, effect}
-use Rattle.spindle_parts.specs.EverySchedule.{Shows, StandsFor, MayBegin, IsFair, only}
-use Rattle.spindle_parts.specs.declared.steps.Step.TheVariants.{Publish, PublishTry, Claim, Rest}
+use Rattle.spindle_parts.specs.State.{In, Party, Round, State, put, times, now, party, Free}
+use Rattle.spindle_parts.specs.Steps.{Allowed, after, publish, Take, Begin}
+use Rattle.spindle_parts.specs.Machine.{Configuration, counter, own, claimed, rested, publishing, effect}
+use Rattle.spindle_parts.specs.EverySchedule.{Shows, StandsFor, MayBegin, only}
+use Rattle.spindle_parts.specs.declared.steps.Step.TheVariants.{Claim, Rest}
 use Rattle.spindle_parts.proofs.Parties.{put_all, put_here, look_here, look_else, times_same, times_else, tick_same}
 use Rattle.spindle_parts.proofs.Fates.{open_is_free, none_begun, over}
 use Rattle.spindle_parts.proofs.Soundness.{Sound, no_closer, no_jobs}

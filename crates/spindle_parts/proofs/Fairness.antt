@@ -1,19 +1,17 @@
 -- The machine's tests of a step all fail exactly where the definitions allow it.
-use Rattle.std.proofs.Common.{◌≡◌, ◌≢◌, ◌⊎◌, inl, inr, ⊎_elim, ℕ, suc, ◌+◌, ◌*◌, ◌-◌, ◌/◌, ◌%◌, ◌<◌, ◌≤◌, Bool, true, false, not, ◌&&◌, eqb, eq-eqb, ne_eqb, ltb as nat_lt, List, [], ◌∷◌, ◌++◌, length, get_or, sum, sym, refl, ap, ◌∙◌, subst, arith, Option, Some, None, is_some, if◌then◌else◌, ◌==◌}
+use Rattle.std.proofs.Common.{◌≡◌, ◌≢◌, ◌⊎◌, inl, inr, ⊎_elim, ℕ, ◌+◌, ◌*◌, ◌-◌, ◌<◌, ◌≤◌, Bool, true, false, not, ◌&&◌, eq-eqb, ne_eqb, ltb as nat_lt, length, sum, sym, refl, ap, ◌∙◌, arith, Option, Some, None, is_some, ◌==◌}
 use mathlib.Core.Logic.{dite}
-use native.Mathlib.Decide.{ℕ_discrete, dec_le}
+use native.Mathlib.Decide.{dec_le}
 use Rattle.std.proofs.lemmas.Bool.{lt-ltb, ltb-true, le-ltb, ltb-false}
-use Rattle.spindle_parts.specs.State.{Status, Out, In, Arrived, Party, Round, State, now, party, Free, members}
-use Rattle.spindle_parts.specs.Steps.{Allowed}
-use Rattle.spindle_parts.specs.Steps as events
-use Rattle.spindle_parts.specs.Machine.{Configuration, Seat, is_out, is_inside, is_waiting, is_party, status, is_running, counter, own, left, tests, claim_tests, publish_tests}
+use Rattle.spindle_parts.specs.State.{Status, In, State, now, party, Free}
+use Rattle.spindle_parts.specs.Machine.{Configuration, is_out, is_inside, is_waiting, is_party, status, is_running, counter, own, left, tests, claim_tests, publish_tests}
 use Rattle.spindle_parts.specs.EverySchedule.{MayBegin, IsFair, IsInRange}
 use Rattle.spindle_parts.specs.declared.steps.Step.{Step}
 use Rattle.spindle_parts.specs.declared.steps.Step.TheVariants.{Join, Publish, PublishTry, Claim, Rest, Finish, Stop, See, Arrive, Leave, Exit, Clear, End}
 use Rattle.spindle_parts.proofs.Soundness.{Sound, no_closer, no_jobs}
 use Rattle.spindle_parts.proofs.Shares.{none_stands, some_part}
 use Rattle.spindle_parts.proofs.Tests.{AllFail, not_false, not_true, out_by, in_by, waiting_by, none_by, some_by, is_some_of, party_by, is_party_of, equal_by, differ_by, and_left, and_right, unless}
-use Rattle.spindle_parts.proofs.Following.{Agrees, Tally}
+use Rattle.spindle_parts.proofs.Following.{Agrees}
 use Rattle.spindle_parts.proofs.Claiming.{claimed_left, rested_left}
 
 second_false : (a b : Bool) → (a && b) ≡ false → a ≡ true → b ≡ false

@@ -1,19 +1,16 @@
 -- The machine shows the state after each step that the definitions allow.
-use Rattle.std.proofs.Common.{◌≡◌, ◌≢◌, ◌⊎◌, inl, inr, ⊎_elim, ℕ, zero, suc, ◌+◌, ◌*◌, ◌-◌, ◌/◌, ◌%◌, ◌<◌, ◌≤◌, Bool, true, false, not, ◌||◌, eqb, eq-eqb, ne_eqb, List, [], ◌∷◌, ◌++◌, length, get_or, set, replicate, sym, refl, ap, ◌∙◌, subst, arith, Option, Some, None, unwrap_or, if◌then◌else◌, ◌==◌, length-append, get_or-set_same, get_or-set_other}
+use Rattle.std.proofs.Common.{◌≡◌, ◌≢◌, ℕ, ◌+◌, ◌-◌, ◌/◌, ◌%◌, ◌<◌, ◌≤◌, Bool, true, false, not, eq-eqb, ne_eqb, List, ◌++◌, length, get_or, sym, refl, ap, ◌∙◌, subst, arith, Option, Some, None, if◌then◌else◌, ◌==◌, length-append}
 use mathlib.Core.Logic.{dite}
 use native.Mathlib.Decide.{ℕ_discrete}
-use Rattle.std.proofs.lemmas.List.{length-set, length-replicate, get_or-replicate}
 use Rattle.spindle_parts.specs.State.{Status, Out, In, Arrived, Party, Round, State, put, party_of, put_party, times, is_in, is_member, weight_in, weight_member, waking, wake, now, party, change, change_round, Free}
 use Rattle.spindle_parts.specs.State as state
 use Rattle.spindle_parts.specs.Steps.{with_status, Allowed, after, arrived, left, publish, ended_by, Event}
 use Rattle.spindle_parts.specs.Steps as events
-use Rattle.spindle_parts.specs.Machine.{Seat, Configuration, status, counter, own, standing, with_running, with_seen, claimed, rested, publishing, turned, closing, exited, effect}
-use Rattle.spindle_parts.specs.EverySchedule.{Shows, Counts, IsLeft, StandsFor, MayBegin, only}
-use Rattle.spindle_parts.specs.declared.steps.Step.TheVariants.{Join, Publish, PublishTry, Claim, Rest, Finish, Stop, See, Arrive, Leave, Exit, Clear, End}
-use Rattle.spindle_parts.proofs.Parties.{put_here, put_else, put_all, look_here, look_else, total_put, total_at, inside_le_members, look_wake, inside_wake, members_wake, times_same, times_else}
-use Rattle.spindle_parts.proofs.Fates.{open_is_free, none_begun}
-use Rattle.spindle_parts.proofs.Soundness.{Sound, no_closer, no_jobs, out_of}
-use Rattle.spindle_parts.proofs.Shares.{stands_below, all_stand, first_stands, rest_stands, stays_left, was_left, stays_rest, was_rest}
+use Rattle.spindle_parts.specs.Machine.{Seat, Configuration, standing, with_seen, turned, closing, effect}
+use Rattle.spindle_parts.specs.EverySchedule.{Shows, StandsFor}
+use Rattle.spindle_parts.specs.declared.steps.Step.TheVariants.{Join, Finish, Stop, See, Arrive, Leave, Exit, Clear, End}
+use Rattle.spindle_parts.proofs.Parties.{put_here, put_else, put_all, look_here, look_else, total_put, total_at, inside_le_members, look_wake, inside_wake, members_wake}
+use Rattle.spindle_parts.proofs.Soundness.{Sound, no_closer, out_of}
 
 -- what the machine knows of a party is so
 pub record Fits (x : Seat) (y : Party) (saw : Bool) : Type 0 where

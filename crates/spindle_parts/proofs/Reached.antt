@@ -1,7 +1,7 @@
 -- What holds of a configuration that some schedule leads to: each subtraction and sum of the next step fits.
-use Rattle.std.proofs.Common.{◌≡◌, ◌≢◌, ◌⊎◌, ⊎_elim, ℕ, zero, suc, inr, ◌+◌, ◌*◌, ◌-◌, ◌/◌, ◌%◌, ◌<◌, ◌≤◌, Bool, true, false, not, ◌||◌, eqb, eq-eqb, ne_eqb, List, [], ◌∷◌, ◌++◌, length, get_or, length-append, sym, refl, ap, ◌∙◌, subst, arith, Option, Some, None, if◌then◌else◌}
+use Rattle.std.proofs.Common.{◌≡◌, ◌≢◌, ℕ, zero, suc, inr, ◌+◌, ◌<◌, ◌≤◌, Bool, true, false, ◌||◌, eqb, ne_eqb, List, [], ◌∷◌, ◌++◌, length, length-append, sym, refl, ap, ◌∙◌, subst, arith, Option, Some, None}
 use mathlib.Core.Logic.{dite}
-use native.Mathlib.Decide.{ℕ_discrete, dec_le}
+use native.Mathlib.Decide.{ℕ_discrete}
 use Rattle.std.proofs.Math.Nat.{mod-le}
 use Rattle.std.specs.List.{list_any, IsDistinct, AllByRecursion}
 use Rattle.std.proofs.lemmas.Map.Keys.{IsDistinct-cons}
@@ -10,7 +10,7 @@ use Rattle.spindle_parts.specs.State.{Status, Out, In, Arrived, Party, Round, St
 use Rattle.spindle_parts.specs.State as state
 use Rattle.spindle_parts.specs.Steps.{Event, Finish, ended_by, with_status}
 use Rattle.spindle_parts.specs.Runs.{state, IsRun}
-use Rattle.spindle_parts.specs.Machine.{Configuration, status, is_inside, is_waiting, counter, own, effect}
+use Rattle.spindle_parts.specs.Machine.{Configuration, status, is_inside, is_waiting, counter, own}
 use Rattle.spindle_parts.specs.EverySchedule.{machine, run_of}
 use Rattle.spindle_parts.specs.Registers.{IsReached}
 use Rattle.spindle_parts.proofs.Parties.{total_at, total_put, look_else, inside_le_members, in_le_member, tick_same, tick_else, put_here}

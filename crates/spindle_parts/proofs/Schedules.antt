@@ -1,21 +1,21 @@
 -- After every schedule the machine shows the state of the run that its accepted steps are.
-use Rattle.std.proofs.Common.{◌≡◌, ◌≢◌, ◌⊎◌, ◌↔◌, inl, inr, ⊎_elim, ℕ, suc, ◌+◌, ◌*◌, ◌-◌, ◌/◌, ◌%◌, ◌<◌, ◌≤◌, Bool, true, false, List, [], ◌∷◌, ◌++◌, append_assoc, length, get_or, sym, refl, ap, ◌∙◌, subst, arith, Option, Some, None, is_none, unwrap_or, if◌then◌else◌, ◌==◌}
+use Rattle.std.proofs.Common.{◌≡◌, ◌≢◌, ◌↔◌, ℕ, ◌*◌, ◌-◌, ◌<◌, Bool, true, false, List, [], ◌∷◌, ◌++◌, append_assoc, length, sym, refl, ap, ◌∙◌, subst, arith, Option, Some, None, is_none, unwrap_or, if◌then◌else◌}
 use Rattle.std.proofs.lemmas.List.{length-set, length-replicate}
-use Rattle.spindle_parts.specs.State.{Status, Out, In, Arrived, State, party, members, now}
-use Rattle.spindle_parts.specs.Steps.{Event, Allowed, after}
+use Rattle.spindle_parts.specs.State.{In, Arrived, State, party}
+use Rattle.spindle_parts.specs.Steps.{Event}
 use Rattle.spindle_parts.specs.Runs.{state, IsRun}
 use Rattle.spindle_parts.specs.BarrierWord as barrier
-use Rattle.spindle_parts.specs.Machine.{Configuration, initial, word, own, counter, claimed, rested, first, judged, tests, effect, exited, turned, closing, answer, serve}
-use Rattle.spindle_parts.specs.EverySchedule.{Call, IsInRange, IsSchedule, events_of, refusal, IsRefusedForMemory, played, accepted, history, Shows, IsFair, IsLeft, Counts, NoneBy, Waits, Rests, machine, run_of, reached, Laws}
+use Rattle.spindle_parts.specs.Machine.{Configuration, word, own, counter, claimed, rested, first, judged, tests, effect, answer, serve}
+use Rattle.spindle_parts.specs.EverySchedule.{Call, IsInRange, IsSchedule, events_of, refusal, IsRefusedForMemory, played, accepted, history, Shows, IsFair, Waits, Rests, machine, run_of, Laws}
 use Rattle.spindle_parts.specs.declared.steps.Step.{Step}
 use Rattle.spindle_parts.specs.declared.steps.Step.TheVariants.{Join, Publish, PublishTry, Claim, Rest, Finish, Stop, See, Arrive, Leave, Exit, Clear, End}
 use Rattle.spindle_parts.specs.declared.steps.Why.{Why}
 use Rattle.spindle_parts.specs.declared.steps.Why.TheVariants.{Member, Full, Closing, Memory}
-use Rattle.spindle_parts.specs.declared.steps.Reply.TheVariants.{Word, Job, Refused}
+use Rattle.spindle_parts.specs.declared.steps.Reply.TheVariants.{Refused}
 use Rattle.spindle_parts.proofs.Soundness.{sound, run_once, alone_hidden}
 use Rattle.spindle_parts.proofs.Waiting.{stays, waits_on, is_whole, begins_within, ends_cleared}
 use Rattle.spindle_parts.proofs.Tests.{all_fail, none_first}
-use Rattle.spindle_parts.proofs.Following.{Agrees, agrees, joins, leaves, arrives, ends, exits, clears, stops, looks, finishes}
+use Rattle.spindle_parts.proofs.Following.{agrees, joins, leaves, arrives, ends, exits, clears, stops, looks, finishes}
 use Rattle.spindle_parts.proofs.Claiming.{publishes, may_take, claims, rests}
 use Rattle.spindle_parts.proofs.Fairness.{fair, fails}
 
@@ -88,19 +88,11 @@ follows threads [] some ok = record {
 }
 follows threads (c ∷ cs) some ok = let size = size_is threads cs in goes_on (machine threads cs) (run_of threads cs) (follows threads cs some ok.1) (omega arith) c ok.0
 
--- a schedule in two parts
-played_parts : (m : Configuration) (later cs : List Call) → played m (later ++ cs) ≡ played (played m cs) later
-played_parts m [] cs = refl
-played_parts m (c ∷ later) cs = ap (λ (x : Configuration). (serve x c.granted c.step).0) (played_parts m later cs)
-
-history_parts : (m : Configuration) (later cs : List Call) → history m (later ++ cs) ≡ history (played m cs) later ++ history m cs
-history_parts m [] cs = refl
-history_parts m (c ∷ later) cs = ap (λ (x : Configuration). accepted x c ++ history m (later ++ cs)) (played_parts m later cs)
-    ∙ (ap (λ (l : List Event). accepted (played (played m cs) later) c ++ l) (history_parts m later cs) ∙ sym (append_assoc (accepted (played (played m cs) later) c) (history (played m cs) later) (history m cs)))
-
-schedule_parts : (later cs : List Call) → IsSchedule later → IsSchedule cs → IsSchedule (later ++ cs)
-schedule_parts [] cs a b = b
-schedule_parts (c ∷ later) cs a b = (a.0, schedule_parts later cs a.1 b)
+-- a schedule goes on from wherever the machine follows a run
+goes : (m : Configuration) (es : List Event) (later : List Call) → 0 < length m.counters → IsSchedule later → Follows m es → (0 < length (played m later).counters) × Follows (played m later) (history m later ++ es)
+goes m es [] some ok f = (some, f)
+goes m es (c ∷ later) some ok f = let g = goes m es later some ok.1 f in let size = served_size (played m later) c.step (refusal (played m later) c) in let g₀ = g.0 in
+    (omega arith, subst (Follows (played m (c ∷ later))) (sym (append_assoc (accepted (played m later) c) (history m later) es)) (goes_on (played m later) (history m later ++ es) g.1 g.0 c ok.0))
 
 -- the word is the barrier word of the state shown
 same_word : (m : Configuration) (s : State) → Shows m s → word m ≡ barrier.word s
@@ -152,32 +144,26 @@ refused_by : (m : Configuration) (e : Step) (why : Why) (o : Option Why) → (ju
 refused_by m e why None z = absurd (no_refusal m e why z)
 refused_by m e why (Some w) z = ((let i : w ≡ why = cc in ap (λ (x : Why). let o : Option Why = Some x in o) i), refl)
 
-module _ (threads : ℕ) (cs : List Call) (some : 0 < threads) (ok : IsSchedule cs) where
-  -- a schedule that goes on
-  goes : (later : List Call) → IsSchedule later → (run_of threads (later ++ cs) ≡ history (machine threads cs) later ++ run_of threads cs) × Follows (machine threads (later ++ cs)) (history (machine threads cs) later ++ run_of threads cs)
-  goes later more = let e = history_parts (initial threads) later cs in (e, subst (Follows (machine threads (later ++ cs))) e (follows threads (later ++ cs) some (schedule_parts later cs more ok)))
+module _ (m : Configuration) (es : List Event) (f : Follows m es) (some : 0 < length m.counters) where
+  waits_law : (later : List Call) (p : ℕ) → Rests m later p → (party (state es) p).status ≡ Arrived → Waits (state es) (state (history m later ++ es)) (word (played m later))
+  waits_law later p r at = let g = goes m es later some r.0 f in subst (Waits (state es) (state (history m later ++ es))) (sym (same_word (played m later) (state (history m later ++ es)) g.1.shows)) (waits_on (history m later) es p g.1.run r.1 at)
 
-  waits_law : (later : List Call) (p : ℕ) → Rests threads later cs p → (party (reached threads cs) p).status ≡ Arrived → Waits (reached threads cs) (reached threads (later ++ cs)) (word (machine threads (later ++ cs)))
-  waits_law later p r at = let g = goes later r.0 in subst (λ (es : List Event). Waits (reached threads cs) (state es) (word (machine threads (later ++ cs)))) (sym g.0)
-      (subst (Waits (reached threads cs) (state (history (machine threads cs) later ++ run_of threads cs))) (sym (same_word (machine threads (later ++ cs)) (state (history (machine threads cs) later ++ run_of threads cs)) g.1.shows))
-      (waits_on (history (machine threads cs) later) (run_of threads cs) p g.1.run r.1 at))
+  keeps_law : (later : List Call) (p : ℕ) → Rests m later p → (party (state es) p).status ≡ In → (state (history m later ++ es)).round ≡ (state es).round
+  keeps_law later p r at = let g = goes m es later some r.0 f in (stays (history m later) es p g.1.run r.1 at).0
 
-  keeps_law : (later : List Call) (p : ℕ) → Rests threads later cs p → (party (reached threads cs) p).status ≡ In → (reached threads (later ++ cs)).round ≡ (reached threads cs).round
-  keeps_law later p r at = let g = goes later r.0 in ap (λ (es : List Event). (state es).round) g.0 ∙ (stays (history (machine threads cs) later) (run_of threads cs) p g.1.run r.1 at).0
-
-  pub laws : Laws threads cs
-  laws = let f = follows threads cs some ok in let size = size_is threads cs in record {
-    run = f.run;
-    shows = f.shows;
-    word_is = same_word (machine threads cs) (reached threads cs) f.shows;
-    counters = size;
-    once = run_once (run_of threads cs) f.run;
-    begins = begins_within (run_of threads cs) f.run;
-    whole = λ q lt. is_whole ((reached threads cs).rounds q) ((sound (run_of threads cs) f.run).ended q lt);
-    cleared = ends_cleared (run_of threads cs) f.run;
-    exact = exactly (machine threads cs) (run_of threads cs) f (omega arith);
-    memory = refused_for_memory (machine threads cs);
-    refused = λ c why e. refused_by (machine threads cs) c.step why (refusal (machine threads cs) c) e;
-    waits = waits_law;
-    keeps = keeps_law;
-  }
+pub laws : (threads : ℕ) (cs : List Call) → 0 < threads → IsSchedule cs → Laws threads (machine threads cs) (run_of threads cs)
+laws threads cs some ok = let m = machine threads cs in let es = run_of threads cs in let f = follows threads cs some ok in let size = size_is threads cs in let pos : 0 < length (machine threads cs).counters = omega arith in record {
+  run = f.run;
+  shows = f.shows;
+  word_is = same_word m (state es) f.shows;
+  counters = size;
+  once = run_once es f.run;
+  begins = begins_within es f.run;
+  whole = λ q lt. is_whole ((state es).rounds q) ((sound es f.run).ended q lt);
+  cleared = ends_cleared es f.run;
+  exact = exactly m es f pos;
+  memory = refused_for_memory m;
+  refused = λ c why e. refused_by m c.step why (refusal m c) e;
+  waits = waits_law m es f pos;
+  keeps = keeps_law m es f pos;
+}

@@ -1,7 +1,7 @@
 -- From what a step of the registers does to what the machine's step does: its answer, and that a schedule leads on.
-use Rattle.std.proofs.Common.{◌≡◌, ℕ, ◌<◌, ◌≤◌, Bool, List, [], ◌∷◌, sym, refl, ap, ◌∙◌, subst, Option, Some, None, Result, Ok, Err, IfOk, MatchResult}
+use Rattle.std.proofs.Common.{◌≡◌, ℕ, ◌<◌, ◌≤◌, Bool, [], ◌∷◌, sym, ap, ◌∙◌, subst, Option, None, Result, Ok, Err, IfOk, MatchResult}
 use Rattle.spindle_parts.specs.Machine.{Configuration, initial, word, first, judged, tests, effect, answer, serve}
-use Rattle.spindle_parts.specs.EverySchedule.{Call, IsInRange, IsSchedule, machine}
+use Rattle.spindle_parts.specs.EverySchedule.{IsInRange}
 use Rattle.spindle_parts.specs.Registers.{shown, IsReached, IsTidy, IsSteady}
 use Rattle.spindle_parts.specs.Contents.{Contents, contents, configuration}
 use Rattle.spindle_parts.specs.Serving.{Serves, IsServed}

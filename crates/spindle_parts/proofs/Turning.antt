@@ -1,11 +1,11 @@
 -- The round's end: the sense flips, and by it every member that has arrived is in.
-use Rattle.std.proofs.Common.{◌≡◌, ◌≢◌, ℕ, ◌≤◌, Bool, true, false, not, List, [], ◌∷◌, sym, refl, ap, ◌∙◌, subst, arith, Option, Some, None, ◌==◌, length, vec_capacity}
+use Rattle.std.proofs.Common.{◌≡◌, ◌≢◌, ℕ, ◌≤◌, Bool, true, false, not, List, [], sym, refl, ap, ◌∙◌, subst, Option, Some, None, ◌==◌}
 use mathlib.Core.Logic.{dite}
 use native.Mathlib.Decide.{ℕ_discrete}
-use Rattle.std.specs.List.{list_any, slice_get, IsDistinct}
+use Rattle.std.specs.List.{list_any, IsDistinct}
 use Rattle.std.specs.Ordering.{nat_cmp}
 use Rattle.std.specs.BTreeMap.{BTreeMap, get, btree_map_len}
-use Rattle.spindle_parts.specs.State.{Status, Out, In, Arrived, put, waking}
+use Rattle.spindle_parts.specs.State.{Out, In, waking}
 use Rattle.spindle_parts.specs.Machine.{Configuration, Seat, status, standing, turned}
 use Rattle.spindle_parts.specs.Entries.{sense_of, running_of, IsMarked}
 use Rattle.spindle_parts.specs.Registers.{shown, stands}

@@ -1,12 +1,12 @@
 -- What a run says of a party that takes no step in it, and of each of its events.
-use Rattle.std.proofs.Common.{◌≡◌, ◌≢◌, ◌⊎◌, ◌↔◌, inl, inr, ⊎_elim, ℕ, suc, ◌+◌, ◌*◌, ◌/◌, ◌%◌, ◌<◌, ◌≤◌, Bool, true, false, List, [], ◌∷◌, ◌++◌, sym, refl, ap, ◌∙◌, subst, arith, Option, Some, None, if◌then◌else◌, ◌==◌, eq-eqb, ne_eqb}
+use Rattle.std.proofs.Common.{◌≡◌, ◌≢◌, ◌⊎◌, inl, inr, ⊎_elim, ℕ, ◌+◌, ◌/◌, ◌%◌, ◌<◌, Bool, List, [], ◌∷◌, ◌++◌, sym, refl, ap, ◌∙◌, subst, arith, None, if◌then◌else◌, ne_eqb}
 use mathlib.Core.Logic.{dite}
 use native.Mathlib.Decide.{ℕ_discrete}
-use Rattle.spindle_parts.specs.State.{Status, Out, In, Arrived, Party, Round, State, put_party, inside, members, now, party}
-use Rattle.spindle_parts.specs.Steps.{with_status, Allowed, after, by, arrived, left, Event, Join, Publish, PublishTry, Take, Begin, Finish, Stop, See, PutBack, Arrive, Leave, Exit, Clear, End}
+use Rattle.spindle_parts.specs.State.{Out, In, Arrived, Party, Round, State, put_party, members, now, party}
+use Rattle.spindle_parts.specs.Steps.{with_status, Allowed, after, arrived, Event, Join, Publish, PublishTry, Take, Begin, Finish, Stop, See, PutBack, Arrive, Leave, Exit, Clear, End}
 use Rattle.spindle_parts.specs.Runs.{state, IsRun}
 use Rattle.spindle_parts.specs.BarrierWord.{word}
-use Rattle.spindle_parts.specs.EverySchedule.{AtEach, BeginsWithin, EndsCleared, NoneBy, Waits, IsWhole, sense_after}
+use Rattle.spindle_parts.specs.EverySchedule.{AtEach, BeginsWithin, EndsCleared, NoneBy, Waits, IsWhole}
 use Rattle.spindle_parts.proofs.Parties.{inside_le_members}
 use Rattle.spindle_parts.proofs.Fates.{Complete}
 use Rattle.spindle_parts.proofs.Soundness.{Sound, sound, alone_hidden}

@@ -49,7 +49,11 @@ entry_of c p = lookup (is_at (nat_cmp p)) c.entries
 -- the configuration that the contents show
 abbrev pub configuration : Contents → Configuration
 configuration c = record {
-  seat = λ p. record { status = stands c.sense (sense_of (entry_of c p)); running = running_of (entry_of c p); seen = list_any (λ q. p == q) c.saw };
+  seat = λ p. record {
+    status = stands c.sense (sense_of (entry_of c p));
+    running = running_of (entry_of c p);
+    seen = list_any (λ q. p == q) c.saw;
+  };
   inside = c.inside;
   members = c.members;
   sense = c.sense;

@@ -1,11 +1,11 @@
 -- What is true of the machine after any schedule: the definitions of the model of rounds hold of it.
-use Rattle.std.specs.Prelude.{◌≡◌, ◌≢◌, ◌⊎◌, ◌↔◌, ℕ, ◌+◌, ◌*◌, ◌-◌, ◌/◌, ◌%◌, ◌<◌, ◌≤◌, Bool, true, false, IsTrue, is_none, unwrap_or, List, [], ◌∷◌, ◌++◌, length, Option, Some, None, if◌then◌else◌, ◌==◌}
-use Rattle.spindle_parts.specs.State.{Status, Out, In, Arrived, Round, State, inside, members, times, now, party, Free}
+use Rattle.std.specs.Prelude.{◌≡◌, ◌≢◌, ◌⊎◌, ◌↔◌, ℕ, ◌+◌, ◌*◌, ◌/◌, ◌%◌, ◌<◌, ◌≤◌, Bool, true, false, is_none, unwrap_or, List, [], ◌∷◌, ◌++◌, length, Option, Some, None, if◌then◌else◌, ◌==◌}
+use Rattle.spindle_parts.specs.State.{In, Arrived, Round, State, inside, members, times, now, party, Free}
 use Rattle.spindle_parts.specs.Steps.{Event, Allowed, by}
 use Rattle.spindle_parts.specs.Steps as events
 use Rattle.spindle_parts.specs.Runs.{state, IsRun, IsOnce}
 use Rattle.spindle_parts.specs.BarrierWord as barrier
-use Rattle.spindle_parts.specs.Machine.{Configuration, initial, word, counter, own, tests, first, claimed, rested, effect, serve}
+use Rattle.spindle_parts.specs.Machine.{Configuration, initial, word, counter, own, tests, first, claimed, rested, serve}
 use Rattle.spindle_parts.specs.declared.steps.Step.{Step}
 use Rattle.spindle_parts.specs.declared.steps.Step.TheVariants.{Join, Publish, PublishTry, Claim, Rest, Finish, Stop, See, Arrive, Leave, Exit, Clear, End}
 use Rattle.spindle_parts.specs.declared.steps.Why.{Why}
@@ -56,10 +56,17 @@ events_of m (End p) = events.End p ∷ []
 abbrev pub refusal : Configuration → Call → Option Why
 refusal m c = first (tests m c.granted c.step)
 
+-- a call whose growth is granted, and one whose growth isn't
+abbrev pub granting : Step → Call
+granting e = record { step = e; granted = true }
+
+abbrev pub refusing : Step → Call
+refusing e = record { step = e; granted = false }
+
 -- without memory the step is refused as with it, but for a join that would be accepted
 abbrev pub IsRefusedForMemory : Configuration → Step → Type 0
-IsRefusedForMemory m (Join p) = refusal m (record { step = Join p; granted = false }) ≡ Some (unwrap_or (refusal m (record { step = Join p; granted = true })) Memory)
-IsRefusedForMemory m e = refusal m (record { step = e; granted = false }) ≡ refusal m (record { step = e; granted = true })
+IsRefusedForMemory m (Join p) = refusal m (refusing (Join p)) ≡ Some (unwrap_or (refusal m (granting (Join p))) Memory)
+IsRefusedForMemory m e = refusal m (refusing e) ≡ refusal m (granting e)
 
 -- the machine after the calls, from m on
 abbrev pub played : Configuration → List Call → Configuration
@@ -75,9 +82,11 @@ abbrev pub history : Configuration → List Call → List Event
 history m [] = []
 history m (c ∷ cs) = accepted (played m cs) c ++ history m cs
 
--- job k is among the last `count t` of a thread's own, of which each thread has as many, or among the last `rest` of all n
+-- job k is among the last `count t` of the own jobs of some thread t, of which each thread has as many, or among the last
+-- `rest` of all n
 abbrev pub StandsFor : (threads own : ℕ) (count : ℕ → ℕ) (rest n k : ℕ) → Type 0
-StandsFor threads own count rest n k = ((t : ℕ) × (t < threads) × (k < own * t + own) × (own * t + own ≤ k + count t)) ⊎ ((k < n) × (n ≤ k + rest))
+StandsFor threads own count rest n k = ((t : ℕ) × (t < threads) × (k < own * t + own) × (own * t + own ≤ k + count t))
+    ⊎ ((k < n) × (n ≤ k + rest))
 
 -- the counters and the remainder stand for job k, where n are published
 abbrev pub IsLeft : Configuration → ℕ → ℕ → Type 0
@@ -129,7 +138,8 @@ IsFair m s (Exit p) = Allowed s (events.Exit p)
 IsFair m s (Clear p) = Allowed s (events.Clear p)
 IsFair m s (End p) = Allowed s (events.End p)
 
--- a round that has ended: each number begun was below its jobs, begun once and finished once, and every one where nothing stopped it
+-- an ended round: each number begun was below its jobs and has finished once, and every number has begun where nothing
+-- stopped it
 pub record IsWhole (r : Round) : Type 0 where
   pub once : (k : ℕ) → times k r.begun ≤ 1
   pub finished : (k : ℕ) → times k r.finished ≡ times k r.begun
@@ -172,39 +182,39 @@ machine threads calls = played (initial threads) calls
 abbrev pub run_of : ℕ → List Call → List Event
 run_of threads calls = history (initial threads) calls
 
--- the state that the run ends in
-abbrev pub reached : ℕ → List Call → State
-reached threads calls = state (run_of threads calls)
+-- the calls that follow are a schedule, in which the party p takes no step
+abbrev pub Rests : Configuration → List Call → ℕ → Type 0
+Rests m later p = IsSchedule later × NoneBy p (history m later)
 
--- who takes no step in the calls that follow
-abbrev pub Rests : ℕ → List Call → List Call → ℕ → Type 0
-Rests threads later calls p = IsSchedule later × NoneBy p (history (machine threads calls) later)
-
--- what is true after a schedule on a fresh machine with that many counters
-pub record Laws (threads : ℕ) (calls : List Call) : Type 0 where
+-- what is true of the machine m after a schedule whose accepted steps are the events es
+pub record Laws (threads : ℕ) (m : Configuration) (es : List Event) : Type 0 where
   -- the accepted steps are a run, whose state the machine shows; the word is that state's barrier word
-  pub run : IsRun (run_of threads calls)
-  pub shows : Shows (machine threads calls) (reached threads calls)
-  pub word_is : word (machine threads calls) ≡ barrier.word (reached threads calls)
+  pub run : IsRun es
+  pub shows : Shows m (state es)
+  pub word_is : word m ≡ barrier.word (state es)
   -- the counters stay as many as they were made
-  pub counters : length (machine threads calls).counters ≡ threads
+  pub counters : length m.counters ≡ threads
   -- no number stands twice in begun or finished of any round, and each begin is within its round
-  pub once : IsOnce (reached threads calls)
-  pub begins : AtEach BeginsWithin (run_of threads calls)
+  pub once : IsOnce (state es)
+  pub begins : AtEach BeginsWithin es
   -- each ended round is whole, and nothing is published at an end
-  pub whole : (q : ℕ) → q < (reached threads calls).round → IsWhole ((reached threads calls).rounds q)
-  pub cleared : AtEach EndsCleared (run_of threads calls)
-  -- memory aside, a step is accepted next exactly where it is fair, and refused exactly where it isn't
-  pub exact : (e : Step) → IsInRange e → (refusal (machine threads calls) (record { step = e; granted = true }) ≡ None) ↔ IsFair (machine threads calls) (reached threads calls) e
+  pub whole : (q : ℕ) → q < (state es).round → IsWhole ((state es).rounds q)
+  pub cleared : AtEach EndsCleared es
+  -- memory aside, the next step is accepted exactly where it is fair, and refused exactly where it isn't
+  pub exact : (e : Step) → IsInRange e → (refusal m (granting e) ≡ None) ↔ IsFair m (state es) e
   -- a growth that isn't granted refuses a join that is fair, and nothing else
-  pub memory : (e : Step) → IsRefusedForMemory (machine threads calls) e
+  pub memory : (e : Step) → IsRefusedForMemory m e
   -- a refused call changes nothing, and its reason is the first test that is true
-  pub refused : (c : Call) (why : Why) → (serve (machine threads calls) c.granted c.step).1 ≡ Refused why → (refusal (machine threads calls) c ≡ Some why) × ((serve (machine threads calls) c.granted c.step).0 ≡ machine threads calls)
+  pub refused : (c : Call) (why : Why) → (serve m c.granted c.step).1 ≡ Refused why
+      → (refusal m c ≡ Some why) × ((serve m c.granted c.step).0 ≡ m)
   -- who has arrived, and takes no step, sees its own sense in the word exactly if its round has ended
-  pub waits : (later : List Call) (p : ℕ) → Rests threads later calls p → (party (reached threads calls) p).status ≡ Arrived → Waits (reached threads calls) (reached threads (later ++ calls)) (word (machine threads (later ++ calls)))
+  pub waits : (later : List Call) (p : ℕ) → Rests m later p → (party (state es) p).status ≡ Arrived
+      → Waits (state es) (state (history m later ++ es)) (word (played m later))
   -- a member that is in, and takes no step, keeps the round from ending
-  pub keeps : (later : List Call) (p : ℕ) → Rests threads later calls p → (party (reached threads calls) p).status ≡ In → (reached threads (later ++ calls)).round ≡ (reached threads calls).round
+  pub keeps : (later : List Call) (p : ℕ) → Rests m later p → (party (state es) p).status ≡ In
+      → (state (history m later ++ es)).round ≡ (state es).round
 
 -- the theorem: the laws hold after every schedule, for any number of counters from 1 to 32767
 abbrev pub EverySchedule : Type 0
-EverySchedule = (threads : ℕ) (calls : List Call) → 0 < threads → threads ≤ 32767 → IsSchedule calls → Laws threads calls
+EverySchedule = (threads : ℕ) (calls : List Call) → 0 < threads → threads ≤ 32767 → IsSchedule calls
+    → Laws threads (machine threads calls) (run_of threads calls)

@@ -1,8 +1,6 @@
 -- The machine as plain data: the tests of each step in order, what an accepted step changes, and what it answers.
-use Rattle.std.specs.Prelude.{◌≡◌, ℕ, ◌+◌, ◌*◌, ◌-◌, ◌/◌, ◌%◌, Bool, true, false, not, ◌&&◌, ◌==◌, nat_lt, List, [], ◌∷◌, ◌++◌, length, sum, replicate, slice_index, slice_set, Option, Some, None, is_some, unwrap_or, if◌then◌else◌}
+use Rattle.std.specs.Prelude.{ℕ, ◌+◌, ◌*◌, ◌-◌, ◌/◌, ◌%◌, Bool, true, false, not, ◌&&◌, ◌==◌, nat_lt, List, [], ◌∷◌, ◌++◌, length, sum, replicate, slice_index, slice_set, Option, Some, None, is_some, unwrap_or, if◌then◌else◌}
 use Rattle.spindle_parts.specs.State.{Status, Out, In, Arrived, put, waking}
-use Rattle.spindle_parts.specs.Steps.{Event}
-use Rattle.spindle_parts.specs.Steps as events
 use Rattle.spindle_parts.specs.declared.steps.Step.{Step}
 use Rattle.spindle_parts.specs.declared.steps.Step.TheVariants.{Join, Publish, PublishTry, Claim, Rest, Finish, Stop, See, Arrive, Leave, Exit, Clear, End}
 use Rattle.spindle_parts.specs.declared.steps.Why.{Why}
@@ -100,25 +98,33 @@ module _ (m : Configuration) where
 
   -- tests of a publish of n jobs
   abbrev pub publish_tests : ℕ → ℕ → List (Why × Bool)
-  publish_tests p n = (NotLeader, not (p == 0)) ∷ (NotIn, not (is_inside (status p))) ∷ (Published, is_some m.published) ∷ (Count, nat_lt n 2) ∷ []
+  publish_tests p n = (NotLeader, not (p == 0)) ∷ (NotIn, not (is_inside (status p)))
+      ∷ (Published, is_some m.published) ∷ (Count, nat_lt n 2) ∷ []
 
   -- tests of a claim, from whichever place
   abbrev pub claim_tests : ℕ → List (Why × Bool)
-  claim_tests p = (NotIn, not (is_inside (status p))) ∷ (NotPublished, not (is_some m.published)) ∷ (Holding, is_running p) ∷ (Stopped, (m.seat p).seen) ∷ []
+  claim_tests p = (NotIn, not (is_inside (status p))) ∷ (NotPublished, not (is_some m.published))
+      ∷ (Holding, is_running p) ∷ (Stopped, (m.seat p).seen) ∷ []
 
   -- each step's tests, in the order of the step table: the first that is true refuses the step
   abbrev pub tests : (granted : Bool) → Step → List (Why × Bool)
-  tests granted (Join p) = (Member, not (is_out (status p))) ∷ (Full, m.members == 32767) ∷ (Closing, is_some m.closer) ∷ (Memory, not granted) ∷ []
+  tests granted (Join p) = (Member, not (is_out (status p))) ∷ (Full, m.members == 32767)
+      ∷ (Closing, is_some m.closer) ∷ (Memory, not granted) ∷ []
   tests granted (Publish p n) = publish_tests p n
   tests granted (PublishTry p n) = publish_tests p n
-  tests granted (Claim p t) = claim_tests p ++ ((Range, not (nat_lt t (length m.counters))) ∷ (Empty, counter t == 0) ∷ [])
+  tests granted (Claim p t) = claim_tests p
+      ++ ((Range, not (nat_lt t (length m.counters))) ∷ (Empty, counter t == 0) ∷ [])
   tests granted (Rest p) = claim_tests p ++ ((Empty, m.remainder == 0) ∷ [])
   tests granted (Finish p) = (Idle, not (is_running p)) ∷ []
   tests granted (Stop p) = (Idle, not (is_running p)) ∷ (Fixed, not m.stoppable) ∷ []
-  tests granted (See p) = (NotIn, not (is_inside (status p))) ∷ (NotPublished, not (is_some m.published)) ∷ (Going, not m.stopped) ∷ []
-  tests granted (Arrive p) = (NotIn, not (is_inside (status p))) ∷ (Holding, is_running p) ∷ (Left, is_some m.published && not m.stopped && nat_lt 0 left) ∷ []
-  tests granted (Leave p) = (NotWaiting, not (is_waiting (status p))) ∷ (Closing, is_some m.closer) ∷ (Leader, (p == 0) && is_some m.published) ∷ []
-  tests granted (Exit p) = (NotIn, not (is_inside (status p))) ∷ (Holding, is_running p) ∷ (Leader, (p == 0) && is_some m.published) ∷ []
+  tests granted (See p) = (NotIn, not (is_inside (status p))) ∷ (NotPublished, not (is_some m.published))
+      ∷ (Going, not m.stopped) ∷ []
+  tests granted (Arrive p) = (NotIn, not (is_inside (status p))) ∷ (Holding, is_running p)
+      ∷ (Left, is_some m.published && not m.stopped && nat_lt 0 left) ∷ []
+  tests granted (Leave p) = (NotWaiting, not (is_waiting (status p))) ∷ (Closing, is_some m.closer)
+      ∷ (Leader, (p == 0) && is_some m.published) ∷ []
+  tests granted (Exit p) = (NotIn, not (is_inside (status p))) ∷ (Holding, is_running p)
+      ∷ (Leader, (p == 0) && is_some m.published) ∷ []
   tests granted (Clear p) = (NotCloser, not (is_party m.closer p)) ∷ []
   tests granted (End p) = (NotCloser, not (is_party m.closer p)) ∷ (Published, is_some m.published) ∷ []
 
@@ -144,11 +150,24 @@ module _ (m : Configuration) where
 
   -- n jobs are published: each counter stands for its thread's own, the remainder for the others
   abbrev pub publishing : ℕ → Bool → Configuration
-  publishing n b = record m { published = Some n; stoppable = b; finished = 0; counters = replicate (length m.counters) (own n); remainder = n % length m.counters }
+  publishing n b = record m {
+    published = Some n;
+    stoppable = b;
+    finished = 0;
+    counters = replicate (length m.counters) (own n);
+    remainder = n % length m.counters;
+  }
 
   -- the round ends: who has arrived is in, and nobody has seen a stop
   abbrev pub turned : Configuration
-  turned = record m { seat = λ p. record { status = waking (status p); running = (m.seat p).running; seen = false }; inside = m.members; sense = not m.sense; closer = None; stoppable = false; stopped = false }
+  turned = record m {
+    seat = λ p. record { status = waking (status p); running = (m.seat p).running; seen = false };
+    inside = m.members;
+    sense = not m.sense;
+    closer = None;
+    stoppable = false;
+    stopped = false;
+  }
 
   -- who leaves nobody in is the closer
   abbrev pub closing : ℕ → Configuration
@@ -157,14 +176,18 @@ module _ (m : Configuration) where
 module _ (m : Configuration) where
   -- the party p is gone, and the round ends where it was the last member
   abbrev pub exited : ℕ → Configuration
-  exited p = let gone : Configuration = record m { seat = standing m p Out; inside = m.inside - 1; members = m.members - 1 } in if gone.members == 0 then turned gone else closing gone p
+  exited p = let gone : Configuration = record m { seat = standing m p Out; inside = m.inside - 1; members = m.members - 1 } in
+      if gone.members == 0 then turned gone else closing gone p
 
   -- what an accepted step changes
   abbrev pub effect : Step → Configuration
   effect (Join p) = record m { seat = standing m p In; inside = m.inside + 1; members = m.members + 1 }
   effect (Publish p n) = publishing m n false
   effect (PublishTry p n) = publishing m n true
-  effect (Claim p t) = record m { seat = with_running m p (Some (claimed m t)); counters = slice_set m.counters t (counter m t - 1) }
+  effect (Claim p t) = record m {
+    seat = with_running m p (Some (claimed m t));
+    counters = slice_set m.counters t (counter m t - 1);
+  }
   effect (Rest p) = record m { seat = with_running m p (Some (rested m)); remainder = m.remainder - 1 }
   effect (Finish p) = record m { seat = with_running m p None; finished = m.finished + 1 }
   effect (Stop p) = record m { seat = with_seen m p; stopped = true }

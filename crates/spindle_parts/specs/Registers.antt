@@ -1,8 +1,8 @@
 -- The configuration that the machine's registers show, and what is kept of them between two steps.
-use Rattle.std.specs.Prelude.{◌≡◌, ℕ, ◌+◌, ◌<◌, ◌≤◌, Bool, true, false, ◌==◌, List, length, sum, slice_get, Option, Some, None, vec_capacity}
-use Rattle.std.specs.List.{list_any, IsDistinct}
+use Rattle.std.specs.Prelude.{◌≡◌, ℕ, ◌+◌, ◌<◌, ◌≤◌, Bool, true, false, ◌==◌, List, sum, Option, Some, None, vec_capacity}
+use Rattle.std.specs.List.{list_any}
 use Rattle.std.specs.Ordering.{nat_cmp}
-use Rattle.std.specs.BTreeMap.{BTreeMap, get, btree_map_len}
+use Rattle.std.specs.BTreeMap.{get}
 use Rattle.spindle_parts.specs.State.{Status, Out, In, Arrived}
 use Rattle.spindle_parts.specs.Machine.{Configuration}
 use Rattle.spindle_parts.specs.EverySchedule.{Call, IsSchedule, machine}
@@ -20,7 +20,11 @@ stands false (Some false) = In
 -- the configuration that the registers show
 abbrev pub shown : Registers → Configuration
 shown r = record {
-  seat = λ p. record { status = stands r.sense (sense_of (get nat_cmp r.entries p)); running = running_of (get nat_cmp r.entries p); seen = list_any (λ q. p == q) r.saw.items };
+  seat = λ p. record {
+    status = stands r.sense (sense_of (get nat_cmp r.entries p));
+    running = running_of (get nat_cmp r.entries p);
+    seen = list_any (λ q. p == q) r.saw.items;
+  };
   inside = r.inside;
   members = r.members;
   sense = r.sense;

@@ -1,5 +1,5 @@
 -- Runs: lists of events, each allowed where it stands.
-use Rattle.std.specs.Prelude.{◌≡◌, ◌≢◌, ◌⊎◌, ℕ, zero, suc, ◌+◌, ◌*◌, ◌%◌, ◌<◌, ◌≤◌, Bool, true, false, ◌||◌, ◌==◌, List, [], ◌∷◌, ◌++◌, Option, Some, None, if◌then◌else◌}
+use Rattle.std.specs.Prelude.{ℕ, ◌≤◌, List, [], ◌∷◌}
 use Rattle.spindle_parts.specs.State.{State, fresh, times}
 use Rattle.spindle_parts.specs.Steps.{Event, Allowed, after}
 

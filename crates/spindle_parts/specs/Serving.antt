@@ -1,5 +1,5 @@
 -- What a step of the machine's code does: the step of its configuration, or a refusal that changes nothing.
-use Rattle.std.specs.Prelude.{◌≡◌, ℕ, Bool, true, false, List, Option, Some, None, Result, Ok, Err, MatchResult}
+use Rattle.std.specs.Prelude.{◌≡◌, ℕ, Bool, true, false, List, Some, None, Result, Err, MatchResult}
 use Rattle.spindle_parts.specs.Machine.{Configuration, first, tests, effect, serve, word}
 use Rattle.spindle_parts.specs.declared.steps.Step.{Step}
 use Rattle.spindle_parts.specs.declared.steps.Why.{Why}
@@ -18,7 +18,9 @@ Passes ts outcome = MatchResult outcome (λ _. first ts ≡ None) (λ why. first
 
 -- Ok with that effect where no test is true, else refused by the first that is, with nothing changed
 abbrev pub Judges : {T : Type 0} → List (Why × Bool) → (m to m' : Configuration) → Result T Why → Type 0
-Judges ts m to m' outcome = MatchResult outcome (λ _. (first ts ≡ None) × (m' ≡ to)) (λ why. (first ts ≡ Some why) × (m' ≡ m))
+Judges ts m to m' outcome = MatchResult outcome
+    (λ _. (first ts ≡ None) × (m' ≡ to))
+    (λ why. (first ts ≡ Some why) × (m' ≡ m))
 
 -- the step of the step table, made or refused
 abbrev pub Serves : {T : Type 0} → Configuration → (granted : Bool) → Step → Configuration → Result T Why → Type 0

@@ -1,5 +1,5 @@
 -- The state of a round: who takes part, what each party runs and has taken, and what each round has begun and finished.
-use Rattle.std.specs.Prelude.{◌≡◌, ◌≢◌, ◌⊎◌, ℕ, zero, suc, ◌+◌, ◌*◌, ◌%◌, ◌<◌, ◌≤◌, Bool, true, false, ◌||◌, ◌==◌, List, [], ◌∷◌, ◌++◌, Option, Some, None, if◌then◌else◌}
+use Rattle.std.specs.Prelude.{◌≡◌, ◌⊎◌, ℕ, zero, suc, ◌+◌, ◌<◌, Bool, true, false, ◌==◌, List, [], ◌∷◌, Option, None, if◌then◌else◌}
 
 -- how a party stands: no member, a member that hasn't arrived, a member that has
 pub data Status : Type 0 where

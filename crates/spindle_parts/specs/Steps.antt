@@ -1,6 +1,6 @@
 -- The events of a round: by whom each is, when it is allowed, and what it changes.
-use Rattle.std.specs.Prelude.{◌≡◌, ◌≢◌, ◌⊎◌, ℕ, zero, suc, ◌+◌, ◌*◌, ◌%◌, ◌<◌, ◌≤◌, Bool, true, false, ◌||◌, ◌==◌, List, [], ◌∷◌, ◌++◌, Option, Some, None, if◌then◌else◌}
-use Rattle.spindle_parts.specs.State.{Status, Out, In, Arrived, Party, Round, State, no_set, put, party_of, put_party, inside, members, times, wake, now, party, change, change_round, Free}
+use Rattle.std.specs.Prelude.{◌≡◌, ◌≢◌, ◌⊎◌, ℕ, ◌+◌, ◌<◌, ◌≤◌, Bool, true, false, ◌||◌, ◌==◌, List, [], ◌∷◌, ◌++◌, Option, Some, None, if◌then◌else◌}
+use Rattle.spindle_parts.specs.State.{Status, Out, In, Arrived, Party, State, no_set, put, put_party, inside, members, wake, now, party, change, change_round, Free}
 
 -- an event, with its party first: a publish has its number of jobs (a round published by the second kind may be stopped),
 -- a take a set of numbers, a begin its number

@@ -14,6 +14,7 @@ use crate::fault::Fault;
 use std::alloc::Global;
 use std::marker::Model;
 
+mod closing;
 mod entries;
 mod jobs;
 mod members;

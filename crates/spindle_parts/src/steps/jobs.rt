@@ -65,7 +65,8 @@ impl Registers {
     pub fn claim(&mut self, party: u32, thread: u32) -> Result<u32, Why>
         requires reached { IsReached (shown self.old) }
         requires tidy { IsTidy self.old }
-        ensures served { Serves (shown self.old) true (Step.Claim party thread) (shown self.new) result }
+        ensures served { let step = Step.Claim party thread in
+            Serves (shown self.old) true step (shown self.new) result }
         ensures number { IfOk result (λ k. k ≡ claimed (shown self.old) thread) }
         ensures tidy { IsTidy self.new }
     {

@@ -1,3 +1,4 @@
+-- The laws of every schedule.
 use Rattle.spindle_parts.proofs.Schedules.{laws}
 use Rattle.spindle_parts.proofs.steps.every_schedule.Goals as goal
 

@@ -1,3 +1,4 @@
+-- A fresh machine is tidy, and no call leads to it.
 use Rattle.spindle_parts.specs.Registers.{shown}
 use Rattle.spindle_parts.proofs.Serving.{starts}
 use Rattle.spindle_parts.proofs.steps.Machine.new.Goals as goal

@@ -1,13 +1,11 @@
-use Rattle.std.proofs.Common.{◌≡◌, ℕ, true, sym, refl, ap, subst, Result, IfOk}
-use Rattle.spindle_parts.specs.Machine.{Configuration, word, effect, claimed, rested}
+-- Each kind of step: what its call on the registers does is what the machine's step does.
+use Rattle.std.proofs.Common.{◌≡◌, true, sym, refl, subst}
+use Rattle.spindle_parts.specs.Machine.{word, effect, claimed, rested}
 use Rattle.spindle_parts.specs.Registers.{shown, IsSteady}
 use Rattle.spindle_parts.specs.Serving.{granted_by}
-use Rattle.spindle_parts.specs.declared.steps.Step.{Step}
 use Rattle.spindle_parts.specs.declared.steps.Step.TheVariants as steps
-use Rattle.spindle_parts.specs.declared.steps.Why.{Why}
 use Rattle.spindle_parts.specs.declared.steps.Reply.TheVariants.{Word, Job}
 use Rattle.spindle_parts.specs.declared.steps.Machine.TheInside.{Inside}
-use Rattle.spindle_parts.specs.declared.steps.registers.Registers.{Registers}
 use Rattle.spindle_parts.proofs.Serving.{always, steady_by, served_by, job_is}
 use Rattle.spindle_parts.proofs.steps.Machine.step.Goals as goal
 use Rattle.spindle_parts.proofs.steps.Machine.step.Goals.{in-Join, in-Publish, in-PublishTry, in-Claim, in-Rest, in-Finish, in-Stop, in-See, in-Arrive, in-Leave, in-Exit, in-Clear, in-End}

@@ -1,4 +1,5 @@
-use Rattle.std.proofs.Common.{◌≤◌, arith}
+-- The list is no longer than the entries are many.
+use Rattle.std.proofs.Common.{arith}
 use Rattle.spindle_parts.proofs.Marks.{marks_fit}
 use Rattle.spindle_parts.proofs.steps.entries.admit.Goals as goal
 

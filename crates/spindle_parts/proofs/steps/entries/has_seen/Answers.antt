@@ -1,6 +1,5 @@
-use Rattle.std.proofs.Common.{◌≡◌, ◌≢◌, ◌<◌, ◌≤◌, length, get_or, sym, ◌∙◌, ap, arith, ne_eqb, eq-eqb, eqb, ◌==◌}
-use mathlib.Core.Logic.{dite}
-use native.Mathlib.Decide.{ℕ_discrete}
+-- Who stands in the list stands at its entry's mark.
+use Rattle.std.proofs.Common.{sym, ◌∙◌, arith}
 use Rattle.std.proofs.lemmas.Bool.{le-ltb}
 use Rattle.spindle_parts.proofs.Marks.{unknown_unseen, past_unseen, seen_at}
 use Rattle.spindle_parts.proofs.steps.entries.has_seen.Goals as goal

@@ -1,4 +1,5 @@
-use Rattle.std.proofs.Common.{ℕ, ◌<◌, ◌≤◌, List, ◌∷◌, [], ◌++◌, sym, ◌∙◌, subst, arith}
+-- There is room for one more in the list, which keeps its marks.
+use Rattle.std.proofs.Common.{ℕ, List, sym, ◌∙◌, subst, arith}
 use Rattle.spindle_parts.specs.Entries.{IsMarked}
 use Rattle.spindle_parts.proofs.Marks.{mark_fits, marked_more}
 use Rattle.spindle_parts.proofs.steps.entries.note.Goals as goal

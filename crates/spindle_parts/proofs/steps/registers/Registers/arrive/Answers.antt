@@ -1,4 +1,5 @@
-use Rattle.std.proofs.Common.{◌≤◌, sym, ◌∙◌, subst, arith}
+-- Who arrives was counted among those inside.
+use Rattle.std.proofs.Common.{sym, ◌∙◌, subst, arith}
 use Rattle.spindle_parts.specs.Registers.{shown, IsTidy}
 use Rattle.spindle_parts.proofs.Reached.{bounds}
 use Rattle.spindle_parts.proofs.Marks.{known_inside, sense_kept}

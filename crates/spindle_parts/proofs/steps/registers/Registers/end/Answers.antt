@@ -1,8 +1,9 @@
-use Rattle.std.proofs.Common.{rules, ◌≡◌, ◌≤◌, sym, ap, ◌∙◌, subst, arith}
+-- At an end nobody is in, so the flip of the sense wakes every member.
+use Rattle.std.proofs.Common.{rules, sym, ◌∙◌, subst, arith}
 use Rattle.spindle_parts.specs.Registers.{shown, IsTidy}
-use Rattle.spindle_parts.proofs.Tests.{none_first, not_true, not_false, party_by}
+use Rattle.spindle_parts.proofs.Tests.{party_by}
 use Rattle.spindle_parts.proofs.Reached.{bounds}
-use Rattle.spindle_parts.proofs.Turning.{turned_is, flipped, no_marks}
+use Rattle.spindle_parts.proofs.Turning.{turned_is, no_marks}
 use Rattle.spindle_parts.proofs.steps.registers.Registers.end.Goals as goal
 
 pub returns-clause-served : goal.returns-clause-served

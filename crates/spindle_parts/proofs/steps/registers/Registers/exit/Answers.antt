@@ -1,4 +1,5 @@
-use Rattle.std.proofs.Common.{rules, ◌≡◌, ◌≤◌, ◌-◌, refl, sym, ap, ◌∙◌, subst, arith, eq-eqb, Bool, if◌then◌else◌, ◌==◌}
+-- Who exits was counted; with the last member gone nobody is in, so the flip wakes nobody.
+use Rattle.std.proofs.Common.{rules, ◌≡◌, ◌-◌, sym, ap, ◌∙◌, subst, arith, eq-eqb, Bool, if◌then◌else◌}
 use Rattle.spindle_parts.specs.State.{Out}
 use Rattle.spindle_parts.specs.Machine.{Configuration, standing, turned, closing}
 use Rattle.spindle_parts.specs.Registers.{shown, IsTidy}

@@ -1,4 +1,5 @@
-use Rattle.std.proofs.Common.{◌≡◌, ◌+◌, ◌<◌, false, sym, ◌∙◌, Option, None, Some, is_none, arith, Fits, w32}
+-- One more finished is at most the jobs published.
+use Rattle.std.proofs.Common.{sym, ◌∙◌, arith}
 use Rattle.spindle_parts.specs.Registers.{shown}
 use Rattle.spindle_parts.proofs.Reached.{bounds}
 use Rattle.spindle_parts.proofs.Tests.{some_by}

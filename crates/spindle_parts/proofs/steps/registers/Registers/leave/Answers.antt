@@ -1,4 +1,5 @@
-use Rattle.std.proofs.Common.{◌<◌, ◌≤◌, sym, ◌∙◌, arith}
+-- Who leaves was counted among the members, and not among those inside.
+use Rattle.std.proofs.Common.{sym, ◌∙◌, arith}
 use Rattle.spindle_parts.specs.Registers.{shown}
 use Rattle.spindle_parts.proofs.Reached.{bounds}
 use Rattle.spindle_parts.proofs.Marks.{known_waiting, sense_kept}

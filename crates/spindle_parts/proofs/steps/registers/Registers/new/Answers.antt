@@ -1,4 +1,5 @@
-use Rattle.std.proofs.Common.{rules, ◌≡◌, ◌≤◌, ◌*◌, ℕ, replicate, sum, ap, ◌∙◌, arith}
+-- Fresh registers are tidy.
+use Rattle.std.proofs.Common.{rules, ◌≡◌, ℕ, replicate, sum, ap, arith}
 use Rattle.std.proofs.lemmas.List.Folds.{sum_by-replicate}
 use Rattle.spindle_parts.proofs.Turning.{no_marks}
 use Rattle.spindle_parts.proofs.steps.registers.Registers.new.Goals as goal

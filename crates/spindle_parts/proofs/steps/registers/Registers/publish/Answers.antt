@@ -1,4 +1,5 @@
-use Rattle.std.proofs.Common.{◌<◌, ◌≤◌, arith, Fits, w32}
+-- There are counters, and not too many.
+use Rattle.std.proofs.Common.{arith}
 use Rattle.spindle_parts.specs.Registers.{shown}
 use Rattle.spindle_parts.proofs.Reached.{bounds}
 use Rattle.spindle_parts.proofs.steps.registers.Registers.publish.Goals as goal

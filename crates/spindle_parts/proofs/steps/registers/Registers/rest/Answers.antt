@@ -1,4 +1,4 @@
-use Rattle.std.proofs.Common.{◌≤◌, ◌%◌, length, arith}
+-- The remainder is at most the jobs published.
 use Rattle.spindle_parts.specs.Registers.{shown}
 use Rattle.spindle_parts.proofs.Reached.{bounds}
 use Rattle.spindle_parts.proofs.steps.registers.Registers.rest.Goals as goal
