@@ -1,7 +1,4 @@
-<<<<<<< HEAD
 -- Lists: one more at the end, reversing, sums, and the lengths of pieces.
-=======
->>>>>>> bfea376ff60963b02de8250abb13ba6df7879229
 use Rattle.std.proofs.Common.{◌≡◌, ℕ, ◌+◌, ◌<◌, List, [], ◌∷◌, ◌++◌, length, take, drop, get_or, map, refl, ap, sym, ◌∙◌, append_assoc, zero-add, add_assoc, replicate, ◌*◌, ◌-◌, ◌/◌, ◌%◌, ◌≤◌, zero, suc, arith, add-zero, add-one}
 use Rattle.std.proofs.lemmas.List.{reverse-append, map-append}
 use Rattle.std.proofs.Common.{reverse}

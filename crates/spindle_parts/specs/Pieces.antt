@@ -1,9 +1,5 @@
 -- The pieces of a list.
-<<<<<<< HEAD
 use Rattle.std.specs.Prelude.{ℕ, ◌+◌, ◌/◌, ◌%◌, ◌-◌, List, [], ◌∷◌, ◌++◌, ◌*◌, length, min, replicate, take, drop, zero, suc}
-=======
-use Rattle.std.specs.Prelude.{ℕ, ◌+◌, ◌/◌, ◌%◌, ◌-◌, List, [], ◌∷◌, ◌++◌, min, replicate, zero, suc}
->>>>>>> bfea376ff60963b02de8250abb13ba6df7879229
 
 -- the lengths of the pieces: the first `len % m` are one longer, where m is the smaller of len and n_jobs
 abbrev pub lengths_of : (len m : ℕ) → List ℕ

@@ -1,7 +1,4 @@
-<<<<<<< HEAD
 -- Cutting from the back: the pieces so far, their lengths and numbers, and what is left.
-=======
->>>>>>> bfea376ff60963b02de8250abb13ba6df7879229
 use Rattle.std.proofs.Common.{◌≡◌, ◌≤◌, ◌-◌, ◌++◌, take, drop, vec_len, vec_capacity, map, length, reverse}
 use Rattle.spindle_parts.specs.Pieces.{joined, counted, total}
 use Rattle.spindle_parts.proofs.cut.cut.Given as goal

@@ -1,7 +1,4 @@
-<<<<<<< HEAD
 -- The lengths: one more of the second kind.
-=======
->>>>>>> bfea376ff60963b02de8250abb13ba6df7879229
 use Rattle.std.proofs.Common.{◌≡◌, ℕ, ◌+◌, ◌-◌, ◌≤◌, ◌++◌, ◌∷◌, [], replicate, append_assoc, arith, sym, ap, ◌∙◌}
 use Rattle.std.proofs.lemmas.List.{replicate_more}
 use Rattle.spindle_parts.proofs.cut.piece_lengths.Goals as goal

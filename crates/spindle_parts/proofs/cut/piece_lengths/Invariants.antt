@@ -1,7 +1,4 @@
-<<<<<<< HEAD
 -- The lengths: first the longer ones, then the others.
-=======
->>>>>>> bfea376ff60963b02de8250abb13ba6df7879229
 use Rattle.std.proofs.Common.{◌≡◌, ◌+◌, ◌-◌, ◌++◌, replicate}
 use Rattle.spindle_parts.proofs.cut.piece_lengths.Given as goal
 

@@ -1,7 +1,4 @@
-<<<<<<< HEAD
 -- Putting pieces back: there is room for the last one, and then for the rest.
-=======
->>>>>>> bfea376ff60963b02de8250abb13ba6df7879229
 use Rattle.std.proofs.Common.{◌≡◌, ◌+◌, ◌++◌, length, arith, sym, map, List, ◌∙◌, ap, length-append, reverse, append_assoc}
 use Rattle.spindle_parts.specs.declared.cut.Piece.{Piece}
 use Rattle.spindle_parts.specs.Pieces.{joined}

@@ -1,7 +1,4 @@
-<<<<<<< HEAD
 -- Putting pieces back: what is there and what is to come make the whole.
-=======
->>>>>>> bfea376ff60963b02de8250abb13ba6df7879229
 use Rattle.std.proofs.Common.{◌≡◌, ◌+◌, ◌≤◌, map, vec_len, vec_capacity, ◌++◌, reverse}
 use Rattle.spindle_parts.specs.Pieces.{joined}
 use Rattle.spindle_parts.proofs.cut.put_back.Given as goal
