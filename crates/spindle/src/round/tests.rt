@@ -1,5 +1,5 @@
 //! Rounds played by one thread, with the words of the table beside them.
-ghost use Rattle.std.specs.Prelude.{◌≡◌, ◌<◌, ◌≤◌};
+ghost use Rattle.std.specs.Prelude.{◌≡◌, ◌<◌, ◌≤◌, true};
 ghost use Rattle.std.proofs.Common.{rules};
 ghost use Rattle.spindle.specs.RoundConditions.{IsFreeInside, MayFill, MayClaim, MayBegin, MayFinish, IsItsShare};
 ghost use Rattle.spindle.specs.RoundViews.{Onward, SeesAsBefore, SharesAsBefore};
@@ -7,6 +7,7 @@ ghost use Rattle.spindle.specs.RoundViews.{Onward, SeesAsBefore, SharesAsBefore}
 use crate::lock::{End, Finished, Job, JobCx};
 use crate::round::Round;
 use crate::round::claim::{Claim, Claimed, Share, Steal};
+use crate::round::stopping::PutBack;
 use crate::round_table::Seat;
 use crate::round_table::slots::Bare;
 use std::alloc::Global;
@@ -59,6 +60,7 @@ fn own(alloc: Global, round: &Round<Bare>, seat: &mut Seat<Bare>, t: usize) -> O
     requires free { MayClaim seat.old.me.0 }
     ensures seat { (seat.new.table_id ≡ seat.old.table_id) × (seat.new.id ≡ seat.old.id) }
     ensures free { MayClaim seat.new.me.0 }
+    ensures may { seat.new.me.0.known.may_stop ≡ seat.old.me.0.known.may_stop }
 {
     match round.try_claim_own(seat, t) {
         Claim::Job(claimed) => Some(finish(alloc, round, seat, claimed)),
@@ -81,6 +83,7 @@ fn own_from_to(
     requires free { MayClaim seat.old.me.0 }
     ensures seat { (seat.new.table_id ≡ seat.old.table_id) × (seat.new.id ≡ seat.old.id) }
     ensures free { MayClaim seat.new.me.0 }
+    ensures may { seat.new.me.0.known.may_stop ≡ seat.old.me.0.known.may_stop }
 {
     let mut right = true;
     for number in from..to {
@@ -160,6 +163,48 @@ fn lead(round: &Round<Bare>, seat: &mut Seat<Bare>, jobs: u64)
 {
     round.fill(seat, jobs);
     round.publish(seat, jobs);
+}
+
+/// Fills and publishes a round of n jobs that may stop.
+fn lead_try(round: &Round<Bare>, seat: &mut Seat<Bare>, jobs: u64)
+    requires seated { seat.old.table_id ≡ round.now.init.table.shared.table_id }
+    requires ranges { 0 < round.now.init.threads }
+    requires leads { MayFill seat.old.me.0 }
+    requires free { IsFreeInside seat.old.me.0 }
+    requires counted { (2 ≤ jobs) × (jobs ≤ 4294967295) }
+    ensures seat { (seat.new.table_id ≡ seat.old.table_id) × (seat.new.id ≡ seat.old.id) }
+    ensures free { MayClaim seat.new.me.0 }
+    ensures may { seat.new.me.0.known.may_stop ≡ true }
+{
+    round.fill(seat, jobs);
+    round.publish_try(seat, jobs);
+}
+
+/// Steals, stops the round, and tries to put the share back into the ranges 1 and 0.
+fn steal_and_stop(
+    alloc: Global,
+    round: &Round<Bare>,
+    seat: &mut Seat<Bare>,
+) -> Option<(PutBack, PutBack, bool)>
+    requires seated { seat.old.table_id ≡ round.now.init.table.shared.table_id }
+    requires threads { 1 < round.now.init.threads }
+    requires free { MayClaim seat.old.me.0 }
+    requires may { seat.old.me.0.known.may_stop ≡ true }
+    ensures { (seat.new.table_id ≡ seat.old.table_id) × (seat.new.id ≡ seat.old.id) }
+{
+    match round.try_steal(seat) {
+        Steal::Job(claimed, mut share) => {
+            round.stop(seat, &claimed);
+            finish(alloc, round, seat, claimed);
+            let first = round.put_back(seat, 1, &mut share);
+            let second = round.put_back(seat, 0, &mut share);
+            share.empty();
+            share.done();
+            Some((first, second, round.stopped(seat)))
+        }
+        Steal::Nothing => None,
+        Steal::Again => None,
+    }
 }
 
 /// The words of the ranges and the remainder.
@@ -257,6 +302,28 @@ fn a_thief_takes_from_the_longest_range(rt: HostRuntime) -> Result<(), Fail> {
     assert_eq!(rt; word(&round, 56), 0x0000000600000004);
     assert_eq!(rt; steal(alloc, &round, seat), Some((5, 0)));
     assert_eq!(rt; word(&round, 56), 0x0000000500000004);
+    Ok(())
+}
+
+#[test]
+fn a_share_goes_back_into_an_empty_range(rt: HostRuntime) -> Result<(), Fail> {
+    let (round, seat) = Round::new(rt.alloc(), 2)?;
+    let Ok(mut leader) = round.init().try_join(seat, 0) else {
+        return Err(Fail::new("the join was refused"));
+    };
+    let seat = leader.seat();
+    lead_try(&round, seat, 8);
+    assert_eq!(rt; word(&round, 8), 8 + 4294967296);
+    let alloc = rt.alloc();
+    assert!(rt; own_from_to(alloc, &round, seat, 0, 0, 4));
+    assert_eq!(rt;
+        steal_and_stop(alloc, &round, seat),
+        Some((PutBack::Occupied, PutBack::Put, true))
+    );
+    assert_eq!(rt; word(&round, 24), 1);
+    assert_eq!(rt; round.left(seat, 0), 0x0000000800000007);
+    assert_eq!(rt; round.left(seat, 1), 0x0000000600000004);
+    assert_eq!(rt; round.left(seat, 2), 0);
     Ok(())
 }
 
