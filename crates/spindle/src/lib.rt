@@ -7,7 +7,6 @@ pub mod lists;
 pub mod lock;
 pub mod round;
 pub mod round_table;
-
 #[cfg(test)]
 mod tests;
 
@@ -15,12 +14,8 @@ pub use lists::SharedList;
 pub use lists::run::ListRun;
 pub use lists::same::EqualIsSame;
 pub use lock::with_lock;
-pub use spindle_parts::aarc_imp;
-pub use spindle_parts::cut;
 pub use spindle_parts::fault::Fault;
-pub use spindle_parts::numbers;
-pub use spindle_parts::requests;
-pub use spindle_parts::steps;
+pub use spindle_parts::{aarc_imp, cut, numbers, requests, steps};
 
 /// How many pauses an idle party makes before it sleeps, where a user has no wish of his own.
 pub const DEFAULT_SPIN_LIMIT: u32 = 65536;

@@ -4,8 +4,7 @@ ghost use Rattle.spindle.specs.RoundAnswers.{FinishedBy};
 ghost use Rattle.spindle.specs.RoundSteps.{finishing};
 ghost use Rattle.spindle.specs.RoundConditions.{MayFinish, MayGive};
 
-use crate::lock::Finished;
-use crate::lock::Job;
+use crate::lock::{Finished, Job};
 use crate::round::Round;
 use crate::round::claim::Claimed;
 use crate::round_table::plays::Finishes;
