@@ -1,4 +1,5 @@
-//! The steps that close a round: the arrivals, of which the last makes the closer, and what the closer does.
+//! The steps of those who have arrived: the last arrival makes the closer, who waits may leave, and
+//! the closer ends the round.
 ghost use Rattle.std.specs.Prelude.{◌≡◌, true, false, not, ◌==◌, if◌then◌else◌, [], Some, None};
 ghost use Rattle.std.specs.Prelude.{vec_capacity};
 ghost use Rattle.spindle_parts.specs.Registers.{shown, IsReached, IsTidy};
@@ -28,6 +29,26 @@ impl Registers {
         set_sense(&mut self.entries, party, Some(!self.sense));
         self.inside -= 1;
         self.close(party);
+        Ok(())
+    }
+
+    pub fn leave(&mut self, party: u32) -> Result<(), Why>
+        requires reached { IsReached (shown self.old) }
+        requires tidy { IsTidy self.old }
+        ensures served { Serves (shown self.old) true (Step.Leave party) (shown self.new) result }
+        ensures tidy { IsTidy self.new }
+    {
+        if !self.is_waiting(party) {
+            return Err(Why::NotWaiting);
+        }
+        if self.closer.is_some() {
+            return Err(Why::Closing);
+        }
+        if self.must_stay(party) {
+            return Err(Why::Leader);
+        }
+        set_sense(&mut self.entries, party, None);
+        self.members -= 1;
         Ok(())
     }
 

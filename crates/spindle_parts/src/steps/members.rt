@@ -1,4 +1,4 @@
-//! The steps by which parties come and go.
+//! The steps by which a party comes, and by which it goes without waiting for the round's end.
 ghost use Rattle.std.specs.Prelude.{◌≡◌, ◌==◌, ◌&&◌, true, is_some};
 ghost use Rattle.spindle_parts.specs.Registers.{shown, IsReached, IsTidy};
 ghost use Rattle.spindle_parts.specs.Serving.{Serves, granted_by};
@@ -35,26 +35,6 @@ impl Registers {
         Ok(())
     }
 
-    pub fn leave(&mut self, party: u32) -> Result<(), Why>
-        requires reached { IsReached (shown self.old) }
-        requires tidy { IsTidy self.old }
-        ensures served { Serves (shown self.old) true (Step.Leave party) (shown self.new) result }
-        ensures tidy { IsTidy self.new }
-    {
-        if !self.is_waiting(party) {
-            return Err(Why::NotWaiting);
-        }
-        if self.closer.is_some() {
-            return Err(Why::Closing);
-        }
-        if self.must_stay(party) {
-            return Err(Why::Leader);
-        }
-        set_sense(&mut self.entries, party, None);
-        self.members -= 1;
-        Ok(())
-    }
-
     pub fn exit(&mut self, party: u32) -> Result<(), Why>
         requires reached { IsReached (shown self.old) }
         requires tidy { IsTidy self.old }
@@ -82,7 +62,7 @@ impl Registers {
     }
 
     /// The leader of a published round stays.
-    fn must_stay(&self, party: u32) -> bool
+    pub fn must_stay(&self, party: u32) -> bool
         ensures { result ≡ ((party == 0) && is_some self.now.published) }
     {
         party == 0 && self.published.is_some()
