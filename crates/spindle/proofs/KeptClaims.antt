@@ -78,10 +78,10 @@ module _ {X N : Type 0} (D : Discipline X N) (law : Lawful D) (t slots id : ℕ)
 abbrev pub only : ℕ → ℕ → Bool
 only k j = j == k
 
-one_of : (k j : ℕ) → only k j ≡ true → j ≡ k
+pub one_of : (k j : ℕ) → only k j ≡ true → j ≡ k
 one_of k j e = dite (ℕ_discrete j k) (λ z. z) (λ n. let a = ne_eqb j k n in absurd cc)
 
-other_than : (k j : ℕ) → only k j ≡ false → j ≢ k
+pub other_than : (k j : ℕ) → only k j ≡ false → j ≢ k
 other_than k j e z = let a = eq-eqb j k z in absurd cc
 
 front : (t n i old from to : ℕ) → i < t → old < 18446744073709551616 → old % 4294967296 < old / 4294967296 → to ≤ from → Taking t n (40 + 8 * i) old (old + 1) (old % 4294967296) from to (only (old % 4294967296))

@@ -13,7 +13,7 @@ use Rattle.spindle_parts.proofs.Soundness.{Sound, sound, no_closer}
 use Rattle.spindle.specs.declared.round_table.view.View.{View}
 use Rattle.spindle.specs.RoundSlots.{Discipline, Lawful}
 use Rattle.spindle.specs.RoundRule.{number_of, Stands, Knows, Counters, InRange, InRest, home_of, IsListed, IsEmptied}
-use Rattle.spindle.specs.RoundSteps.{loaded, loading, learned, learning, searched, searching, reading, list_empty, rest_read, reading_rest}
+use Rattle.spindle.specs.RoundSteps.{loaded, loading, learned, learning, searched, searching, reading, list_empty, rest_read, reading_rest, recalled}
 use Rattle.spindle.proofs.RoundMoves.{Rule, SeatOf, turns, stays, noted_shows, untrue}
 use Rattle.spindle.proofs.RoundWords.{by_less, by_equal, word_fields}
 
@@ -55,6 +55,11 @@ listed (Some m) n i false l P e here old j h = old j h
 unlisted : (o : Option ℕ) (i : ℕ) (b : Bool) (l : List ℕ) → o ≡ None → l ≡ [] → list_empty o b i l ≡ []
 unlisted None i b l e z = z
 unlisted (Some n) i b l e z = absurd cc
+
+-- the number in a published word
+low_half : (b : Bool) (n : ℕ) → n ≤ 4294967295 → number_of (Some n) b % 4294967296 ≡ n
+low_half true n few = omega arith
+low_half false n few = omega arith
 
 module _ {X N : Type 0} (D : Discipline X N) (law : Lawful D) (t : ℕ) where
   -- the barrier word is read
@@ -136,7 +141,27 @@ module _ {X N : Type 0} (D : Discipline X N) (law : Lawful D) (t : ℕ) where
       (λ n shown e. range_emptied t (state r.run) s.words n i low (c n shown) (by_less (x % 4294967296) (x / 4294967296) (λ b. (if b then false else true) ≡ true → x / 4294967296 ≤ x % 4294967296) (λ _ z. absurd cc) (λ le _. le) e)) in
       (searching i x me.0, keeps, tt, a, (refl, λ j same. let ij : i ≡ j = omega arith in ap (λ (z : ℕ). searching z x me.0) ij))
 
-  -- the remainder is read
+  -- the remainder is read, which is no more than the number
   pub rest_reads : (slots id : ℕ) (me : SeatOf D t) → Allows (Rule D t) slots id me 32 (λ x. x) (rest_read (step slots 32 0 0 none) me)
-  rest_reads slots id me = turns D law t slots id me 32 (λ x. x) reading_rest (step slots 32 0 0 none) (λ s b. let r = b.rule in let x : ℕ = get_or s.words 32 0 in reads id me 32 me.0.threads (x == 0) s r b.at
-      (λ n shown e. subst (λ (a : ℕ). IsEmptied t n (state r.run) a) (sym (r.seats id me.0 b.at).2) (rest_emptied t (state r.run) s.words n (r.words.counters n shown) (by_equal x 0 (λ b. b ≡ true → x ≡ 0) (λ z _. z) (λ _ z. absurd cc) e))))
+  rest_reads slots id me s r _ at _ = let x : ℕ = get_or s.words 32 0 in let seat = r.seats id me.0 at in (
+    reading_rest x me.0,
+    keeps,
+    tt,
+    reads id me 32 me.0.threads (x == 0) s r at
+        (λ n shown e. subst (λ (a : ℕ). IsEmptied t n (state r.run) a) (sym seat.2) (rest_emptied t (state r.run) s.words n (r.words.counters n shown) (by_equal x 0 (λ b. b ≡ true → x ≡ 0) (λ z _. z) (λ _ z. absurd cc) e))),
+    (refl, refl, λ q n inside_q known. let c = r.words.counters n ((seat.0.inside q inside_q).number n known).0 in let few = c.few in let e = div-add-mod' n t in omega arith),
+  )
+
+  -- the published word is read by a member that knows the number
+  pub recalls : (slots id : ℕ) (me : SeatOf D t) → Allows (Rule D t) slots id me 8 (λ x. x) (recalled (step slots 8 0 0 none) me)
+  recalls slots id me s r _ at _ = let x : ℕ = get_or s.words 8 0 in let S : State = state r.run in let seat = r.seats id me.0 at in (
+    loading 8 x me.0,
+    keeps,
+    tt,
+    stays D law t s r 8 id me (loading 8 x me.0) at (refl, refl, refl) (noted_shows S id me.0 _ seat.0) refl refl (inr refl) refl,
+    (
+      refl,
+      λ q n inside_q known. let k = (seat.0.inside q inside_q).number n known in let is : x ≡ number_of (Some n) me.0.known.may_stop = r.words.published ∙ (λ i. number_of (k.0 i) (k.1 i)) in
+          let few = ((sound r.run r.is_run).gate.shown n k.0).2 in let low = low_half me.0.known.may_stop n few in (ap (λ (z : ℕ). loading 8 z me.0) is, ap (λ (z : ℕ). z % 4294967296) is ∙ low),
+    ),
+  )

@@ -28,7 +28,7 @@ pub untrue : (b : Bool) → (b ≡ true → ⊥) → b ≡ false
 untrue true n = absurd (n refl)
 untrue false n = refl
 
-some_of : (o : Option ℕ) → o ≢ None → (n : ℕ) × (o ≡ Some n)
+pub some_of : (o : Option ℕ) → o ≢ None → (n : ℕ) × (o ≡ Some n)
 some_of None n = absurd (n refl)
 some_of (Some k) n = (k, refl)
 

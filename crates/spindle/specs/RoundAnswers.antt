@@ -1,6 +1,6 @@
 -- What each answer of a round table's calls says of the values that were found in the call.
-use Rattle.std.specs.Prelude.{◌≡◌, ◌≢◌, ◌⊎◌, ℕ, ◌+◌, ◌-◌, ◌*◌, ◌%◌, ◌<◌, ◌≤◌, Bool, List, [], ◌∷◌, ◌++◌, length, slice_index, Option, Some, None}
-use Rattle.atomic_table.specs.Table.{Me}
+use Rattle.std.specs.Prelude.{◌≡◌, ◌≢◌, ◌⊎◌, ℕ, ◌+◌, ◌-◌, ◌*◌, ◌%◌, ◌<◌, ◌≤◌, Bool, if◌then◌else◌, List, [], ◌∷◌, ◌++◌, length, slice_index, Option, Some, None}
+use Rattle.atomic_table.specs.Table.{Me, carried_after}
 use Rattle.atomic_table.specs.declared.shared.Seat.{Seat}
 use Rattle.spindle.specs.declared.round_table.view.View.{View}
 use Rattle.spindle.specs.declared.barrier.JoinRefused.{JoinRefused}
@@ -23,9 +23,10 @@ use Rattle.spindle.specs.declared.round.stopping.PutBack.TheVariants as back
 use Rattle.spindle.specs.declared.round.claim.Claim.TheVariants as claim
 use Rattle.spindle.specs.declared.round_table.view.Kind.{Kind}
 use Rattle.spindle_parts.specs.declared.trail.Trace.{Trace}
+use Rattle.spindle.specs.Spans.{Span}
 use Rattle.spindle.specs.RoundSlots.{Discipline}
 use Rattle.spindle.specs.RoundRule.{stored_at, fill_value, deeds_of}
-use Rattle.spindle.specs.RoundSteps.{loading, missing, joining, arriving, looking, leaving, exiting, closing_read, ending, turned_word, claiming, searching, stealing, stolen_from, length_of, resting, reading_rest, putting, count_of, most_of, sense_of, start_of, end_of}
+use Rattle.spindle.specs.RoundSteps.{loading, missing, joining, arriving, looking, leaving, exiting, closing_read, ending, turned_word, claiming, searching, stealing, stolen_from, length_of, resting, reading_rest, recalling, sharing, range_word, finishing, seeing, putting, count_of, most_of, sense_of, start_of, end_of}
 
 -- of the words for n jobs the first j stand, and nothing has changed but what the leader has stored and the trail
 abbrev pub FilledUpTo : {N : Type 0} → ℕ → ℕ → ℕ → View N → View N → Type 0
@@ -46,7 +47,15 @@ abbrev pub IsLongest : List ℕ → ℕ → Type 0
 IsLongest found i = (i < length found) × (0 < length_of (slice_index found i)) × ((j : ℕ) → j < length found → length_of (slice_index found j) ≤ length_of (slice_index found i))
     × ((j : ℕ) → j < i → length_of (slice_index found j) < length_of (slice_index found i))
 
+-- of the ranges that were found, the place and the value of the longest, and of none where all are empty
+abbrev pub IsBest : List ℕ → ℕ → ℕ → Type 0
+IsBest found i range = (0 < length_of range → IsLongest found i × (slice_index found i ≡ range)) × (length_of range ≡ 0 → (j : ℕ) → j < length found → length_of (slice_index found j) ≡ 0)
+
 module _ {S N : Type 0} where
+  -- all ranges are read, and the longest is known
+  abbrev pub ReadAll : ℕ → ℕ → ℕ → Me S (View N) → Me S (View N) → Type 0
+  ReadAll t i range m w = (found : List ℕ) × (length found ≡ t) × (w ≡ (searching_all 0 found m.0, m.1)) × IsBest found i range
+
   -- a join: the members were at their most; else none of them was in; else the exchange found what the load before it found
   abbrev pub JoinedBy : JoinStep → Me S (View N) → Me S (View N) → Type 0
   JoinedBy Full m w = (n : ℕ) × (w ≡ (loading 0 n m.0, m.1)) × (most_of n ≡ 32767)
@@ -89,28 +98,41 @@ module _ {S N : Type 0} where
 
   -- a claim on the range i
   abbrev pub OwnClaimed : Discipline S N → ℕ → Claim → Me S (View N) → Me S (View N) → Type 0
-  OwnClaimed D i (claim.Job c) m w = (n : ℕ) × (x : Option N) × (w.0 ≡ claiming (40 + 8 * i) n x (searching i n m.0)) × D.took c.number m.1 x w.1 × (c.number ≡ start_of n) × (start_of n < end_of n)
+  OwnClaimed D i (claim.Job c) m w = (n : ℕ) × (x : Option N) × (w.0 ≡ claiming (40 + 8 * i) n x (searching i n m.0)) × D.took c m.1 x w.1 × (c ≡ start_of n) × (start_of n < end_of n)
   OwnClaimed D i claim.Nothing m w = (n : ℕ) × (w ≡ (searching i n m.0, m.1)) × (end_of n ≤ start_of n)
   OwnClaimed D i claim.Again m w = (n found : ℕ) × (w ≡ (missing (40 + 8 * i) found (searching i n m.0), m.1)) × (found ≢ n)
 
   abbrev pub StolenBy : Discipline S N → ℕ → Steal → Me S (View N) → Me S (View N) → Type 0
   StolenBy D t (steal.Job c s) m w = (found : List ℕ) × (i : ℕ) × (x : Option N) × (length found ≡ t) × IsLongest found i × (w.0 ≡ stealing (40 + 8 * i) (slice_index found i) x (searching_all 0 found m.0))
-      × D.took c.number m.1 x w.1 × (c.number ≡ stolen_from (slice_index found i)) × (s.from ≡ c.number + 1) × (s.to ≡ end_of (slice_index found i))
+      × D.took c m.1 x w.1 × (c ≡ stolen_from (slice_index found i)) × (s.from ≡ c + 1) × (s.to ≡ end_of (slice_index found i))
   StolenBy D t steal.Nothing m w = (found : List ℕ) × (length found ≡ t) × ((i : ℕ) → i < t → end_of (slice_index found i) ≤ start_of (slice_index found i)) × (w ≡ (searching_all 0 found m.0, m.1))
   StolenBy D t steal.Again m w = (found : List ℕ) × (i other : ℕ) × (length found ≡ t) × IsLongest found i × (w ≡ (missing (40 + 8 * i) other (searching_all 0 found m.0), m.1)) × (other ≢ slice_index found i)
 
-  -- a claim on the remainder of n jobs
+  -- a claim on the remainder of n jobs: the remainder is read, then the number, and then the exchange
   abbrev pub RestClaimed : Discipline S N → ℕ → Claim → Me S (View N) → Me S (View N) → Type 0
-  RestClaimed D n (claim.Job c) m w = (v : ℕ) × (x : Option N) × (w.0 ≡ resting n v x (reading_rest v m.0)) × D.took c.number m.1 x w.1 × (c.number ≡ n - v) × (0 < v)
+  RestClaimed D n (claim.Job c) m w = (v : ℕ) × (x : Option N) × (w.0 ≡ resting n v x (recalling n (reading_rest v m.0))) × D.took c m.1 x w.1 × (c ≡ n - v) × (0 < v)
   RestClaimed D n claim.Nothing m w = (v : ℕ) × (w ≡ (reading_rest v m.0, m.1)) × (v ≡ 0)
-  RestClaimed D n claim.Again m w = (v found : ℕ) × (w ≡ (missing 32 found (reading_rest v m.0), m.1)) × (found ≢ v)
+  RestClaimed D n claim.Again m w = (v found : ℕ) × (w ≡ (missing 32 found (recalling n (reading_rest v m.0)), m.1)) × (found ≢ v)
+
+  -- the share's first number begins, where there is one; it is stored in the word of thread i's share
+  abbrev pub SharedBy : Discipline S N → ℕ → Span → Option ℕ → Span → Me S (View N) → Me S (View N) → Type 0
+  SharedBy D i share (Some k) left m w = (x : Option N) × (w.0 ≡ sharing (40 + 8 * i) (range_word (k + 1) share.to) x m.0) × D.took k m.1 x w.1 × (k ≡ share.from) × (share.from < share.to) × (left.from ≡ k + 1) × (left.to ≡ share.to)
+  SharedBy D i share None left m w = (w ≡ m) × (left ≡ share) × (share.from ≡ share.to)
+
+  -- a finish: one more is counted, and the claim's slot goes back
+  abbrev pub FinishedBy : Discipline S N → Me S (View N) → Me S (View N) → Type 0
+  FinishedBy D m w = (found : ℕ) × (w ≡ (finishing found m.0, carried_after m.1 D.gives))
+
+  -- the word `stopped` says whether the round was stopped
+  abbrev pub SeenBy : Bool → Me S (View N) → Me S (View N) → Type 0
+  SeenBy stopped m w = w ≡ (seeing (if stopped then 1 else 0) m.0, m.1)
 
   -- what is left in the place i: a range, or the remainder
   abbrev pub LeftOver : ℕ → ℕ → ℕ → Me S (View N) → Me S (View N) → Type 0
   LeftOver t i found m w = (i < t → w ≡ (searching i found m.0, m.1)) × (i ≡ t → w ≡ (reading_rest found m.0, m.1))
 
   -- a share goes back into the range i
-  abbrev pub PutBy : ℕ → PutBack → Me S (View N) → Me S (View N) → Type 0
-  PutBy i back.Put m w = (n : ℕ) × (w ≡ (putting (40 + 8 * i) n (searching i n m.0), m.1)) × (end_of n ≤ start_of n)
-  PutBy i back.Occupied m w = (n : ℕ) × (w ≡ (searching i n m.0, m.1)) × (start_of n < end_of n)
-  PutBy i back.Again m w = (n found : ℕ) × (w ≡ (missing (40 + 8 * i) found (searching i n m.0), m.1)) × (found ≢ n)
+  abbrev pub PutBy : ℕ → PutBack → Span → Span → Me S (View N) → Me S (View N) → Type 0
+  PutBy i back.Put share left m w = (n : ℕ) × (w ≡ (putting (40 + 8 * i) n (searching i n m.0), m.1)) × (end_of n ≤ start_of n) × (left.from ≡ share.to) × (left.to ≡ share.to)
+  PutBy i back.Occupied share left m w = (n : ℕ) × (w ≡ (searching i n m.0, m.1)) × (start_of n < end_of n) × (left ≡ share)
+  PutBy i back.Again share left m w = (n found : ℕ) × (w ≡ (missing (40 + 8 * i) found (searching i n m.0), m.1)) × (found ≢ n) × (left ≡ share)

@@ -1,8 +1,10 @@
 -- What a call on a round table asks of its seat.
 use Rattle.std.specs.Prelude.{◌≡◌, ◌⊎◌, ℕ, ◌+◌, ◌%◌, ◌≤◌, Bool, true, false, Option, Some, None}
+use Rattle.atomic_table.specs.Table.{Me}
 use Rattle.spindle.specs.declared.round_table.view.Standing.{Standing}
 use Rattle.spindle.specs.declared.round_table.view.Standing.TheVariants.{Away, Inside, Waiting, Closing}
 use Rattle.spindle.specs.declared.round_table.view.View.{View}
+use Rattle.spindle.specs.Spans.{Span}
 use Rattle.spindle.specs.RoundSlots.{Discipline}
 use Rattle.spindle.specs.RoundRule.{IsListed, IsFilled}
 
@@ -32,6 +34,38 @@ HasSense Away b = Unit {0}
 HasSense (Inside q) b = b ≡ q % 2
 HasSense (Waiting q quiet) b = b ≡ (q + 1) % 2
 HasSense (Closing q member was at) b = b ≡ (q + 1) % 2
+
+-- a member that hasn't arrived, has nothing to finish, and hasn't seen the stop: it may begin the next number of its share
+abbrev pub MayBegin : {N : Type 0} → View N → Type 0
+MayBegin v = ((q : ℕ) × (v.standing ≡ Inside q)) × (v.claim ≡ None) × (v.known.seen_stop ≡ false)
+
+-- the numbers are those of the seat's share
+abbrev pub IsItsShare : {N : Type 0} → Span → View N → Type 0
+IsItsShare share v = (share.from ≡ v.from) × (share.to ≡ v.to)
+
+-- it has begun the number k, and may finish it
+abbrev pub MayFinish : {N : Type 0} → ℕ → View N → Type 0
+MayFinish k v = ((q : ℕ) × (v.standing ≡ Inside q)) × (v.claim ≡ Some k)
+
+-- the slot of the claim k may go back
+abbrev pub MayGive : {S N : Type 0} → Discipline S N → ℕ → Me S (View N) → Type 0
+MayGive D k m = D.may_give k m.0.note m.1
+
+-- and the round may stop, as it knows
+abbrev pub MayStop : {N : Type 0} → ℕ → View N → Type 0
+MayStop k v = MayFinish k v × ((n : ℕ) × (v.known.number ≡ Some n)) × (v.known.may_stop ≡ true)
+
+-- a member that hasn't arrived and knows the number published: it may look whether the round was stopped
+abbrev pub MaySee : {N : Type 0} → View N → Type 0
+MaySee v = ((q : ℕ) × (v.standing ≡ Inside q)) × ((n : ℕ) × (v.known.number ≡ Some n))
+
+-- it has seen the stop, and has nothing to finish: it may put its share back
+abbrev pub MayPutBack : {N : Type 0} → View N → Type 0
+MayPutBack v = ((q : ℕ) × (v.standing ≡ Inside q)) × (v.claim ≡ None) × (v.known.seen_stop ≡ true)
+
+-- it may arrive
+abbrev pub MayArrive : {N : Type 0} → View N → Type 0
+MayArrive v = IsFreeInside v × IsDone v
 
 -- whether the party is a member, as it keeps it for the round's end
 abbrev pub HasPart : Standing → Bool → Type 0

@@ -1,5 +1,5 @@
 -- What each kind of step on a round table tells its seat.
-use Rattle.std.specs.Prelude.{◌≡◌, ◌≢◌, ◌⊎◌, ℕ, ◌+◌, ◌-◌, ◌*◌, ◌/◌, ◌%◌, ◌<◌, ◌≤◌, Bool, true, false, List, [], ◌∷◌, Option, Some, None, if◌then◌else◌, ◌==◌, ◌&&◌, nat_lt}
+use Rattle.std.specs.Prelude.{◌≡◌, ◌≢◌, ℕ, ◌+◌, ◌-◌, ◌*◌, ◌/◌, ◌%◌, ◌<◌, ◌≤◌, Bool, true, false, List, [], ◌∷◌, Option, Some, None, if◌then◌else◌, ◌==◌, ◌&&◌, nat_lt}
 use Rattle.atomic_table.specs.Table.{Me, Step, carried_after}
 use Rattle.spindle_parts.specs.declared.trail.Trace.{Trace}
 use Rattle.spindle_parts.specs.Trail.{trace}
@@ -222,8 +222,17 @@ searched st m found m' = (m'.1 ≡ m.1) × ((i : ℕ) → st.word ≡ 40 + 8 * i
 abbrev pub reading_rest : {N : Type 0} → ℕ → View N → View N
 reading_rest found v = reading 32 v.threads (found == 0) found v
 
+-- who knows the number finds no more than that
 abbrev pub rest_read : {S N : Type 0} → Step S → Me S (View N) → ℕ → Me S (View N) → Type 0
-rest_read = Turns reading_rest
+rest_read st m found m' = (m'.1 ≡ m.1) × (m'.0 ≡ reading_rest found m.0) × ((q n : ℕ) → m.0.standing ≡ Inside q → m.0.known.number ≡ Some n → found ≤ n)
+
+-- the published word is read by a member that knows the number
+abbrev pub recalling : {N : Type 0} → ℕ → View N → View N
+recalling n v = loading 8 (number_of (Some n) v.known.may_stop) v
+
+-- and finds it again
+abbrev pub recalled : {S N : Type 0} → Step S → Me S (View N) → ℕ → Me S (View N) → Type 0
+recalled st m found m' = (m'.1 ≡ m.1) × ((q n : ℕ) → m.0.standing ≡ Inside q → m.0.known.number ≡ Some n → (m'.0 ≡ recalling n m.0) × (found % 4294967296 ≡ n))
 
 -- the number k begins, by an exchange at the word i
 abbrev pub beginning : {N : Type 0} → ℕ → ℕ → ℕ → ℕ → Option N → View N → View N

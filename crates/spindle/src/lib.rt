@@ -3,8 +3,22 @@
 #![tactic(auto)]
 
 pub mod barrier;
+pub mod lists;
 pub mod lock;
 pub mod round;
 pub mod round_table;
 #[cfg(test)]
 mod tests;
+
+pub use lists::SharedList;
+pub use lists::run::ListRun;
+pub use lists::same::EqualIsSame;
+pub use lock::with_lock;
+pub use spindle_parts::fault::Fault;
+pub use spindle_parts::{aarc_imp, cut, numbers, requests, steps};
+
+/// How many pauses an idle party makes before it sleeps, where a user has no wish of his own.
+pub const DEFAULT_SPIN_LIMIT: u32 = 65536;
+
+/// How many of these pauses make one turn, after which an idle party looks again.
+pub const DEFAULT_PAUSE_LIMIT: u32 = 8;

@@ -10,8 +10,15 @@ use std::alloc::Global;
 
 pub mod claim;
 pub mod claiming;
+pub mod finishing;
 pub mod publishing;
+pub mod stealing;
 pub mod stopping;
+#[cfg(test)]
+mod tests;
+
+/// Where the end of a range starts, and the bit of a published word that says that the round may stop.
+const HIGH: u64 = 4294967296;
 
 /// The rounds of a table, with the barrier that ends them.
 #[derive(Drop)]

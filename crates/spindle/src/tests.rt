@@ -3,7 +3,7 @@
 use crate::barrier::JoinRefused;
 use crate::barrier::steps::Arrival;
 use crate::round::Round;
-use crate::round::claim::{Claim, Claimed};
+use crate::round::claim::Claim;
 use std::test::Fail;
 
 #[test]
@@ -16,7 +16,10 @@ fn a_published_round_is_claimed_from_the_front_of_a_range(rt: HostRuntime) -> Re
     round.publish(leader.seat(), 10);
     assert_eq!(rt; round.published(leader.seat()), 10);
     match round.try_claim_own(leader.seat(), 1) {
-        Claim::Job(Claimed { number }) => assert_eq!(rt; number, 2),
+        Claim::Job(claimed) => {
+            assert_eq!(rt; claimed.number(), 2);
+            claimed.spend();
+        }
         Claim::Nothing => assert!(rt; false),
         Claim::Again => assert!(rt; false),
     }

@@ -1,10 +1,10 @@
 -- What an event of one party leaves of another.
-use Rattle.std.proofs.Common.{◌≡◌, ◌≢◌, ◌⊎◌, inl, inr, ⊎_elim, ℕ, zero, suc, ◌+◌, ◌*◌, ◌<◌, ◌≤◌, Bool, true, false, ◌||◌, eqb, eq-eqb, ne_eqb, List, [], ◌∷◌, ◌++◌, sym, refl, ap, ◌∙◌, subst, arith, Option, Some, None, if◌then◌else◌, ◌==◌}
+use Rattle.std.proofs.Common.{◌≡◌, ◌≢◌, ◌⊎◌, inl, inr, ⊎_elim, ℕ, suc, ◌+◌, ◌<◌, ◌≤◌, Bool, true, false, ◌||◌, eq-eqb, ne_eqb, List, [], ◌∷◌, ◌++◌, sym, refl, ap, ◌∙◌, subst, arith, Option, Some, None, if◌then◌else◌, ◌==◌}
 use mathlib.Core.Logic.{dite}
 use native.Mathlib.Decide.{ℕ_discrete}
-use Rattle.spindle_parts.specs.State.{Status, Out, In, Arrived, Party, Round, State, put, absent, no_set, party_of, put_party, times, is_in, is_member, weight_in, weight_member, inside, members, waking, wake, now, party, change, change_round, Free}
+use Rattle.spindle_parts.specs.State.{Status, Out, In, Arrived, Party, Round, State, put, no_set, party_of, put_party, times, weight_member, inside, members, waking, now, party, Free}
 use Rattle.spindle_parts.specs.Steps.{with_status, Allowed, after, arrived, left, publish, ended_by, by, Event, Join, Publish, PublishTry, Take, Begin, Finish, Stop, See, PutBack, Arrive, Leave, Exit, Clear, End}
-use Rattle.spindle_parts.proofs.Parties.{put_here, put_else, put_all, put_again, look_here, look_else, total_put, total_at, look_wake, times_same, times_snoc}
+use Rattle.spindle_parts.proofs.Parties.{put_here, put_else, look_here, look_else, total_at, look_wake, times_same, times_snoc}
 use Rattle.spindle_parts.proofs.Soundness.{Sound, no_closer, closers, none_in, out_of, alone_hidden}
 
 -- what is free afterwards was free

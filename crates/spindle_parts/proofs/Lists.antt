@@ -1,8 +1,8 @@
-use Rattle.std.proofs.Common.{◌≡◌, ℕ, ◌+◌, ◌<◌, List, [], ◌∷◌, ◌++◌, length, take, drop, get_or, map, refl, ap, sym, ◌∙◌, subst, append_assoc, zero-add, add_assoc, replicate, ◌*◌, ◌-◌, ◌/◌, ◌%◌, ◌≤◌, zero, suc, arith, add-zero, add-one}
+-- Lists: one more at the end, reversing, sums, and the lengths of pieces.
+use Rattle.std.proofs.Common.{◌≡◌, ℕ, ◌+◌, ◌<◌, List, [], ◌∷◌, ◌++◌, length, take, drop, get_or, map, refl, ap, sym, ◌∙◌, append_assoc, zero-add, add_assoc, replicate, ◌*◌, ◌-◌, ◌/◌, ◌%◌, ◌≤◌, zero, suc, arith, add-zero, add-one}
 use Rattle.std.proofs.lemmas.List.{reverse-append, map-append}
 use Rattle.std.proofs.Common.{reverse}
-use Rattle.std.proofs.lemmas.List.{take_more, append-nil}
-use Rattle.std.proofs.Math.Seq.{drop-cons}
+use Rattle.std.proofs.lemmas.List.{take_more, drop_more, length-drop, append-nil}
 use Rattle.std.specs.List.{AllZip}
 use Rattle.spindle_parts.specs.Pieces.{joined, counted, total, lengths_of}
 
@@ -29,16 +29,6 @@ joined_snoc (a ∷ xs) x = ap (λ t. a ++ t) (joined_snoc xs x) ∙ sym (append_
 pub map_snoc : {A B : Type 0} (f : A → B) (xs : List A) (x : A) → map f (xs ++ x ∷ []) ≡ map f xs ++ f x ∷ []
 map_snoc f [] x = refl
 map_snoc f (a ∷ xs) x = ap (λ t. f a ∷ t) (map_snoc f xs x)
-
--- one more place, where the first list is walked by an index
-pub all_zip_next : {A B : Type 0} (R : A → B → Type 0) (xs : List A) (ys : List B) (i : ℕ) (x : A) (y : B) → i < length xs → x ≡ get_or xs i x → AllZip R (take i xs) ys → R x y → AllZip R (take (i + 1) xs) (ys ++ y ∷ [])
-all_zip_next R xs ys i x y h e z r =
-    rw (take_more xs i x h) (rw (← e) (all_zip_snoc R (take i xs) ys x y z r))
-
--- one more place, where the second list is walked by an index
-pub all_zip_grown : {A : Type 0} (R : A → ℕ → Type 0) (xs : List A) (ys : List ℕ) (i : ℕ) (x : A) → i < length ys → AllZip R xs (take i ys) → R x (get_or ys i 0) → AllZip R (xs ++ x ∷ []) (take (i + 1) ys)
-all_zip_grown R xs ys i x h z r =
-    rw (take_more ys i 0 h) (all_zip_snoc R xs (take i ys) x (get_or ys i 0) z r)
 
 -- the sum of two lists joined
 total-append : (xs ys : List ℕ) → total (xs ++ ys) ≡ total xs + total ys
@@ -67,7 +57,7 @@ total-lengths len m h =
     rw (e, a, b) (sums len m (len / m) (len % m) (omega arith) (omega arith))
 
 -- one more number
-counted_suc : (from n : ℕ) → counted from (suc n) ≡ counted from n ++ (from + n) ∷ []
+pub counted_suc : (from n : ℕ) → counted from (suc n) ≡ counted from n ++ (from + n) ∷ []
 counted_suc from zero = rw add-zero refl
 counted_suc from (suc n) =
     let e : from + suc n ≡ from + 1 + n = omega arith in
@@ -76,37 +66,34 @@ counted_suc from (suc n) =
 pub counted_snoc : (from n : ℕ) → counted from (n + 1) ≡ counted from n ++ (from + n) ∷ []
 counted_snoc from n = rw (add-one n) (counted_suc from n)
 
--- the head of two lists that agree, where the second is walked by an index
-pub all_zip_first : {A : Type 0} (R : A → ℕ → Type 0) (x : A) (xs : List A) (ys : List ℕ) (i : ℕ) → i < length ys → AllZip R (x ∷ xs) (drop i ys) → R x (get_or ys i 0) × AllZip R xs (drop (i + 1) ys)
-all_zip_first R x xs ys i h z =
-    rw add-one (rw (drop-cons ys i 0 h) at z)
+-- the sum up to a place and of it
+pub total_last : (ls : List ℕ) (i : ℕ) → i < length ls → total (take (i + 1) ls) ≡ total (take i ls) + get_or ls i 0
+total_last ls i h = rw (take_more ls i 0 h, total-append (take i ls) (get_or ls i 0 ∷ [])) (ap (λ n. total (take i ls) + n) (add-zero (get_or ls i 0)))
 
--- where the second list has a place left, the first has a head
-pub all_zip_some : {A : Type 0} (R : A → ℕ → Type 0) (xs : List A) (ys : List ℕ) → AllZip R xs ys → length xs ≡ length ys
-all_zip_some R [] [] z = refl
-all_zip_some R [] (b ∷ ys) z = absurd z
-all_zip_some R (a ∷ xs) [] z = absurd z
-all_zip_some R (a ∷ xs) (b ∷ ys) z = ap (λ n. suc n) (all_zip_some R xs ys z.1)
+-- where a list goes on with x after n elements, it has more than n
+longer : {A : Type 0} (xs : List A) (n : ℕ) (x : A) (ys : List A) → drop n xs ≡ x ∷ ys → n < length xs
+longer xs n x ys e = omega (arith, length-drop n xs, ap length e)
 
--- the sum from a place on
-pub total_rest : (ys : List ℕ) (i : ℕ) → i < length ys → total (drop i ys) ≡ get_or ys i 0 + total (drop (i + 1) ys)
-total_rest ys i h = rw (drop-cons ys i 0 h, add-one) refl
+-- one more is taken there
+pub taken_next : {A : Type 0} (xs : List A) (n : ℕ) (x : A) (ys : List A) → drop n xs ≡ x ∷ ys → take (n + 1) xs ≡ take n xs ++ x ∷ []
+taken_next xs n x ys e =
+    let m = drop_more xs n x (longer xs n x ys e) in
+    let t = take_more xs n x (longer xs n x ys e) in
+    cc
+
+-- one more is dropped there
+pub dropped_next : {A : Type 0} (xs : List A) (n : ℕ) (x : A) (ys : List A) → drop n xs ≡ x ∷ ys → drop (n + 1) xs ≡ ys
+dropped_next xs n x ys e = let m = drop_more xs n x (longer xs n x ys e) in cc
 
 -- one more piece at the end is the first one of the reversed list
 pub back_snoc : {P A : Type 0} (f : P → List A) (ps : List P) (p : P) → joined (reverse (map f (ps ++ p ∷ []))) ≡ f p ++ joined (reverse (map f ps))
 back_snoc f ps p = rw (map_snoc f ps p, reverse-append (map f ps) (f p ∷ [])) refl
 
+-- one more at the end comes first when the list is reversed
 pub reverse_snoc : {A : Type 0} (xs : List A) (x : A) → reverse (xs ++ x ∷ []) ≡ x ∷ reverse xs
 reverse_snoc xs x = rw (reverse-append xs (x ∷ [])) refl
 
+-- a function of each element of the reversed list
 pub map-reverse : {A B : Type 0} (f : A → B) (xs : List A) → map f (reverse xs) ≡ reverse (map f xs)
 map-reverse f [] = refl
 map-reverse f (x ∷ xs) = rw (reverse-append (x ∷ []) xs, reverse-append (f x ∷ []) (map f xs), map-append f (reverse xs) (x ∷ [])) (ap (λ t. t ++ f x ∷ []) (map-reverse f xs))
-
-pub nil_if : {A : Type 0} (xs : List A) → length xs ≡ 0 → xs ≡ []
-nil_if [] e = refl
-nil_if (x ∷ xs) e = absurd (omega (arith, e))
-
--- the sum up to a place and of it
-pub total_last : (ls : List ℕ) (i : ℕ) → i < length ls → total (take (i + 1) ls) ≡ total (take i ls) + get_or ls i 0
-total_last ls i h = rw (take_more ls i 0 h, total-append (take i ls) (get_or ls i 0 ∷ [])) (ap (λ n. total (take i ls) + n) (add-zero (get_or ls i 0)))

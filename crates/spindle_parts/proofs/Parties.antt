@@ -1,8 +1,8 @@
 -- Reads after writes, and counts over the parties.
-use Rattle.std.proofs.Common.{◌≡◌, ◌≢◌, ℕ, zero, suc, ◌+◌, ◌*◌, ◌<◌, ◌≤◌, Bool, true, false, eqb, eq-eqb, ne_eqb, List, [], ◌∷◌, ◌++◌, sym, refl, ap, ◌∙◌, subst, arith, Option, Some, None, if◌then◌else◌, ◌==◌}
+use Rattle.std.proofs.Common.{◌≡◌, ◌≢◌, ℕ, zero, suc, ◌+◌, ◌≤◌, Bool, eq-eqb, ne_eqb, List, [], ◌∷◌, ◌++◌, sym, refl, ap, subst, arith, if◌then◌else◌, ◌==◌}
 use mathlib.Core.Logic.{dite}
 use native.Mathlib.Decide.{ℕ_discrete}
-use Rattle.spindle_parts.specs.State.{Status, Out, In, Arrived, Party, put, absent, party_of, put_party, total, is_in, is_member, weight_in, weight_member, inside, members, times, waking, wake}
+use Rattle.spindle_parts.specs.State.{Status, Out, In, Arrived, Party, put, absent, party_of, put_party, total, is_in, is_member, inside, members, times, waking, wake}
 use Rattle.spindle_parts.specs.Steps.{with_status}
 
 module _ {A : Type 0} where

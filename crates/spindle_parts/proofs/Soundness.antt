@@ -1,12 +1,12 @@
 -- Each event keeps what is true of the rounds.
-use Rattle.std.proofs.Common.{◌≡◌, ◌≢◌, ◌⊎◌, inl, inr, ⊎_elim, ℕ, zero, suc, ◌+◌, ◌*◌, ◌<◌, ◌≤◌, Bool, true, false, ◌||◌, eqb, eq-eqb, ne_eqb, List, [], ◌∷◌, ◌++◌, sym, refl, ap, ◌∙◌, subst, arith, Option, Some, None, if◌then◌else◌, ◌==◌}
+use Rattle.std.proofs.Common.{◌≡◌, ◌≢◌, ◌⊎◌, inl, inr, ⊎_elim, ℕ, ◌+◌, ◌<◌, ◌≤◌, Bool, true, false, ◌||◌, eq-eqb, ne_eqb, List, [], ◌∷◌, ◌++◌, sym, refl, ap, ◌∙◌, subst, arith, Option, Some, None, if◌then◌else◌, ◌==◌}
 use mathlib.Core.Logic.{dite}
 use native.Mathlib.Decide.{ℕ_discrete, dec_le}
-use Rattle.spindle_parts.specs.State.{Status, Out, In, Arrived, Party, Round, State, put, absent, blank, fresh, no_set, party_of, put_party, total, times, is_in, is_member, weight_in, weight_member, inside, members, waking, wake, now, party, change, change_round, Free}
-use Rattle.spindle_parts.specs.Steps.{with_status, Allowed, IsIdle, after, arrived, left, publish, ended_by, closer_after, Event, Join, Publish, PublishTry, Take, Begin, Finish, Stop, See, PutBack, Arrive, Leave, Exit, Clear, End}
+use Rattle.spindle_parts.specs.State.{Status, Out, In, Arrived, Party, Round, State, put, blank, fresh, no_set, party_of, put_party, times, is_in, is_member, weight_in, weight_member, inside, members, waking, wake, now, party, change, change_round, Free}
+use Rattle.spindle_parts.specs.Steps.{with_status, Allowed, IsIdle, after, arrived, publish, ended_by, Event, Join, Publish, PublishTry, Take, Begin, Finish, Stop, See, PutBack, Arrive, Leave, Exit, Clear, End}
 use Rattle.spindle_parts.specs.Runs.{state, IsRun, IsOnce}
 use Rattle.spindle_parts.proofs.Parties.{put_here, put_else, put_all, put_again, look_here, look_else, total_put, total_at, inside_le_members, look_wake, inside_wake, members_wake}
-use Rattle.spindle_parts.proofs.Fates.{Fate, Open, Held, Ran, Done, started, over, Fits, Work, status_work, begin_work, finish_work, take_work, put_back_work, see_work, completes, restarts, none_begun, publish_work, free_is_open, open_is_free, idle_out, Complete}
+use Rattle.spindle_parts.proofs.Fates.{Fate, Open, Held, Ran, Done, started, over, Work, status_work, begin_work, finish_work, take_work, put_back_work, see_work, completes, restarts, publish_work, free_is_open, open_is_free, idle_out, Complete}
 
 pub record Gate (closer published : Option ℕ) (i m jobs : ℕ) (leader : Status) : Type 0 where
   pub closing : (c : ℕ) → closer ≡ Some c → (i ≡ 0) × (0 < m)

@@ -4,3 +4,14 @@ pub mod Steps
 pub mod Runs
 pub mod BarrierWord
 pub mod Trail
+pub mod Ledger
+pub mod LedgerSteps
+pub mod LedgerSeats
+pub mod ThreadNumbers
+pub mod ChildSlot
+pub mod Machine
+pub mod EverySchedule
+pub mod Serving
+pub mod Entries
+pub mod Registers
+pub mod Contents

@@ -1,5 +1,5 @@
 -- The pieces of a list.
-use Rattle.std.specs.Prelude.{ℕ, ◌+◌, ◌/◌, ◌%◌, ◌<◌, ◌-◌, List, [], ◌∷◌, ◌++◌, min, replicate, zero, suc}
+use Rattle.std.specs.Prelude.{ℕ, ◌+◌, ◌/◌, ◌%◌, ◌-◌, List, [], ◌∷◌, ◌++◌, ◌*◌, length, min, replicate, take, drop, zero, suc}
 
 -- the lengths of the pieces: the first `len % m` are one longer, where m is the smaller of len and n_jobs
 abbrev pub lengths_of : (len m : ℕ) → List ℕ
@@ -22,3 +22,9 @@ counted from (suc n) = from ∷ counted (from + 1) n
 abbrev pub total : List ℕ → ℕ
 total [] = 0
 total (x ∷ xs) = x + total xs
+
+-- what thread i is dealt of a list: the i-th run of n / threads elements, and the i-th of the rest where there is one
+abbrev pub dealt : {T : Type 0} → List T → (threads i : ℕ) → List T
+dealt xs threads i =
+    let each = length xs / threads in
+    take each (drop (each * i) xs) ++ take 1 (drop (each * threads + i) xs)

@@ -1,7 +1,9 @@
 -- The events of a round: by whom each is, when it is allowed, and what it changes.
-use Rattle.std.specs.Prelude.{◌≡◌, ◌≢◌, ◌⊎◌, ℕ, zero, suc, ◌+◌, ◌*◌, ◌%◌, ◌<◌, ◌≤◌, Bool, true, false, ◌||◌, ◌==◌, List, [], ◌∷◌, ◌++◌, Option, Some, None, if◌then◌else◌}
-use Rattle.spindle_parts.specs.State.{Status, Out, In, Arrived, Party, Round, State, no_set, put, party_of, put_party, inside, members, times, wake, now, party, change, change_round, Free}
+use Rattle.std.specs.Prelude.{◌≡◌, ◌≢◌, ◌⊎◌, ℕ, ◌+◌, ◌<◌, ◌≤◌, Bool, true, false, ◌||◌, ◌==◌, List, [], ◌∷◌, ◌++◌, Option, Some, None, if◌then◌else◌}
+use Rattle.spindle_parts.specs.State.{Status, Out, In, Arrived, Party, State, no_set, put, put_party, inside, members, wake, now, party, change, change_round, Free}
 
+-- an event, with its party first: a publish has its number of jobs (a round published by the second kind may be stopped),
+-- a take a set of numbers, a begin its number
 pub data Event : Type 0 where
   Join : (p : ℕ) → Event
   Publish : (p n : ℕ) → Event
@@ -18,6 +20,7 @@ pub data Event : Type 0 where
   Clear : (p : ℕ) → Event
   End : (p : ℕ) → Event
 
+-- the party whose event it is
 abbrev pub by : Event → ℕ
 by (Join p) = p
 by (Publish p n) = p
@@ -34,13 +37,15 @@ by (Exit p) = p
 by (Clear p) = p
 by (End p) = p
 
+-- the leader, who is in, may publish n jobs
 abbrev pub IsPublishable : State → ℕ → ℕ → Type 0
 IsPublishable s p n = (p ≡ 0) × ((party s p).status ≡ In) × (s.published ≡ None) × (2 ≤ n) × (n ≤ 4294967295)
 
--- nothing is left for the party p
+-- the party p has taken no number and runs no job
 abbrev pub IsIdle : State → ℕ → Type 0
 IsIdle s p = ((k : ℕ) → (party s p).taken k ≡ false) × ((party s p).running ≡ None)
 
+-- where the event is allowed
 abbrev pub Allowed : State → Event → Type 0
 Allowed s (Join p) = ((party s p).status ≡ Out) × (s.closer ≡ None) × (members s.parties < 32767)
 Allowed s (Publish p n) = IsPublishable s p n
@@ -57,26 +62,32 @@ Allowed s (Exit p) = ((party s p).status ≡ In) × IsIdle s p × (p ≡ 0 → s
 Allowed s (Clear p) = s.closer ≡ Some p
 Allowed s (End p) = (s.closer ≡ Some p) × (s.published ≡ None)
 
+-- the number that a party which finishes has run
 abbrev pub ended_by : Option ℕ → List ℕ
 ended_by None = []
 ended_by (Some k) = k ∷ []
 
--- the closer after the party p has gone or arrived
+-- the closer once the party p has gone or arrived: p, where nobody is in any more
 abbrev pub closer_after : State → List Party → ℕ → Option ℕ
 closer_after s ps p = if inside ps == 0 then Some p else s.closer
 
+-- the state with those parties, from which p has gone or arrived
 abbrev pub arrived : State → ℕ → List Party → State
 arrived s p ps = record { round = s.round; parties = ps; closer = closer_after s ps p; published = s.published; rounds = s.rounds }
 
+-- the state with those parties, from which p has exited: where it was the last member, the round ends
 abbrev pub left : State → ℕ → List Party → State
 left s p ps = if members ps == 0 then record { round = s.round + 1; parties = ps; closer = s.closer; published = s.published; rounds = s.rounds } else arrived s p ps
 
+-- the party x, but it stands so
 abbrev pub with_status : Status → Party → Party
 with_status t x = record { status = t; running = x.running; taken = x.taken }
 
+-- n jobs are published, in a round that may be stopped or not
 abbrev pub publish : State → Bool → ℕ → State
 publish s b n = record { round = s.round; parties = s.parties; closer = s.closer; published = Some n; rounds = put s.rounds s.round (record (now s) { jobs = n; stoppable = b }) }
 
+-- the state after the event
 abbrev pub after : State → Event → State
 after s (Join p) = change s p (with_status In (party s p))
 after s (Publish p n) = publish s false n

@@ -1,70 +1,64 @@
 //! Cutting a list of items into numbered pieces, and dealing the pieces to threads.
-ghost use Rattle.std.specs.Prelude.{◌≡◌, ℕ, ◌+◌, ◌-◌, ◌*◌, ◌/◌, ◌%◌, ◌<◌, ◌≤◌, length, map, [], IfOk, OnOk, OnErr, min, IsErrOf, vec_len, vec_capacity, take, drop, ◌++◌, IsOk, Vec, reverse};
-ghost use Rattle.spindle_parts.specs.Pieces.{cut_lengths, joined, counted};
+//!
+//! Runs of items move as blocks, from the back of the list: no item is moved or looked at by
+//! itself. Every growth that a call needs comes before what it hands out, and where one is refused
+//! the list is put together again.
+ghost use Rattle.std.specs.Prelude.{◌≡◌, ◌+◌, ◌<◌, ◌≤◌, ◌++◌, [], length, map, min, reverse, replicate, take, drop, IfOk, OnOk, OnErr, IsOk, IsErrOf, vec_len, vec_capacity};
+ghost use Rattle.std.specs.List.Sorted.{IsPermutation};
+ghost use Rattle.spindle_parts.specs.Pieces.{cut_lengths, joined, counted, dealt, lengths_of};
 
 use crate::fault::Fault;
 use std::alloc::Global;
 
-/// A numbered run of items.
+#[cfg(test)]
+mod tests;
+
+/// A numbered run of the items of a list: one job's input.
 #[derive(Drop)]
 pub struct Piece<T> {
+    /// The piece's place among the pieces of its list, from 0.
     pub number: usize,
+    /// The items, in the order of the list.
     pub items: Vec<T>,
 }
 
-/// The length of each piece that `len` items are cut into.
+/// The lengths, in items, of the pieces that `len` items are cut into for `n_jobs` jobs.
+///
+/// There are as many pieces as jobs, but no empty one. The longer ones, by one item, come first.
+/// This is how `for_each` of spindle cuts a list for its jobs.
 pub fn piece_lengths(alloc: Global, len: usize, n_jobs: usize) -> Result<Vec<usize>, Fault>
     requires { 0 < len → 0 < n_jobs }
     ensures lengths { IfOk result (λ v. v.items ≡ cut_lengths len n_jobs) }
     ensures memory { OnErr result (IsErrOf result Fault.Memory) }
+    ensures nothing { len ≡ 0 → IsOk result }
 {
     let pieces = len.min(n_jobs);
-    let mut lengths = Vec::with_capacity(alloc, pieces)?;
     if pieces == 0 {
-        return Ok(lengths);
+        return Ok(Vec::new(alloc));
     }
+    let mut lengths = Vec::with_capacity(alloc, pieces)?;
     let short = len / pieces;
     let longer = len % pieces;
     for _number in 0..longer {
-        lengths.push(short + 1)?;
+        lengths.push_reserved(short + 1);
     }
     for _number in longer..pieces {
-        lengths.push(short)?;
+        lengths.push_reserved(short);
     }
     Ok(lengths)
 }
 
-/// Moves the last piece's items to the end, then the one's before it, and so on.
-pub fn put_back<T: Drop>(items: &mut Vec<T>, mut pieces: Vec<Piece<T>>)
-    requires room { vec_len items.old + length (joined (reverse (map (λ p. p.items.items) pieces.items))) ≤ vec_capacity items.old }
-    ensures room { vec_capacity items.old ≤ vec_capacity items.new }
-    ensures together { items.new.items ≡ items.old.items ++ joined (reverse (map (λ p. p.items.items) pieces.items)) }
-{
-    for _ in 0..pieces.len() {
-        let mut piece = pieces.take_last();
-        items.append(&mut piece.items).unwrap();
-    }
-}
-
-/// Puts the pieces' items together, in order.
-pub fn gather<T: Drop>(items: &mut Vec<T>, mut pieces: Vec<Piece<T>>)
-    requires room { vec_len items.old + length (joined (map (λ p. p.items.items) pieces.items)) ≤ vec_capacity items.old }
-    ensures together { items.new.items ≡ items.old.items ++ joined (map (λ p. p.items.items) pieces.items) }
-{
-    pieces.reverse();
-    put_back(items, pieces);
-}
-
-/// Cuts the items into pieces, numbered from 0.
-pub fn cut<T: Drop>(
-    alloc: Global,
-    items: &mut Vec<T>,
-    n_jobs: usize,
-) -> Result<Vec<Piece<T>>, Fault>
+/// Cuts the items into pieces, numbered from 0 and of the lengths that `piece_lengths` answers.
+///
+/// The list keeps its room. An empty list has no pieces and takes no memory.
+pub fn cut<T>(alloc: Global, items: &mut Vec<T>, n_jobs: usize) -> Result<Vec<Piece<T>>, Fault>
     requires { 0 < vec_len items.old → 0 < n_jobs }
-    ensures joined { IfOk result (λ pieces. joined (map (λ p. p.items.items) pieces.items) ≡ items.old.items) }
-    ensures lengths { IfOk result (λ pieces. map (λ p. vec_len p.items) pieces.items ≡ cut_lengths (vec_len items.old) n_jobs) }
-    ensures numbers { IfOk result (λ pieces. map (λ p. p.number) pieces.items ≡ counted 0 (vec_len pieces)) }
+    ensures joined { IfOk result (λ pieces.
+        joined (map (λ p. p.items.items) pieces.items) ≡ items.old.items) }
+    ensures lengths { IfOk result (λ pieces.
+        map (λ p. vec_len p.items) pieces.items ≡ cut_lengths (vec_len items.old) n_jobs) }
+    ensures numbers { IfOk result (λ pieces.
+        map (λ p. p.number) pieces.items ≡ counted 0 (vec_len pieces)) }
     ensures taken { OnOk result (items.new.items ≡ []) }
     ensures memory { OnErr result (IsErrOf result Fault.Memory) }
     ensures kept { OnErr result (items.new.items ≡ items.old.items) }
@@ -90,4 +84,98 @@ pub fn cut<T: Drop>(
     }
     pieces.reverse();
     Ok(pieces)
+}
+
+/// Moves the last piece's items to the end, then those of the piece before it, and so on.
+fn put_back<T>(items: &mut Vec<T>, mut pieces: Vec<Piece<T>>)
+    requires room { let runs = reverse (map (λ p. p.items.items) pieces.items) in
+        vec_len items.old + length (joined runs) ≤ vec_capacity items.old }
+    ensures room { vec_capacity items.old ≤ vec_capacity items.new }
+    ensures together { let runs = reverse (map (λ p. p.items.items) pieces.items) in
+        items.new.items ≡ items.old.items ++ joined runs }
+{
+    for _ in 0..pieces.len() {
+        let Piece {
+            number: _,
+            items: mut run,
+        } = pieces.take_last();
+        items.append(&mut run).unwrap();
+        run.destroy_empty();
+    }
+    pieces.destroy_empty();
+}
+
+/// Deals the pieces to threads: thread i gets its run, as long as every other thread's, and then
+/// one of the pieces that are left over, where there is one for it.
+///
+/// So the hand of thread i holds what its own range of the round stands for, and one of the pieces
+/// of the remainder. This is the order in which spindle's workers count their jobs. No item is
+/// dropped: `T: Drop` lets go of empty hands where a growth is refused.
+pub fn deal<T: Drop>(
+    alloc: Global,
+    pieces: &mut Vec<Piece<T>>,
+    threads: usize,
+) -> Result<Vec<Vec<Piece<T>>>, Fault>
+    requires threads { 0 < threads }
+    requires numbers { map (λ p. p.number) pieces.old.items ≡ counted 0 (vec_len pieces.old) }
+    ensures dealt { IfOk result (λ hands.
+        map (λ hand. hand.items) hands.items
+        ≡ map (dealt pieces.old.items threads) (counted 0 threads)) }
+    ensures numbers { let numbers = counted 0 (vec_len pieces.old) in
+        IfOk result (λ hands.
+        map (λ hand. map (λ p. p.number) hand.items) hands.items
+        ≡ map (dealt numbers threads) (counted 0 threads)) }
+
+    // No piece is dropped, repeated or altered.
+    ensures all { IfOk result (λ hands.
+        IsPermutation pieces.old.items (joined (map (λ hand. hand.items) hands.items))) }
+    ensures taken { OnOk result (pieces.new.items ≡ []) }
+    ensures memory { OnErr result (IsErrOf result Fault.Memory) }
+    ensures kept { OnErr result (pieces.new.items ≡ pieces.old.items) }
+{
+    let mut hands = empty_hands(alloc, pieces.len(), threads)?;
+    let each = pieces.len() / threads;
+    let mut rest = pieces.split_off(each * threads)?;
+    pieces.reverse();
+    rest.reverse();
+    for hand in hands.iter_mut() {
+        move_last(pieces, hand, each);
+        move_last(&mut rest, hand, 1);
+    }
+    Ok(hands)
+}
+
+/// One empty list a thread, with room for what the thread is dealt of `count` pieces.
+fn empty_hands<T: Drop>(
+    alloc: Global,
+    count: usize,
+    threads: usize,
+) -> Result<Vec<Vec<Piece<T>>>, Fault>
+    requires { 0 < threads }
+    ensures empty { IfOk result (λ hands.
+        map (λ hand. hand.items) hands.items ≡ replicate threads []) }
+    ensures rooms { IfOk result (λ hands.
+        map (λ hand. vec_capacity hand) hands.items ≡ lengths_of count threads) }
+    ensures memory { OnErr result (IsErrOf result Fault.Memory) }
+{
+    let each = count / threads;
+    let over = count % threads;
+    let mut hands = Vec::with_capacity(alloc, threads)?;
+    for thread in 0..threads {
+        let room = if thread < over { each + 1 } else { each };
+        hands.push_reserved(Vec::with_capacity(alloc, room)?);
+    }
+    Ok(hands)
+}
+
+/// Moves the last `count` pieces, or all that there are, to the end of a hand, the last one first.
+fn move_last<T>(pieces: &mut Vec<Piece<T>>, hand: &mut Vec<Piece<T>>, count: usize)
+    requires room { vec_len hand.old + min count (vec_len pieces.old) ≤ vec_capacity hand.old }
+    ensures hand { hand.new.items ≡ hand.old.items ++ take count (reverse pieces.old.items) }
+    ensures pieces { reverse pieces.new.items ≡ drop count (reverse pieces.old.items) }
+    ensures room { vec_capacity hand.new ≡ vec_capacity hand.old }
+{
+    for _ in 0..count.min(pieces.len()) {
+        hand.push_reserved(pieces.take_last());
+    }
 }

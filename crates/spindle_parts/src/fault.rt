@@ -1,15 +1,19 @@
-//! Why a round or a lock is refused.
+//! Why a lock or a round is refused.
 ghost use Rattle.std.specs.Prelude.{◌≡◌};
 ghost use Rattle.spindle_parts.specs.declared.fault.Fault.TheVariants.{Memory};
 
 use std::alloc::{AllocError, AllocFailed};
 use thiserror::Error;
 
-/// What a round or a lock is refused for.
+/// What a lock, a round or a list of pieces is refused for.
+///
+/// It stands for the panics and the aborts of spindle.
 #[derive(Debug, Drop, Error)]
 pub enum Fault {
+    /// A growth was refused before anything was published, so no job has run.
     #[error("no memory")]
     Memory,
+    /// The least number of a piece that is missing after its round, or isn't the one handed in.
     #[error("lost piece {0}")]
     Lost(usize),
 }
@@ -27,5 +31,20 @@ impl From<AllocError> for Fault {
 
     fn from(_e: AllocError) -> Fault {
         Fault::Memory
+    }
+}
+
+#[cfg(test)]
+mod tests {
+    use super::*;
+    use std::test::Fail;
+
+    #[test]
+    fn texts(rt: HostRuntime) -> Result<(), Fail> {
+        let memory = Fault::Memory;
+        let lost = Fault::Lost(7);
+        assert_eq!(rt; format!(in rt.alloc(); "{memory}")?.as_str(), "no memory");
+        assert_eq!(rt; format!(in rt.alloc(); "{lost}")?.as_str(), "lost piece 7");
+        Ok(())
     }
 }

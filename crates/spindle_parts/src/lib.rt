@@ -2,15 +2,10 @@
 //! with its pure machine, thread numbers, the ledger of helper requests, and child slots.
 #![tactic(auto)]
 
-ghost use Rattle.std.specs.Prelude.{◌≡◌, ℕ, List};
-ghost use Rattle.spindle_parts.specs.Steps.{Event};
-ghost use Rattle.spindle_parts.specs.Runs.{state, IsRun, IsOnce};
-
+pub mod aarc_imp;
 pub mod cut;
 pub mod fault;
+pub mod numbers;
+pub mod requests;
+pub mod steps;
 pub mod trail;
-
-/// In every run no number of a round begins or finishes twice.
-pub fn every_run()
-    ensures { (es : List Event) → IsRun es → IsOnce (state es) }
-{}

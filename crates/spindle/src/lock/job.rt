@@ -1,22 +1,31 @@
-//! What a user writes of a job, and what a job says of the locks that it may open.
-ghost use Rattle.std.specs.Prelude.{◌≡◌, true, OnErr, IsErrOf};
+//! A kind of job: what goes in, what comes out, and the relation between the two.
+ghost use Rattle.std.specs.Prelude.{◌≡◌, true};
 ghost use denote.Param.Send.{IsSync};
 
-use spindle_parts::fault::Fault;
+use crate::lock::context::JobCx;
+use crate::lock::nest::Nest;
 use std::alloc::Global;
 use std::sync::Wait;
 use std::thread::Threads;
 
-/// A kind of job.
+/// A kind of job. It stands where spindle takes a closure that the threads of a lock call.
+///
+/// A kind of job has no value at run time: what `run` needs beside its context stands in the input.
 pub trait Job {
+    /// What a job is given. A round hands inputs to other threads, and compares what comes back with what it
+    /// handed out, so clones of an input are to be equal to it, and both ought to be cheap.
     type In: Clone + Eq + Drop;
 
+    /// What a job answers. A job that can fail says so here.
     type Out: Drop;
 
+    /// Which locks a job may open: `End` for none, `Under<K>` for locks over jobs of kind K.
     type Inner: Nest;
 
+    /// The relation between an input and its output.
     ghost meets: { Self.In → Self.Out → Type 0 };
 
+    /// Runs a job. It meets the relation whatever its context is.
     fn run<H: Threads + Wait + Sync>(
         rt: &H,
         alloc: Global,
@@ -26,41 +35,11 @@ pub trait Job {
         requires { IsSync H.row }
         ensures { meets input.now result };
 
+    /// Whether an output stops a round that may stop early. No other round asks.
     fn failed(_output: &Self::Out) -> bool {
         false
     }
 
+    /// Equal inputs are the same value.
     ghost equal_is_same: { (x y : Self.In) → Self.In.eq x y ≡ true → x ≡ y };
-}
-
-/// What a job type says of the locks that its jobs may open.
-pub trait Nest {
-    type Slots: Drop;
-
-    fn make(alloc: Global, slots: usize) -> Result<Self::Slots, Fault>
-        ensures { OnErr result (IsErrOf result Fault.Memory) };
-
-    fn serve<H: Threads + Wait + Sync>(rt: &H, alloc: Global, slots: &Self::Slots)
-        requires { IsSync H.row };
-}
-
-/// No nested locks.
-pub struct End;
-
-impl Nest for End {
-    type Slots = ();
-
-    fn make(_alloc: Global, _slots: usize) -> Result<(), Fault> {
-        Ok(())
-    }
-
-    fn serve<H: Threads + Wait + Sync>(_rt: &H, _alloc: Global, _slots: &()) {}
-}
-
-/// What a job of a lock over J is given.
-#[derive(Drop)]
-pub struct JobCx<'a, N: Nest> {
-    slots: Option<&'a N::Slots>,
-    index: Option<usize>,
-    most: usize,
 }

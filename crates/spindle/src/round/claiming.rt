@@ -1,16 +1,14 @@
-//! Claims: by one exchange each, a number begins.
+//! Claims of a thread from its own range and from the remainder: by one exchange each, a number begins.
 ghost use Rattle.std.specs.Prelude.{◌≡◌, ◌<◌};
-ghost use Rattle.spindle.specs.RoundAnswers.{OwnClaimed};
+ghost use Rattle.spindle.specs.RoundAnswers.{OwnClaimed, RestClaimed};
+ghost use Rattle.spindle.specs.RoundSteps.{number_or};
 ghost use Rattle.spindle.specs.RoundConditions.{MayClaim};
 
-use crate::round::Round;
 use crate::round::claim::{Claim, Claimed};
-use crate::round_table::plays::{Claims, Searches};
+use crate::round::{HIGH, Round};
+use crate::round_table::plays::{Claims, ClaimsRest, ReadsRest, Recalls, Searches};
 use crate::round_table::slots::Slots;
-use crate::round_table::{APART, RANGES, Seat};
-
-/// Where the end of a range starts.
-const HIGH: u64 = 4294967296;
+use crate::round_table::{APART, PUBLISHED, RANGES, REST, Seat};
 
 impl<D: Slots> Round<D> {
     /// Claims the first number of the range of thread t.
@@ -29,9 +27,28 @@ impl<D: Slots> Round<D> {
         }
         let found = words.compare_exchange::<Claims<D>>(seat, word, range, range + 1);
         if found == range {
-            Claim::Job(Claimed {
-                number: range % HIGH,
-            })
+            Claim::Job(Claimed::new(range % HIGH))
+        } else {
+            Claim::Again
+        }
+    }
+
+    /// Claims the last number of the remainder.
+    pub fn try_claim_rest(&self, seat: &mut Seat<D>) -> Claim
+        requires seated { seat.old.table_id ≡ self.now.init.table.shared.table_id }
+        requires free { MayClaim seat.old.me.0 }
+        ensures seat { (seat.new.table_id ≡ seat.old.table_id) × (seat.new.id ≡ seat.old.id) }
+        ensures step { RestClaimed D.discipline (number_or seat.old.me.0.known.number) result seat.old.me seat.new.me }
+    {
+        let words = &self.init.table.shared;
+        let rest = words.load::<ReadsRest>(seat, REST);
+        if rest == 0 {
+            return Claim::Nothing;
+        }
+        let jobs = words.load::<Recalls>(seat, PUBLISHED) % HIGH;
+        let found = words.compare_exchange::<ClaimsRest<D>>(seat, REST, rest, rest - 1);
+        if found == rest {
+            Claim::Job(Claimed::new(jobs - rest))
         } else {
             Claim::Again
         }

@@ -1,11 +1,11 @@
 //! The leader's part of a round, and the published word.
-ghost use Rattle.std.specs.Prelude.{◌≡◌, ◌<◌, ◌≤◌, false};
+ghost use Rattle.std.specs.Prelude.{◌≡◌, ◌<◌, ◌≤◌, true, false};
 ghost use Rattle.spindle.specs.RoundAnswers.{FilledBy};
 ghost use Rattle.spindle.specs.RoundSteps.{learning, publishing};
 ghost use Rattle.spindle.specs.RoundConditions.{MayFill, MayPublish};
 
-use crate::round::Round;
-use crate::round_table::plays::{Fills, Learns, Publishes};
+use crate::round::{HIGH, Round};
+use crate::round_table::plays::{Fills, Learns, Publishes, PublishesTry};
 use crate::round_table::slots::Slots;
 use crate::round_table::{APART, FINISHED, PUBLISHED, RANGES, REST, STOPPED, Seat};
 
@@ -36,11 +36,7 @@ impl<D: Slots> Round<D> {
         let part = jobs / threads;
         for i in 0..self.init.threads {
             let start = part * i as u64;
-            words.store::<Fills>(
-                seat,
-                RANGES + APART * i,
-                start + 4294967296 * (start + part),
-            );
+            words.store::<Fills>(seat, RANGES + APART * i, start + HIGH * (start + part));
         }
     }
 
@@ -57,5 +53,20 @@ impl<D: Slots> Round<D> {
             .table
             .shared
             .store::<Publishes>(seat, PUBLISHED, jobs);
+    }
+
+    /// The same for a round that may stop.
+    pub fn publish_try(&self, seat: &mut Seat<D>, jobs: u64)
+        requires seated { seat.old.table_id ≡ self.now.init.table.shared.table_id }
+        requires leads { MayPublish D.discipline self.now.init.threads jobs seat.old.me.0 }
+        requires counted { (2 ≤ jobs) × (jobs ≤ 4294967295) }
+        requires ranges { 0 < self.now.init.threads }
+        ensures seat { (seat.new.table_id ≡ seat.old.table_id) × (seat.new.id ≡ seat.old.id) }
+        ensures step { seat.new.me ≡ (publishing true jobs seat.old.me.0, seat.old.me.1) }
+    {
+        self.init
+            .table
+            .shared
+            .store::<PublishesTry>(seat, PUBLISHED, jobs + HIGH);
     }
 }

@@ -1,5 +1,5 @@
 //! The kinds of step of the round table: what each tells its seat.
-ghost use Rattle.spindle.specs.RoundSteps.{loaded, joined, arrived, looked, left, exited, read_by_closer, clears, ends, learned, filled, published, published_try, searched, rest_read, claimed, stolen, rested, shared, finished, stops, saw, put, same_view, new_view};
+ghost use Rattle.spindle.specs.RoundSteps.{loaded, joined, arrived, looked, left, exited, read_by_closer, clears, ends, learned, filled, published, published_try, searched, rest_read, recalled, claimed, stolen, rested, shared, finished, stops, saw, put, same_view, new_view};
 
 use crate::round_table::slots::Slots;
 use crate::round_table::view::View;
@@ -109,6 +109,13 @@ pub(crate) struct ReadsRest;
 
 impl<S, N> Play<S, View<N>> for ReadsRest {
     ghost then = { rest_read };
+}
+
+/// A member that knows the number reads the published word.
+pub(crate) struct Recalls;
+
+impl<S, N> Play<S, View<N>> for Recalls {
+    ghost then = { recalled };
 }
 
 pub(crate) struct Claims<D: Slots> {

@@ -1,9 +1,9 @@
-use Rattle.std.proofs.Common.{◌≡◌, ℕ, ◌+◌, ◌≤◌, ◌<◌, ◌-◌, ◌++◌, ◌∷◌, [], length, take, drop, arith, rules, vec_capacity, vec_len, Vec, subst, sym, map, get_or, List, ◌∙◌, ap, append_assoc, min, length-append, reverse, refl, add-one}
-use Rattle.std.proofs.lemmas.List.{take-append-drop, take_all, drop_all, drop_more, length-take, get_or_default, append-nil}
+-- Cutting from the back: what is cut joined with what is left is the list, and the pieces count down.
+use Rattle.std.proofs.Common.{◌≡◌, ℕ, ◌+◌, ◌≤◌, ◌<◌, ◌-◌, ◌++◌, ◌∷◌, [], length, take, drop, arith, rules, vec_len, sym, map, get_or, List, ◌∙◌, ap, append_assoc, min, reverse, refl, add-one}
+use Rattle.std.proofs.lemmas.List.{take-append-drop, take_all, drop_all, drop_more, get_or_default, append-nil, nil_from_length}
 use Rattle.spindle_parts.specs.declared.cut.Piece.{Piece}
-use Rattle.spindle_parts.specs.Pieces.{joined, counted, total, cut_lengths, lengths_of}
-use Rattle.spindle_parts.proofs.Lists.{total-lengths, total_last, map_snoc, reverse_snoc, back_snoc, map-reverse, nil_if}
-use Rattle.std.proofs.lemmas.Grind.{common_steps}
+use Rattle.spindle_parts.specs.Pieces.{joined, counted, total, cut_lengths}
+use Rattle.spindle_parts.proofs.Lists.{total-lengths, total_last, map_snoc, reverse_snoc, back_snoc, map-reverse}
 use Rattle.spindle_parts.proofs.cut.cut.Goals as goal
 
 pub loop-done-init : goal.loop-done-init
@@ -74,7 +74,7 @@ pub returns-clause-joined : goal.returns-clause-joined
 returns-clause-joined g c =
     let f : Piece g.row.T.Denot → List g.row.T.Denot = λ p. p.items.items in
     let z : c.len-count.result - c.loop-done.done ≡ 0 = omega arith in
-    let none : c.loop-done.items.items ≡ [] = nil_if c.loop-done.items.items (c.loop-done.invariant.left ∙ ap (λ m. total (take m c.in_ok-lengths.lengths.items)) z) in
+    let none : c.loop-done.items.items ≡ [] = nil_from_length c.loop-done.items.items (c.loop-done.invariant.left ∙ ap (λ m. total (take m c.in_ok-lengths.lengths.items)) z) in
     let j : joined (reverse (map f c.loop-done.pieces.items)) ≡ c.args.items.now.items = rw none at c.loop-done.invariant.joined in
     rw (c.reverse.ensures.items, map-reverse f c.loop-done.pieces.items) j
 

@@ -1,4 +1,5 @@
-use Rattle.std.proofs.Common.{◌≡◌, ℕ, ◌+◌, ◌≤◌, ◌-◌, ◌++◌, take, drop, vec_len, vec_capacity, [], Vec, map, length, reverse}
+-- Cutting from the back: the pieces so far, their lengths and numbers, and what is left.
+use Rattle.std.proofs.Common.{◌≡◌, ◌≤◌, ◌-◌, ◌++◌, take, drop, vec_len, vec_capacity, map, length, reverse}
 use Rattle.spindle_parts.specs.Pieces.{joined, counted, total}
 use Rattle.spindle_parts.proofs.cut.cut.Given as goal
 

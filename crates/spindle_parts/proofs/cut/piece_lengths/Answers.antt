@@ -1,4 +1,5 @@
-use Rattle.std.proofs.Common.{◌≡◌, ℕ, ◌+◌, ◌-◌, ◌≤◌, ◌<◌, ◌++◌, ◌∷◌, [], replicate, append_assoc, arith, sym, ap, ◌∙◌}
+-- The lengths: one more of the second kind.
+use Rattle.std.proofs.Common.{◌≡◌, ℕ, ◌+◌, ◌-◌, ◌≤◌, ◌++◌, ◌∷◌, [], replicate, append_assoc, arith, sym, ap, ◌∙◌}
 use Rattle.std.proofs.lemmas.List.{replicate_more}
 use Rattle.spindle_parts.proofs.cut.piece_lengths.Goals as goal
 

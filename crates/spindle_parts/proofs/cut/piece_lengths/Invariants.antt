@@ -1,4 +1,5 @@
-use Rattle.std.proofs.Common.{◌≡◌, ℕ, ◌+◌, ◌-◌, ◌++◌, replicate}
+-- The lengths: first the longer ones, then the others.
+use Rattle.std.proofs.Common.{◌≡◌, ◌+◌, ◌-◌, ◌++◌, replicate}
 use Rattle.spindle_parts.proofs.cut.piece_lengths.Given as goal
 
 abbrev pub invariant-loop-number : goal.invariant-loop-number

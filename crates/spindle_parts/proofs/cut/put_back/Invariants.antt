@@ -1,4 +1,5 @@
-use Rattle.std.proofs.Common.{◌≡◌, ℕ, ◌+◌, ◌≤◌, length, map, vec_len, vec_capacity, ◌++◌, reverse}
+-- Putting pieces back: what is there and what is to come make the whole.
+use Rattle.std.proofs.Common.{◌≡◌, ◌+◌, ◌≤◌, map, vec_len, vec_capacity, ◌++◌, reverse}
 use Rattle.spindle_parts.specs.Pieces.{joined}
 use Rattle.spindle_parts.proofs.cut.put_back.Given as goal
 

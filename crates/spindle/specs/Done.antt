@@ -1,0 +1,19 @@
+-- A piece on its way, as contracts see it: given to a thread, done, and the place where it stands.
+use Rattle.std.specs.Prelude.{ℕ, List, Option}
+
+-- a piece that was handed out: its number and its items
+pub record Given (A : Type 0) : Type 0 where
+  pub number : ℕ
+  pub inputs : List A
+
+-- a piece that was run: its number, its inputs, and what the job answered to each
+pub record Done (A B : Type 0) : Type 0 where
+  pub number : ℕ
+  pub inputs : List A
+  pub outputs : List B
+
+-- the place of a piece: its number, the piece until a thread takes it, and what the thread brings back
+pub record Slot (A B : Type 0) : Type 0 where
+  pub number : ℕ
+  pub ready : Option (Given A)
+  pub finished : Option (Done A B)

@@ -1,0 +1,33 @@
+-- What places hold of pieces that were run.
+use Rattle.std.specs.Prelude.{◌≡◌, ℕ, ◌+◌, List, [], Option, Some, None, take, map}
+use Rattle.std.specs.List.{AllZip}
+use Rattle.spindle_parts.specs.declared.cut.Piece.{Piece}
+use Rattle.spindle.specs.Done.{Done}
+use Rattle.spindle_parts.specs.Pieces.{joined}
+
+-- the place holds the piece, finished: under its number, with its inputs
+abbrev pub HoldsPiece : {A B : Type 0} → Piece A → Option (Done A B) → Type 0
+HoldsPiece piece None = ⊥
+HoldsPiece piece (Some done) = (done.number ≡ piece.number) × (done.inputs ≡ piece.items.items)
+
+-- the places hold the pieces, one by one
+abbrev pub HoldAll : {A B : Type 0} → List (Piece A) → List (Option (Done A B)) → Type 0
+HoldAll pieces places = AllZip HoldsPiece pieces places
+
+-- the first k places hold their pieces, and the next one doesn't
+abbrev pub IsFirstLost : {A B : Type 0} → List (Piece A) → List (Option (Done A B)) → ℕ → Type 0
+IsFirstLost pieces places k =
+    HoldAll (take k pieces) (take k places) × ¬ (HoldAll (take (k + 1) pieces) (take (k + 1) places))
+
+-- the items of the pieces, in order
+abbrev pub items_of : {A : Type 0} → List (Piece A) → List A
+items_of pieces = joined (map (λ piece. piece.items.items) pieces)
+
+-- the inputs of what a place holds
+abbrev pub inputs_in : {A B : Type 0} → Option (Done A B) → List A
+inputs_in None = []
+inputs_in (Some done) = done.inputs
+
+-- the inputs of what the places hold, in order
+abbrev pub all_inputs_in : {A B : Type 0} → List (Option (Done A B)) → List A
+all_inputs_in places = joined (map inputs_in places)

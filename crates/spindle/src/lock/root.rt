@@ -1,0 +1,46 @@
+//! Opening a root lock.
+ghost use Rattle.std.specs.Prelude.{◌≡◌, ◌<◌, IfOk, OnErr, IsErrOf};
+ghost use Rattle.std.specs.Fn.{FnOnceReturnsAtMut};
+ghost use Rattle.spindle.specs.Leaders.{threads_of};
+ghost use Rattle.spindle.specs.Locks.{lock_threads};
+
+use crate::lock::crew::Crew;
+use crate::lock::gate::Gate;
+use crate::lock::leader::Leader;
+use crate::lock::nest::Nest;
+use crate::lock::pool::Pool;
+use crate::lock::shared::Opens;
+use spindle_parts::fault::Fault;
+use std::alloc::Global;
+use std::sync::Wait;
+use std::thread::Threads;
+
+/// Opens a lock over jobs of kind J, runs f with its leader, and closes the lock.
+///
+/// The lock has the least of the pool's threads, `max_threads` and 32767, its leader counted. A refusal hasn't run f.
+/// Called inside a lock it opens another root lock, where spindle would open a nested one.
+pub fn with_lock<
+    J: Opens<L> + Send,
+    G: Gate + Sync,
+    R,
+    F: FnOnce(&mut Leader<J, G, L>) -> R,
+    L: Send + Sync + Drop,
+    H: Threads + Wait + Sync,
+>(_rt: &H, alloc: Global, pool: &Pool<G>, max_threads: usize, f: F) -> Result<R, Fault>
+where
+    J::In: Send + Sync,
+    J::Out: Send,
+    J::Inner: Send,
+    <J::Inner as Nest>::Slots: Send + Sync,
+    requires some { 0 < max_threads }
+    requires callable { F.IsAlwaysCallable f }
+    ensures promise { IfOk result (λ r. (old : _) × (new : _)
+        × (threads_of old ≡ lock_threads pool.now.threads max_threads)
+        × FnOnceReturnsAtMut F.FnOnce f old r new) }
+    ensures memory { OnErr result (IsErrOf result Fault.Memory) }
+{
+    let crew = Crew::new(pool.max_num_threads(), max_threads);
+    let lock = J::open(alloc, crew.threads())?;
+    let mut leader = Leader::new(&lock, pool.gate(), crew);
+    Ok(f(&mut leader))
+}

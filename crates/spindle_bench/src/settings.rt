@@ -1,0 +1,62 @@
+//! What the environment and the words ask for.
+ghost use Rattle.std.specs.Prelude.{◌≡◌, ◌*◌, ◌<◌, ◌≤◌, IfOk};
+
+use crate::shape::Shape;
+use crate::stop::Stop;
+use std::alloc::Global;
+use std::env;
+use std::rt::Env;
+
+/// The threads of each lock where the environment names none.
+const DEFAULT_THREADS: usize = 4;
+
+/// A lock has at most so many threads.
+const MOST_THREADS: usize = 32767;
+
+/// What to run.
+#[derive(Drop)]
+pub struct Settings {
+    /// The threads of each lock.
+    pub threads: usize,
+    /// The name of the one shape to run; all where there is none.
+    only: Option<String>,
+    /// Whether rounds are only checked, and not timed.
+    pub is_check: bool,
+    ghost some: { 0 < threads },
+    ghost few: { threads ≤ 32767 },
+}
+
+impl Settings {
+    /// Reads THREADS and SHAPE, and the word `check`.
+    pub fn read(rt: &(impl Env + Alloc<A = Global>)) -> Result<Settings, Stop> {
+        let threads = threads_of(env::var(rt, "THREADS").ok().as_deref())?;
+        let only = env::var(rt, "SHAPE").ok();
+        let is_check = env::args(rt)?.any(|word| word.as_str() == "check");
+        Ok(Settings {
+            threads,
+            only,
+            is_check,
+        })
+    }
+
+    /// Whether a shape is asked for.
+    pub fn wants(&self, shape: Shape) -> bool {
+        match &self.only {
+            Some(name) => name.as_str() == shape.name(),
+            None => true,
+        }
+    }
+}
+
+// The number of threads that a text asks for.
+fn threads_of(text: Option<&str>) -> Result<usize, Stop>
+    ensures { IfOk result (λ threads. (0 < threads) × (threads ≤ 32767)) }
+{
+    let Some(text) = text else {
+        return Ok(DEFAULT_THREADS);
+    };
+    match text.parse::<usize>() {
+        Ok(threads) if 0 < threads && threads <= MOST_THREADS => Ok(threads),
+        _ => Err(Stop::Threads),
+    }
+}

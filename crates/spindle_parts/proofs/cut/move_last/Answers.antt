@@ -1,0 +1,20 @@
+-- Moving pieces to a hand: the last of the list is the next of it read backwards.
+use Rattle.std.proofs.Common.{◌≡◌, ◌∷◌, [], reverse, take, drop, List, arith, sym, ap, ◌∙◌, append_assoc}
+use Rattle.spindle_parts.specs.declared.cut.Piece.{Piece}
+use Rattle.spindle_parts.proofs.Lists.{reverse_snoc, taken_next, dropped_next}
+use Rattle.spindle_parts.proofs.cut.move_last.Goals as goal
+
+pub loop-preserved : goal.loop-preserved
+loop-preserved g c =
+    let P : Type 0 = Piece g.row.T.Denot in
+    let R : List P = reverse c.args.pieces.now.items in
+    let n = c.loop.counter in
+    let left : List P = c.take_last.new.self.items in
+    let e : drop n R ≡ c.take_last.result ∷ reverse left = sym c.loop.invariant.pieces ∙ ap reverse c.take_last.ensures.items ∙ reverse_snoc left c.take_last.result in
+    record {
+      hand = rw (c.push_reserved.ensures.items, c.loop.invariant.hand, taken_next R n c.take_last.result (reverse left) e) (append_assoc c.args.hand.now.items (take n R) (c.take_last.result ∷ []));
+      pieces = sym (dropped_next R n c.take_last.result (reverse left) e);
+      len = omega arith;
+      hand_len = omega arith;
+      room = omega arith;
+    }

@@ -1,0 +1,161 @@
+//! Pieces and hands by worked rows, and what a refused growth leaves.
+//!
+//! The tests named `refused_` hold with any one allocation refused, which
+//! `rt try --test --fail-alloc N` does to the Nth.
+ghost use Rattle.std.specs.Prelude.{◌≡◌, map, IfOk, vec_len};
+ghost use Rattle.spindle_parts.specs.Pieces.{counted};
+
+use super::*;
+use std::alloc::AllocError;
+use std::test::Fail;
+
+/// The numbers from 0 to `count`, the end not included.
+fn numbers(alloc: Global, count: u64) -> Result<Vec<u64>, AllocError> {
+    (0..count).collect(alloc)
+}
+
+/// As many pieces as items, so piece k is the one number k.
+fn singles(alloc: Global, count: u64) -> Result<Vec<Piece<u64>>, Fault>
+    ensures { IfOk result (λ pieces.
+        map (λ p. p.number) pieces.items ≡ counted 0 (vec_len pieces)) }
+{
+    let mut items = numbers(alloc, count)?;
+    cut(alloc, &mut items, usize::MAX)
+}
+
+/// Whether the hand holds the pieces of these numbers, each with its own item.
+fn holds(hand: &Vec<Piece<u64>>, want: &[u64]) -> bool {
+    hand.len() == want.len()
+        && hand.iter().zip(want).all(|(piece, number)| piece.number as u64 == *number
+            && piece.items.as_slice() == [*number].as_slice())
+}
+
+#[test]
+fn the_longer_pieces_come_first(rt: HostRuntime) -> Result<(), Fail> {
+    let rows: [(usize, usize, &[usize]); 7] = [
+        (10, 4, &[3, 3, 2, 2]),
+        (3, 8, &[1, 1, 1]),
+        (0, 5, &[]),
+        (0, 0, &[]),
+        (9, 3, &[3, 3, 3]),
+        (7, 1, &[7]),
+        (usize::MAX, 2, &[usize::MAX / 2 + 1, usize::MAX / 2]),
+    ];
+    for (len, jobs, want) in rows {
+        assert!(rt; len == 0 || jobs > 0);
+        assert_eq!(rt;
+            piece_lengths(rt.alloc(), len, jobs)?.as_slice(),
+            want,
+            "{len} in {jobs}"
+        );
+    }
+    Ok(())
+}
+
+#[test]
+fn pieces_hold_the_items_in_order(rt: HostRuntime) -> Result<(), Fail> {
+    let mut items = numbers(rt.alloc(), 10)?;
+    let pieces = cut(rt.alloc(), &mut items, 4)?;
+    assert!(rt; items.is_empty());
+    let want: [&[u64]; 4] = [&[0, 1, 2], &[3, 4, 5], &[6, 7], &[8, 9]];
+    assert_eq!(rt; pieces.len(), want.len());
+    for (number, (piece, run)) in pieces.iter().zip(want).enumerate() {
+        assert_eq!(rt; piece.number, number);
+        assert_eq!(rt; piece.items.as_slice(), run);
+    }
+    Ok(())
+}
+
+#[test]
+fn more_jobs_than_items_make_no_empty_piece(rt: HostRuntime) -> Result<(), Fail> {
+    let pieces = singles(rt.alloc(), 3)?;
+    assert!(rt; holds(&pieces, &[0, 1, 2]));
+    let mut none = Vec::<u64>::new(rt.alloc());
+    assert!(rt; cut(rt.alloc(), &mut none, 0)?.is_empty());
+    Ok(())
+}
+
+#[test]
+fn each_thread_gets_a_run_and_one_of_the_rest(rt: HostRuntime) -> Result<(), Fail> {
+    let rows: [(u64, &[&[u64]]); 4] = [
+        (10, &[&[0, 1, 8], &[2, 3, 9], &[4, 5], &[6, 7]]),
+        (3, &[&[0], &[1], &[2], &[]]),
+        (0, &[&[], &[]]),
+        (5, &[&[0, 1, 2, 3, 4]]),
+    ];
+    for (count, want) in rows {
+        let mut pieces = singles(rt.alloc(), count)?;
+        assert!(rt; want.len() > 0);
+        let hands = deal(rt.alloc(), &mut pieces, want.len())?;
+        assert!(rt; pieces.is_empty());
+        assert_eq!(rt; hands.len(), want.len());
+        for (hand, numbers) in hands.iter().zip(want) {
+            assert!(rt; holds(hand, numbers), "{count} pieces");
+        }
+    }
+    Ok(())
+}
+
+#[test]
+fn lists_too_long_for_memory_are_refused(rt: HostRuntime) -> Result<(), Fail> {
+    let lengths = piece_lengths(rt.alloc(), usize::MAX, usize::MAX);
+    assert!(rt; matches!(lengths, Err(Fault::Memory)));
+    let mut pieces = singles(rt.alloc(), 3)?;
+    assert!(rt;
+        matches!(
+            deal(rt.alloc(), &mut pieces, usize::MAX),
+            Err(Fault::Memory)
+        )
+    );
+    assert!(rt; holds(&pieces, &[0, 1, 2]));
+    Ok(())
+}
+
+#[test]
+fn refused_lengths_are_answered(rt: HostRuntime) {
+    match piece_lengths(rt.alloc(), 10, 4) {
+        Ok(lengths) => assert_eq!(rt; lengths.as_slice(), [3, 3, 2, 2].as_slice()),
+        Err(fault) => assert!(rt; matches!(fault, Fault::Memory)),
+    }
+}
+
+#[test]
+fn refused_cut_leaves_the_list(rt: HostRuntime) -> Result<(), Fail> {
+    let Ok(mut items) = numbers(rt.alloc(), 10) else {
+        return Ok(());
+    };
+    match cut(rt.alloc(), &mut items, 4) {
+        Ok(pieces) => assert_eq!(rt; pieces.len(), 4),
+        Err(fault) => {
+            assert!(rt; matches!(fault, Fault::Memory));
+            assert_eq!(rt; items.as_slice(), [0, 1, 2, 3, 4, 5, 6, 7, 8, 9].as_slice());
+            assert_eq!(rt; cut(rt.alloc(), &mut items, 4)?.len(), 4);
+        }
+    }
+    Ok(())
+}
+
+#[test]
+fn refused_deal_leaves_the_pieces(rt: HostRuntime) -> Result<(), Fail> {
+    let Ok(mut pieces) = singles(rt.alloc(), 5) else {
+        return Ok(());
+    };
+    match deal(rt.alloc(), &mut pieces, 3) {
+        Ok(hands) => assert_eq!(rt; hands.len(), 3),
+        Err(fault) => {
+            assert!(rt; matches!(fault, Fault::Memory));
+            assert!(rt; holds(&pieces, &[0, 1, 2, 3, 4]));
+            assert_eq!(rt; deal(rt.alloc(), &mut pieces, 3)?.len(), 3);
+        }
+    }
+    Ok(())
+}
+
+#[test]
+fn refused_nothing_where_nothing_is_needed(rt: HostRuntime) -> Result<(), Fail> {
+    let mut none = Vec::<u64>::new(rt.alloc());
+    assert!(rt; cut(rt.alloc(), &mut none, 0)?.is_empty());
+    assert!(rt; cut(rt.alloc(), &mut none, 5)?.is_empty());
+    assert!(rt; piece_lengths(rt.alloc(), 0, 5)?.is_empty());
+    Ok(())
+}

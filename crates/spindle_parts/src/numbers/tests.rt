@@ -1,0 +1,215 @@
+//! The worked row of thread numbers, the edges of a word and of the range, no memory, and eight threads at one table.
+ghost use Rattle.std.specs.Prelude.{◌≡◌, ◌≤◌};
+ghost use Rattle.std.specs.Thread.{IsSync};
+ghost use Rattle.spindle_parts.specs.ThreadNumbers.{IsSeatOf};
+ghost use Rattle.spindle_parts.specs.declared.numbers.plays.Holding.TheVariants.{Nothing};
+
+use crate::fault::Fault;
+use crate::numbers::{Numbers, Seat, Take};
+use std::alloc::Global;
+use std::process::Abort;
+use std::sync::atomic::{AtomicU64, Ordering};
+use std::test::Fail;
+use std::thread;
+use std::thread::Threads;
+
+const WORKERS: usize = 8;
+
+const TURNS: usize = 20000;
+
+#[test]
+fn the_least_unused_number_is_taken(rt: HostRuntime) -> Result<(), Fail> {
+    let (numbers, mut leader) = Numbers::new(rt.alloc(), 3)?;
+    let mut first = numbers.new_seat(&mut leader);
+    let mut second = numbers.new_seat(&mut leader);
+    let mut third = numbers.new_seat(&mut leader);
+    let taken = numbers.try_take(&mut first);
+    assert!(rt; taken == Take::Taken(1));
+    assert!(rt; numbers.try_take(&mut second) == Take::Taken(2));
+    assert!(rt; numbers.try_take(&mut third) == Take::AllInUse);
+    if let Take::Taken(number) = taken {
+        numbers.give(&mut first, number);
+        assert!(rt; numbers.try_take(&mut first) == Take::Taken(1));
+    }
+    Ok(())
+}
+
+/// A table with its leader, from which seats are split.
+#[derive(Drop)]
+struct Desk<'a> {
+    numbers: &'a Numbers,
+    leader: Seat,
+    ghost seated: { IsSeatOf numbers.now leader },
+}
+
+impl<'a> Desk<'a> {
+    fn new_seat(&mut self) -> Seat
+        ensures { IsSeatOf self.new.numbers.now result × (result.me.0.holding ≡ Nothing) × (self.new.numbers ≡ self.old.numbers) }
+    {
+        self.numbers.new_seat(&mut self.leader)
+    }
+
+    fn hire(&mut self, holders: &'a [AtomicU64]) -> Worker<'a> {
+        let seat = self.new_seat();
+        Worker {
+            numbers: self.numbers,
+            seat,
+            holders,
+            done: Done { taken: 0, twice: 0 },
+        }
+    }
+
+    /// Takes the numbers below `end`, in order, each by a new seat.
+    fn take_all(&mut self, rt: &impl Abort, end: usize) {
+        for number in 1..end {
+            let mut seat = self.new_seat();
+            assert!(rt;
+                self.numbers.try_take(&mut seat) == Take::Taken(number),
+                "at {number}"
+            );
+        }
+    }
+
+    fn try_once(&mut self) -> Take
+        ensures { self.new.numbers ≡ self.old.numbers }
+    {
+        let mut seat = self.new_seat();
+        self.numbers.try_take(&mut seat)
+    }
+}
+
+#[test]
+fn numbers_end_where_the_threads_do(rt: HostRuntime) -> Result<(), Fail> {
+    for threads in [1, 2, 31, 32, 33, 63, 64, 65] {
+        let (numbers, leader) = Numbers::new(rt.alloc(), threads)?;
+        let mut desk = Desk {
+            numbers: &numbers,
+            leader,
+        };
+        desk.take_all(&rt, threads);
+        assert!(rt; desk.try_once() == Take::AllInUse, "of {threads}");
+    }
+    Ok(())
+}
+
+/// One thread that takes and gives numbers, and marks each while it has it.
+#[derive(Drop)]
+struct Worker<'a> {
+    numbers: &'a Numbers,
+    seat: Seat,
+    holders: &'a [AtomicU64],
+    done: Done,
+    ghost seated: { IsSeatOf numbers.now seat },
+    ghost idle: { seat.me.0.holding ≡ Nothing },
+}
+
+/// Whether nobody else has the number, while the caller has it.
+fn is_held_alone(holders: &[AtomicU64], number: usize) -> bool {
+    match holders.get(number) {
+        Some(holder) => {
+            let others = holder.fetch_add(1, Ordering::SeqCst);
+            thread::yield_now();
+            holder.fetch_sub(1, Ordering::SeqCst) == 1 && others == 0
+        }
+        None => false,
+    }
+}
+
+/// How often a number was taken, and how often one that another thread had.
+#[derive(Clone, Copy)]
+struct Done {
+    taken: u64,
+    twice: u64,
+}
+
+impl<'a> Worker<'a> {
+    fn turn(&mut self) {
+        if let Take::Taken(number) = self.numbers.try_take(&mut self.seat) {
+            self.done.taken = self.done.taken.wrapping_add(1);
+            if !is_held_alone(self.holders, number) {
+                self.done.twice = self.done.twice.wrapping_add(1);
+            }
+            self.numbers.give(&mut self.seat, number);
+        }
+    }
+
+    fn work(mut self) -> Done {
+        for _ in 0..TURNS {
+            self.turn();
+        }
+        self.done
+    }
+}
+
+/// Eight threads at a table of so many threads' numbers. Answers how often they took a number in all, if none of them
+/// was ever had by two.
+fn taken_at_once<R: Threads + Sync>(rt: &R, alloc: Global, threads: usize) -> Result<Done, Fault>
+    requires { (1 ≤ threads) × (threads ≤ 32767) × IsSync R.row }
+{
+    let mut holders = Vec::with_capacity(alloc, threads)?;
+    for _ in 0..threads {
+        holders.push(AtomicU64::new(0))?;
+    }
+    let (numbers, leader) = Numbers::new(alloc, threads)?;
+    let mut desk = Desk {
+        numbers: &numbers,
+        leader,
+    };
+    let mut workers = Vec::with_capacity(alloc, WORKERS)?;
+    for _ in 0..WORKERS {
+        workers.push(desk.hire(holders.as_slice()))?;
+    }
+    let mut all = Done { taken: 0, twice: 0 };
+    for done in &thread::map_vec(rt, workers, &|worker: Worker<'_>| worker.work())? {
+        all.taken = all.taken.wrapping_add(done.taken);
+        all.twice = all.twice.wrapping_add(done.twice);
+    }
+    Ok(all)
+}
+
+#[test]
+fn no_number_is_held_twice(rt: HostRuntime) -> Result<(), Fail> {
+    for threads in [2, 6, 9, 35] {
+        let done = taken_at_once(&rt, rt.alloc(), threads)?;
+        assert!(rt; done.taken > 0 && done.twice == 0, "of {threads}");
+    }
+    Ok(())
+}
+
+#[test]
+fn the_most_threads_have_a_number_each(rt: HostRuntime) -> Result<(), Fail> {
+    let (numbers, leader) = Numbers::new(rt.alloc(), 32767)?;
+    let mut desk = Desk {
+        numbers: &numbers,
+        leader,
+    };
+    desk.take_all(&rt, 32766);
+    let mut last = desk.new_seat();
+    let taken = desk.numbers.try_take(&mut last);
+    assert!(rt; taken == Take::Taken(32766));
+    assert!(rt; desk.try_once() == Take::AllInUse);
+    if let Take::Taken(number) = taken {
+        desk.numbers.give(&mut last, number);
+        assert!(rt; desk.try_once() == Take::Taken(32766));
+    }
+    Ok(())
+}
+
+/// It ends well whichever allocation is refused: `rt try --test --fail-alloc N`.
+#[test]
+fn a_table_without_memory_is_refused(rt: HostRuntime) {
+    for threads in [1, 33, 32767] {
+        match Numbers::new(rt.alloc(), threads) {
+            Ok((numbers, mut leader)) => {
+                let mut seat = numbers.new_seat(&mut leader);
+                let want = if threads == 1 {
+                    Take::AllInUse
+                } else {
+                    Take::Taken(1)
+                };
+                assert!(rt; numbers.try_take(&mut seat) == want, "of {threads}");
+            }
+            Err(fault) => assert!(rt; matches!(fault, Fault::Memory)),
+        }
+    }
+}

@@ -1,0 +1,5 @@
+-- The words of the program's contracts.
+pub mod Numbers
+pub mod StepLines
+pub mod Stop
+pub mod Words

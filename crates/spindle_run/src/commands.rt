@@ -1,0 +1,41 @@
+//! The commands: what each makes of its numbers, its input and its output.
+use crate::output::write_line;
+use crate::squares::squares;
+use crate::steps::play;
+use crate::stop::Stop;
+use crate::words::Command;
+use spindle::cut::piece_lengths;
+use std::alloc::Global;
+use std::io::{Read, Write};
+use std::sync::Wait;
+use std::thread::Threads;
+
+#[cfg(test)]
+mod tests;
+
+/// Does what the words say, the program's name left out.
+///
+/// All words are judged before anything is read or run. What was answered before a stop stands.
+pub fn run<H: Threads + Wait + Sync, R: Read, W: Write>(
+    rt: &H,
+    alloc: Global,
+    words: &[String],
+    input: &mut R,
+    output: &mut W,
+) -> Result<(), Stop> {
+    match Command::from_words(words).ok_or(Stop::Words)? {
+        Command::Cut { len, jobs } => {
+            let lengths = piece_lengths(alloc, len as usize, jobs as usize)?;
+            write_line(alloc, output, lengths.as_slice())
+        }
+        Command::Squares {
+            count,
+            threads,
+            jobs,
+        } => {
+            let squares = squares(rt, alloc, threads as usize, jobs as usize, count)?;
+            write_line(alloc, output, squares.as_slice())
+        }
+        Command::Steps => play(alloc, input, output),
+    }
+}

@@ -1,0 +1,169 @@
+//! Runs of `cut` and `squares` by their worked rows, the ends of every range, and a failing output.
+//!
+//! The tests named `refused_` hold with any one allocation refused, which
+//! `rt try --test --fail-alloc N` does to the Nth.
+use super::*;
+use crate::trials::{Brief, Torn, as_words, outcome};
+use std::test::Fail;
+
+#[test]
+fn lengths_stand_on_one_line(rt: HostRuntime) -> Result<(), Fail> {
+    let rows: [(&[&str], &str); 9] = [
+        (&["cut", "10", "4"], "3 3 2 2\n"),
+        (&["cut", "3", "8"], "1 1 1\n"),
+        (&["cut", "0", "5"], "\n"),
+        (&["cut", "0", "0"], "\n"),
+        (&["cut", "1000000", "1"], "1000000\n"),
+        (&["cut", "1", "4294967295"], "1\n"),
+        (&["cut", "0", "4294967295"], "\n"),
+        (&["cut", "0000000010", "0000000004"], "3 3 2 2\n"),
+        (&["cut", "7", "3"], "3 2 2\n"),
+    ];
+    for (words, text) in rows {
+        assert!(rt; outcome(&rt, words, "")?.is(text), "{words:?}");
+    }
+    Ok(())
+}
+
+#[test]
+fn squares_stand_on_one_line(rt: HostRuntime) -> Result<(), Fail> {
+    let rows: [(&[&str], &str); 6] = [
+        (&["squares", "10", "4", "4"], "0 1 4 9 16 25 36 49 64 81\n"),
+        (&["squares", "0", "1", "1"], "\n"),
+        (&["squares", "1", "64", "100000"], "0\n"),
+        (&["squares", "5", "1", "3"], "0 1 4 9 16\n"),
+        (&["squares", "3", "64", "1"], "0 1 4\n"),
+        (&["squares", "4", "2", "4"], "0 1 4 9\n"),
+    ];
+    for (words, text) in rows {
+        assert!(rt; outcome(&rt, words, "")?.is(text), "{words:?}");
+    }
+    let most = outcome(&rt, &["squares", "100000", "64", "100000"], "")?;
+    assert_eq!(rt; most.end, Ok(()));
+    assert!(rt; most.text.ends_with(b" 9999600004 9999800001\n"));
+    Ok(())
+}
+
+#[test]
+fn other_words_are_bad(rt: HostRuntime) -> Result<(), Fail> {
+    let rows: [&[&str]; 36] = [
+        &[],
+        &[""],
+        &["cut"],
+        &["cut", "5"],
+        &["cut", "5", "0"],
+        &["cut", "5", "4", "4"],
+        &["cut", "1000001", "4"],
+        &["cut", "5", "4294967296"],
+        &["cut", "5", "9999999999"],
+        &["cut", "5", "00000000004"],
+        &["cut", "99999999999", "4"],
+        &["cut", "5", ""],
+        &["cut", "", "4"],
+        &["cut", "+5", "4"],
+        &["cut", "-5", "4"],
+        &["cut", " 5", "4"],
+        &["cut", "5 ", "4"],
+        &["cut", "5", "4 4"],
+        &["cut", "0x5", "4"],
+        &["cut", "५", "4"],
+        &["Cut", "5", "4"],
+        &["cut ", "5", "4"],
+        &["squares"],
+        &["squares", "10", "4"],
+        &["squares", "10", "4", "4", "4"],
+        &["squares", "100001", "4", "4"],
+        &["squares", "10", "0", "4"],
+        &["squares", "10", "65", "4"],
+        &["squares", "10", "4", "0"],
+        &["squares", "10", "4", "100001"],
+        &["squares", "0", "4", "0"],
+        &["steps", "0"],
+        &["steps", ""],
+        &["Steps"],
+        &["grid", "16", "16", "4", "16"],
+        &["cut", "5", "4\n"],
+    ];
+    for words in rows {
+        assert!(rt;
+            outcome(&rt, words, "")?.stopped("", Stop::Words),
+            "{words:?}"
+        );
+    }
+    Ok(())
+}
+
+#[test]
+fn bad_words_come_before_any_stream(rt: HostRuntime) -> Result<(), Fail> {
+    let words = as_words(&rt, &["cut", "5", "0"])?;
+    let mut closed = Brief {
+        text: Vec::new(rt.alloc()),
+        room: 0,
+    };
+    let end = run(
+        &rt,
+        rt.alloc(),
+        words.as_slice(),
+        &mut Torn(b""),
+        &mut closed,
+    );
+    assert_eq!(rt; end, Err(Stop::Words));
+    Ok(())
+}
+
+#[test]
+fn a_failing_output_stops_the_program(rt: HostRuntime) -> Result<(), Fail> {
+    let rows: [(&[&str], usize); 5] = [
+        (&["cut", "0", "0"], 0),
+        (&["cut", "10", "4"], 0),
+        (&["cut", "10", "4"], 7),
+        (&["cut", "1000000", "1000000"], 20000),
+        (&["squares", "100000", "4", "4"], 8193),
+    ];
+    for (words, room) in rows {
+        let list = as_words(&rt, words)?;
+        let mut brief = Brief {
+            text: Vec::new(rt.alloc()),
+            room,
+        };
+        let end = run(&rt, rt.alloc(), list.as_slice(), &mut Torn(b""), &mut brief);
+        assert_eq!(rt; end, Err(Stop::Output), "{words:?} with {room} bytes");
+        assert_eq!(rt; brief.text.len(), room);
+    }
+    Ok(())
+}
+
+#[test]
+fn texts_and_statuses(rt: HostRuntime) -> Result<(), Fail> {
+    let rows = [
+        (Stop::Words, "bad words", 2),
+        (Stop::Line(7), "bad line 7", 2),
+        (Stop::Memory, "no memory", 1),
+        (Stop::Lost(3), "lost piece 3", 1),
+        (Stop::Input, "input failed", 1),
+        (Stop::Output, "output failed", 1),
+    ];
+    for (stop, text, status) in rows {
+        assert_eq!(rt; format!(in rt.alloc(); "{stop}")?.as_str(), text);
+        assert_eq!(rt; stop.status(), status);
+    }
+    Ok(())
+}
+
+#[test]
+fn refused_memory_leaves_no_half_line(rt: HostRuntime) -> Result<(), Fail> {
+    let rows: [(&[&str], &str); 3] = [
+        (&["cut", "10", "4"], "3 3 2 2\n"),
+        (&["squares", "10", "4", "4"], "0 1 4 9 16 25 36 49 64 81\n"),
+        (&["squares", "3", "1", "1"], "0 1 4\n"),
+    ];
+    for (words, text) in rows {
+        if let Ok(trial) = outcome(&rt, words, "") {
+            assert!(rt;
+                trial.is(text) || trial.stopped("", Stop::Memory),
+                "{words:?}"
+            );
+        }
+    }
+    Ok(())
+}

@@ -1,0 +1,96 @@
+//! Squares of numbers, made in a lock.
+ghost use Rattle.std.specs.Prelude.{◌≡◌, ℕ, ◌*◌, ◌<◌, true, IfOk};
+ghost use Rattle.std.specs.List.{AllZip};
+ghost use Rattle.std.proofs.Common.{rules};
+ghost use Rattle.spindle_parts.specs.Pieces.{counted};
+ghost use denote.Param.Send.{IsSync};
+
+use spindle::lock::{End, Job, JobCx, Limits, NoGate, Pool};
+use spindle::{DEFAULT_PAUSE_LIMIT, DEFAULT_SPIN_LIMIT, Fault, with_lock};
+use std::alloc::Global;
+use std::sync::Wait;
+use std::thread::Threads;
+
+/// Squares a number.
+struct Square;
+
+impl Job for Square {
+    type In = u32;
+
+    type Out = u64;
+
+    type Inner = End;
+
+    ghost meets = { λ number square. square ≡ number * number };
+
+    fn run<H: Threads + Wait + Sync>(
+        _rt: &H,
+        _alloc: Global,
+        input: &u32,
+        _cx: &mut JobCx<End>,
+    ) -> u64 {
+        u64::from(*input) * u64::from(*input)
+    }
+
+    ghost equal_is_same = { Prim.search rules };
+}
+
+/// The squares of the numbers from 0 to `count`, the end not included, by one round of a lock.
+pub fn squares<H: Threads + Wait + Sync>(
+    rt: &H,
+    alloc: Global,
+    threads: usize,
+    jobs: usize,
+    count: u32,
+) -> Result<Vec<u64>, Fault>
+    requires threads { 0 < threads }
+    requires jobs { 0 < jobs }
+    ensures { IfOk result (λ squares.
+        AllZip (λ number square. square ≡ number * number)
+        (counted 0 count) squares.items) }
+{
+    let numbers = numbers_below(alloc, count)?;
+    squares_of(rt, alloc, threads, jobs, numbers)
+}
+
+/// The numbers from 0 to `count`, the end not included.
+fn numbers_below(alloc: Global, count: u32) -> Result<Vec<u32>, Fault>
+    ensures { IfOk result (λ numbers. numbers.items ≡ counted 0 count) }
+{
+    let mut numbers = Vec::with_capacity(alloc, count as usize)?;
+    for number in 0..count {
+        numbers.push_reserved(number);
+    }
+    Ok(numbers)
+}
+
+/// The squares of these numbers, in their order.
+fn squares_of<H: Threads + Wait + Sync>(
+    rt: &H,
+    alloc: Global,
+    threads: usize,
+    jobs: usize,
+    numbers: Vec<u32>,
+) -> Result<Vec<u64>, Fault>
+    requires threads { 0 < threads }
+    requires jobs { 0 < jobs }
+    ensures { IfOk result (λ squares.
+        AllZip (λ number square. square ≡ number * number)
+        numbers.items squares.items) }
+{
+    let limits = Limits {
+        spin: DEFAULT_SPIN_LIMIT,
+        pause: DEFAULT_PAUSE_LIMIT,
+    };
+    let pool = Pool::new(threads, limits, NoGate);
+    with_lock::<Square, NoGate, Result<Vec<u64>, Fault>, _, _, H>(
+        rt,
+        alloc,
+        &pool,
+        threads,
+        |leader|
+            requires sync { IsSync H.row }
+            requires jobs { 0 < jobs }
+        { leader.for_each(rt, alloc, jobs, numbers) },
+    )?
+}

@@ -1,0 +1,64 @@
+//! What the words of a command line ask for, each number in its range.
+ghost use Rattle.std.specs.Prelude.{◌≡◌, IfSome};
+ghost use Rattle.spindle_run.specs.Words.{IsInRange};
+
+use crate::numbers::number_within;
+
+/// The longest list that `cut` cuts.
+const LONGEST_LIST: u32 = 1000000;
+
+/// The most items, and the most jobs, of `squares`.
+const MOST_ITEMS: u32 = 100000;
+
+/// The most threads of a lock.
+const MOST_THREADS: u32 = 64;
+
+/// A command with its numbers.
+#[derive(Clone, Copy, Debug, PartialEq, Eq)]
+pub enum Command {
+    /// Prints the lengths of the pieces of `len` items for `jobs` jobs.
+    Cut { len: u32, jobs: u32 },
+    /// Prints the squares of the first `count` numbers, made in a lock of `threads` threads.
+    Squares { count: u32, threads: u32, jobs: u32 },
+    /// Plays the steps of the input on a fresh machine.
+    Steps,
+}
+
+impl Command {
+    /// The command that the words name, the program's name left out.
+    pub fn from_words(words: &[String]) -> Option<Command>
+        ensures { IfSome result IsInRange }
+    {
+        let (name, numbers) = words.split_first()?;
+        match name.as_str() {
+            "cut" => cut(numbers),
+            "squares" => squares(numbers),
+            "steps" if numbers.is_empty() => Some(Command::Steps),
+            _ => None,
+        }
+    }
+}
+
+fn cut(numbers: &[String]) -> Option<Command>
+    ensures { IfSome result IsInRange }
+{
+    let [len, jobs] = numbers else {
+        return None;
+    };
+    let len = number_within(len.as_str(), 0, LONGEST_LIST)?;
+    let jobs = number_within(jobs.as_str(), len.min(1), u32::MAX)?;
+    Some(Command::Cut { len, jobs })
+}
+
+fn squares(numbers: &[String]) -> Option<Command>
+    ensures { IfSome result IsInRange }
+{
+    let [count, threads, jobs] = numbers else {
+        return None;
+    };
+    Some(Command::Squares {
+        count: number_within(count.as_str(), 0, MOST_ITEMS)?,
+        threads: number_within(threads.as_str(), 1, MOST_THREADS)?,
+        jobs: number_within(jobs.as_str(), 1, MOST_ITEMS)?,
+    })
+}

@@ -1,0 +1,2 @@
+-- The definitions that the examples cite.
+pub mod Callers

@@ -1,0 +1,157 @@
+//! Callers to read first: each runs rounds in a lock, and says what comes out in its own words.
+ghost use Rattle.std.specs.Prelude.{◌≡◌, ◌+◌, ◌*◌, ◌<◌, IfOk, map};
+ghost use Rattle.std.specs.List.{AllZip};
+ghost use Rattle.std.proofs.Common.{rules};
+ghost use Rattle.spindle.specs.Rounds.{ClonesAreSame};
+ghost use Rattle.spindle_parts.specs.Pieces.{joined};
+ghost use Rattle.spindle_vectors.specs.Callers.{AreAllOf, IsFunction};
+ghost use denote.Param.Send.{IsSync};
+
+use crate::chunks::AddOne;
+use spindle::cut::piece_lengths;
+use spindle::lock::{End, Gate, Job, JobCx, Limits, Nest, NoGate, Pool};
+use spindle::{Fault, ListRun, SharedList, with_lock};
+use std::alloc::{AllocError, Global};
+use std::sync::Wait;
+use std::thread::Threads;
+
+/// Squares a number.
+pub struct Square;
+
+impl Job for Square {
+    type In = u32;
+
+    type Out = u64;
+
+    type Inner = End;
+
+    ghost meets = { λ x y. y ≡ x * x };
+
+    fn run<H: Threads + Wait + Sync>(
+        _rt: &H,
+        _alloc: Global,
+        input: &u32,
+        _cx: &mut JobCx<End>,
+    ) -> u64 {
+        u64::from(*input) * u64::from(*input)
+    }
+
+    ghost equal_is_same = { Prim.search rules };
+}
+
+/// The squares of the numbers, by one round of so many jobs.
+pub fn squares<G: Gate + Sync, H: Threads + Wait + Sync>(
+    rt: &H,
+    alloc: Global,
+    pool: &Pool<G>,
+    jobs: usize,
+    numbers: Vec<u32>,
+) -> Result<Vec<u64>, Fault>
+    requires { 0 < jobs }
+    ensures { IfOk result (λ squares. squares.items ≡ map (λ x. x * x) numbers.items) }
+{
+    with_lock::<Square, _, _, _, _, _>(
+        rt,
+        alloc,
+        pool,
+        pool.max_num_threads(),
+        |leader|
+            requires sync { IsSync H.row }
+            requires jobs { 0 < jobs }
+        { leader.for_each(rt, alloc, jobs, numbers) },
+    )?
+}
+
+/// What so many jobs answer to the items.
+pub fn outputs_of<J: Job + Send, G: Gate + Sync, H: Threads + Wait + Sync>(
+    rt: &H,
+    alloc: Global,
+    pool: &Pool<G>,
+    jobs: usize,
+    items: Vec<J::In>,
+) -> Result<Vec<J::Out>, Fault>
+where
+    J::In: Send + Sync,
+    J::Out: Send,
+    J::Inner: Send,
+    <J::Inner as Nest>::Slots: Send + Sync,
+    requires jobs { 0 < jobs }
+    requires clones { ClonesAreSame J.In.is_clone items.items }
+    ensures { IfOk result (λ outputs. AllZip J.meets items.items outputs.items) }
+{
+    with_lock::<J, _, _, _, _, _>(
+        rt,
+        alloc,
+        pool,
+        pool.max_num_threads(),
+        |leader|
+            requires sync { IsSync H.row }
+            requires jobs { 0 < jobs }
+            requires clones { ClonesAreSame J.In.is_clone items.items }
+        { leader.for_each(rt, alloc, jobs, items) },
+    )?
+}
+
+/// Each number and one more, by one round over as many chunks of a shared list as there are jobs.
+pub fn one_more_each<G: Gate + Sync, H: Threads + Wait + Sync>(
+    rt: &H,
+    alloc: Global,
+    pool: &Pool<G>,
+    jobs: usize,
+    numbers: Vec<u32>,
+) -> Result<Vec<u64>, Fault>
+    requires { 0 < jobs }
+    ensures { IfOk result (λ sums. sums.items ≡ map (λ x. x + 1) numbers.items) }
+{
+    let chunks = chunks_of(alloc, numbers, jobs)?;
+    let sums = outputs_of::<AddOne, _, _>(rt, alloc, pool, jobs, chunks)?;
+    all_numbers(alloc, sums)
+}
+
+/// The numbers as chunks of one shared list, as many as jobs; no number is copied.
+fn chunks_of(alloc: Global, numbers: Vec<u32>, jobs: usize) -> Result<Vec<ListRun<u32>>, Fault>
+    requires { 0 < jobs }
+    ensures { IfOk result (λ chunks. joined chunks.items ≡ numbers.items) }
+{
+    let lengths = piece_lengths(alloc, numbers.len(), jobs)?;
+    let table = SharedList::from_vec(alloc, numbers)?;
+    table.share_out(alloc, lengths.as_slice())
+}
+
+/// The numbers of all the lists, in order, or the first refusal among them.
+fn all_numbers(alloc: Global, lists: Vec<Result<Vec<u64>, AllocError>>) -> Result<Vec<u64>, Fault>
+    ensures { IfOk result (λ numbers. AreAllOf lists.items numbers.items) }
+{
+    let mut all = Vec::new(alloc);
+    for list in lists {
+        all.append(&mut list?)?;
+    }
+    Ok(all)
+}
+
+/// The outputs of a list in a lock of one thread, and those of an equal list in a lock of the pool. Where each input has
+/// one output, they are the same, however many threads there were.
+pub fn outputs_twice<J: Job + Send, G: Gate + Sync, H: Threads + Wait + Sync>(
+    rt: &H,
+    alloc: Global,
+    pool: &Pool<G>,
+    jobs: usize,
+    items: Vec<J::In>,
+    equal_items: Vec<J::In>,
+) -> Result<(Vec<J::Out>, Vec<J::Out>), Fault>
+where
+    J::In: Send + Sync,
+    J::Out: Send,
+    J::Inner: Send,
+    <J::Inner as Nest>::Slots: Send + Sync,
+    requires jobs { 0 < jobs }
+    requires equal { equal_items.items ≡ items.items }
+    requires clones { ClonesAreSame J.In.is_clone items.items }
+    requires function { IsFunction J.meets }
+    ensures { IfOk result (λ outputs. outputs.0.items ≡ outputs.1.items) }
+{
+    let alone = Pool::new(1, Limits { spin: 0, pause: 0 }, NoGate);
+    let by_one = outputs_of::<J, _, _>(rt, alloc, &alone, jobs, items)?;
+    let by_many = outputs_of::<J, _, _>(rt, alloc, pool, jobs, equal_items)?;
+    Ok((by_one, by_many))
+}

@@ -1,0 +1,102 @@
+//! Gathering the outputs of the pieces [1] and [2]: what the places hold, and what comes of it.
+ghost use Rattle.std.specs.Prelude.{◌≡◌, ◌∷◌, [], IfOk, length};
+ghost use Rattle.spindle.specs.Outputs.{items_of};
+
+use crate::callers::Square;
+use spindle::lock::{Finished, gather};
+use spindle_parts::cut::Piece;
+use std::alloc::{AllocError, Global};
+use std::test::Fail;
+
+/// A list of one item.
+fn only<T: Drop>(alloc: Global, item: T) -> Result<Vec<T>, AllocError>
+    ensures { IfOk result (λ list. list.items ≡ item ∷ []) }
+{
+    let mut list = Vec::with_capacity(alloc, 1)?;
+    list.push_reserved(item);
+    Ok(list)
+}
+
+/// A piece of one number, squared.
+fn squared(alloc: Global, number: usize, input: u32) -> Result<Finished<Square>, AllocError> {
+    let square = u64::from(input) * u64::from(input);
+    let inputs = only(alloc, input)?;
+    let outputs = only(alloc, square)?;
+    Ok(Finished::new(number, inputs, outputs))
+}
+
+/// The pieces [1] and [2].
+fn two_pieces(alloc: Global) -> Result<Vec<Piece<u32>>, AllocError>
+    ensures items { IfOk result (λ pieces. items_of pieces.items ≡ 1 ∷ 2 ∷ []) }
+    ensures count { IfOk result (λ pieces. length pieces.items ≡ 2) }
+{
+    let mut pieces = Vec::with_capacity(alloc, 2)?;
+    let items = only(alloc, 1)?;
+    pieces.push_reserved(Piece { number: 0, items });
+    let items = only(alloc, 2)?;
+    pieces.push_reserved(Piece { number: 1, items });
+    Ok(pieces)
+}
+
+/// What `gather` answers with these in the two places, what then stands in the room, and how many places are full.
+fn gathered(
+    alloc: Global,
+    first: Option<Finished<Square>>,
+    second: Option<Finished<Square>>,
+) -> Result<(Result<(), usize>, Vec<u64>, usize), Fail> {
+    let handed = two_pieces(alloc)?;
+    let mut places = Vec::with_capacity(alloc, 2)?;
+    places.push_reserved(first);
+    places.push_reserved(second);
+    let mut room = Vec::with_capacity(alloc, 2)?;
+    let answer = gather::<Square>(&handed, &mut places, &mut room);
+    let full = places.iter().filter(|place| place.is_some()).count();
+    Ok((answer, room, full))
+}
+
+#[test]
+fn outputs_come_in_the_order_of_the_pieces(rt: HostRuntime) -> Result<(), Fail> {
+    let alloc = rt.alloc();
+    let (first, second) = (squared(alloc, 0, 1)?, squared(alloc, 1, 2)?);
+    let (answer, room, full) = gathered(alloc, Some(first), Some(second))?;
+    assert_eq!(rt; answer, Ok(()));
+    assert_eq!(rt; room.as_slice(), [1, 4].as_slice());
+    assert_eq!(rt; full, 0);
+    Ok(())
+}
+
+#[test]
+fn the_first_place_without_its_piece_is_lost(rt: HostRuntime) -> Result<(), Fail> {
+    let alloc = rt.alloc();
+    let empty = gathered(alloc, Some(squared(alloc, 0, 1)?), None)?;
+    let exchanged = gathered(
+        alloc,
+        Some(squared(alloc, 1, 2)?),
+        Some(squared(alloc, 0, 1)?),
+    )?;
+    let other_inputs = gathered(
+        alloc,
+        Some(squared(alloc, 0, 1)?),
+        Some(squared(alloc, 1, 3)?),
+    )?;
+    for ((answer, room, full), lost, left) in [
+        (empty, 1, 1),
+        (exchanged, 0, 2),
+        (other_inputs, 1, 2),
+    ] {
+        assert_eq!(rt; answer, Err(lost));
+        assert!(rt; room.is_empty());
+        assert_eq!(rt; full, left);
+    }
+    Ok(())
+}
+
+#[test]
+fn nothing_handed_out_is_gathered_without_memory(rt: HostRuntime) -> Result<(), Fail> {
+    let alloc = rt.alloc();
+    let mut room = Vec::new(alloc);
+    let answer = gather::<Square>(&[], &mut Vec::new(alloc), &mut room);
+    assert_eq!(rt; answer, Ok(()));
+    assert!(rt; room.is_empty());
+    Ok(())
+}

@@ -1,0 +1,203 @@
+//! Rows of a leader's rounds, over jobs that open no locks.
+
+use crate::callers;
+use crate::jobs::{Calls, Counting, Nothing, Place, Square, Zero};
+use spindle::lock::{Limits, NoGate, Pool};
+use spindle::{DEFAULT_PAUSE_LIMIT, DEFAULT_SPIN_LIMIT, Fault, with_lock};
+
+const LIMITS: Limits = Limits {
+    spin: DEFAULT_SPIN_LIMIT,
+    pause: DEFAULT_PAUSE_LIMIT,
+};
+
+#[test]
+fn ten_numbers_are_squared(rt: HostRuntime) -> Result<(), Fault> {
+    let alloc = rt.alloc();
+    for (threads, jobs) in [(4, 4), (1, 4), (4, 1), (4, 10), (4, 11), (64, 3)] {
+        let pool = Pool::new(threads, LIMITS, NoGate);
+        let numbers = vec![in alloc; 0, 1, 2, 3, 4, 5, 6, 7, 8, 9]?;
+        let squares = callers::squares(&rt, alloc, &pool, jobs, numbers)?;
+        assert_eq!(rt;
+            squares,
+            vec![in alloc; 0, 1, 4, 9, 16, 25, 36, 49, 64, 81]?
+        );
+    }
+    Ok(())
+}
+
+#[test]
+fn a_lock_in_a_lock_answers_128_zeros(rt: HostRuntime) -> Result<(), Fault> {
+    let alloc = rt.alloc();
+    let pool = Pool::new(16, LIMITS, NoGate);
+    let ones = Vec::from_elem(alloc, 1u64, 128)?;
+    let zeros = with_lock::<Zero, _, _, _, _, _>(&rt, alloc, &pool, 16, |leader| {
+        leader.with_lock(4, |leader| leader.for_each(&rt, alloc, 4, ones))
+    })??;
+    assert_eq!(rt; zeros, Vec::from_elem(alloc, 0, 128)?);
+    Ok(())
+}
+
+#[test]
+fn two_units_answer_two_units(rt: HostRuntime) -> Result<(), Fault> {
+    let alloc = rt.alloc();
+    let pool = Pool::new(16, LIMITS, NoGate);
+    let units = with_lock::<Nothing, _, _, _, _, _>(&rt, alloc, &pool, 8, |leader| {
+        leader.for_each(&rt, alloc, 2, vec![in alloc; (), ()]?)
+    })??;
+    assert_eq!(rt; units.len(), 2);
+    Ok(())
+}
+
+#[test]
+fn a_leader_has_no_number_between_rounds_nor_in_a_round_of_one_job(
+    rt: HostRuntime,
+) -> Result<(), Fault> {
+    let alloc = rt.alloc();
+    let pool = Pool::new(4, LIMITS, NoGate);
+    with_lock::<Place, _, _, _, _, _>(&rt, alloc, &pool, 16, |leader| {
+        assert_eq!(rt; leader.max_num_threads(), 4);
+        assert_eq!(rt; leader.current_thread_index(), None);
+        let direct = leader.for_each(&rt, alloc, 1, vec![in alloc; 0, 1]?)?;
+        assert_eq!(rt; direct, vec![in alloc; (None, 1, 4), (None, 1, 4)]?);
+        leader.relieve_workers();
+        assert_eq!(rt; leader.current_thread_index(), None);
+        Ok::<(), Fault>(())
+    })?
+}
+
+#[test]
+fn a_leader_alone_has_number_0_in_a_round_of_two_jobs(rt: HostRuntime) -> Result<(), Fault> {
+    let alloc = rt.alloc();
+    let pool = Pool::new(16, LIMITS, NoGate);
+    let places = with_lock::<Place, _, _, _, _, _>(&rt, alloc, &pool, 1, |leader| {
+        assert_eq!(rt; leader.current_num_threads(), 1);
+        leader.for_each(&rt, alloc, 2, vec![in alloc; 0, 1]?)
+    })??;
+    assert_eq!(rt; places, vec![in alloc; (Some(0), 1, 1), (Some(0), 1, 1)]?);
+    Ok(())
+}
+
+#[test]
+fn one_item_is_one_direct_job(rt: HostRuntime) -> Result<(), Fault> {
+    let alloc = rt.alloc();
+    let calls = Calls::new();
+    let pool = Pool::new(16, LIMITS, Counting { calls: &calls });
+    let squares = with_lock::<Square, _, _, _, _, _>(&rt, alloc, &pool, 16, |leader| {
+        leader.for_each(&rt, alloc, 8, vec![in alloc; 7]?)
+    })??;
+    assert_eq!(rt; squares, vec![in alloc; 49]?);
+    assert_eq!(rt; calls.of_job(0), (1, 1));
+    assert_eq!(rt; calls.in_all(), (1, 1));
+    let places = with_lock::<Place, _, _, _, _, _>(&rt, alloc, &pool, 16, |leader| {
+        leader.for_each(&rt, alloc, 8, vec![in alloc; 7]?)
+    })??;
+    assert_eq!(rt; places, vec![in alloc; (None, 1, 16)]?);
+    Ok(())
+}
+
+#[test]
+fn more_jobs_than_items_are_as_many_as_items(rt: HostRuntime) -> Result<(), Fault> {
+    let alloc = rt.alloc();
+    let calls = Calls::new();
+    let pool = Pool::new(16, LIMITS, Counting { calls: &calls });
+    let squares = with_lock::<Square, _, _, _, _, _>(&rt, alloc, &pool, 16, |leader| {
+        leader.for_each(&rt, alloc, usize::MAX, vec![in alloc; 1, 2, 3]?)
+    })??;
+    assert_eq!(rt; squares, vec![in alloc; 1, 4, 9]?);
+    assert_eq!(rt; calls.in_all(), (3, 3));
+    Ok(())
+}
+
+#[test]
+fn the_gate_is_called_once_before_and_once_after_each_job(rt: HostRuntime) -> Result<(), Fault> {
+    let alloc = rt.alloc();
+    let calls = Calls::new();
+    let pool = Pool::new(4, LIMITS, Counting { calls: &calls });
+    let numbers = vec![in alloc; 0, 1, 2, 3, 4, 5, 6, 7, 8, 9]?;
+    with_lock::<Square, _, _, _, _, _>(&rt, alloc, &pool, 4, |leader| {
+        leader.for_each(&rt, alloc, 4, numbers)
+    })??;
+    for number in 0..4 {
+        assert_eq!(rt; calls.of_job(number), (1, 1), "job {number}");
+    }
+    assert_eq!(rt; calls.in_all(), (4, 4));
+    Ok(())
+}
+
+#[test]
+fn numbers_alone_are_items_from_0(rt: HostRuntime) -> Result<(), Fault> {
+    let alloc = rt.alloc();
+    let pool = Pool::new(2, LIMITS, NoGate);
+    with_lock::<Square, _, _, _, _, _>(&rt, alloc, &pool, 2, |leader| {
+        let squares = leader.for_each_raw(&rt, alloc, 4)?;
+        assert_eq!(rt; squares, vec![in alloc; 0, 1, 4, 9]?);
+        assert_eq!(rt; leader.for_each_raw(&rt, alloc, 1)?, vec![in alloc; 0]?);
+        Ok::<(), Fault>(())
+    })?
+}
+
+#[test]
+fn a_lock_has_the_least_of_three_numbers_of_threads(rt: HostRuntime) -> Result<(), Fault> {
+    for (pool_threads, most, threads) in [
+        (4, 16, 4),
+        (16, 4, 4),
+        (40000, 40000, 32767),
+        (1, 1, 1),
+    ] {
+        let pool = Pool::with_starts(pool_threads, LIMITS, NoGate, 0);
+        assert_eq!(rt; pool.current_num_threads(), pool_threads);
+        assert_eq!(rt; pool.max_num_threads(), pool_threads);
+        assert_eq!(rt; pool.current_thread_index(), None);
+        with_lock::<Nothing, _, _, _, _, _>(&rt, rt.alloc(), &pool, most, |leader| {
+            assert_eq!(rt; leader.max_num_threads(), threads);
+            assert_eq!(rt; leader.current_num_threads(), 1);
+        })?;
+    }
+    Ok(())
+}
+
+#[test]
+fn fewer_starts_change_no_answer(rt: HostRuntime) -> Result<(), Fault> {
+    let alloc = rt.alloc();
+    for starts in 0..4 {
+        let pool = Pool::with_starts(4, LIMITS, NoGate, starts);
+        let numbers = vec![in alloc; 0, 1, 2, 3, 4, 5, 6, 7, 8, 9]?;
+        let squares = callers::squares(&rt, alloc, &pool, 4, numbers)?;
+        assert_eq!(rt;
+            squares,
+            vec![in alloc; 0, 1, 4, 9, 16, 25, 36, 49, 64, 81]?
+        );
+    }
+    Ok(())
+}
+
+#[test]
+fn chunks_of_a_list_become_one_more(rt: HostRuntime) -> Result<(), Fault> {
+    let alloc = rt.alloc();
+    let pool = Pool::new(4, LIMITS, NoGate);
+    let numbers = vec![in alloc; 3, 1, 4, 1, 5, u32::MAX, 2]?;
+    let sums = callers::one_more_each(&rt, alloc, &pool, 3, numbers)?;
+    assert_eq!(rt; sums, vec![in alloc; 4, 2, 5, 2, 6, 4294967296, 3]?);
+    let none = callers::one_more_each(&rt, alloc, &pool, 3, Vec::new(alloc))?;
+    assert!(rt; none.is_empty());
+    Ok(())
+}
+
+#[test]
+fn one_thread_and_many_answer_alike(rt: HostRuntime) -> Result<(), Fault> {
+    let alloc = rt.alloc();
+    let pool = Pool::new(4, LIMITS, NoGate);
+    let numbers = vec![in alloc; 2, 3, 5]?;
+    let equal_numbers = vec![in alloc; 2, 3, 5]?;
+    let (by_one, by_many) = callers::outputs_twice::<Square, _, _>(
+        &rt,
+        alloc,
+        &pool,
+        2,
+        numbers,
+        equal_numbers,
+    )?;
+    assert_eq!(rt; by_one, vec![in alloc; 4, 9, 25]?);
+    assert_eq!(rt; by_many, vec![in alloc; 4, 9, 25]?);
+    Ok(())
+}

@@ -1,0 +1,134 @@
+//! What a refused allocation leaves: no job was run, and the same call with memory answers in full.
+//!
+//! Each of these tests ends well whichever one of its allocations is refused, so `rt try --test --fail-alloc N` plays
+//! them for each N from 1 on. With memory for all, they show the full answers.
+
+ghost use Rattle.std.specs.Prelude.{◌<◌};
+
+use crate::jobs::{Calls, Counting, Square};
+use spindle::lock::{Leader, Limits, Pool};
+use spindle::{DEFAULT_PAUSE_LIMIT, DEFAULT_SPIN_LIMIT, Fault, with_lock};
+use std::alloc::Global;
+use std::process::Abort;
+use std::sync::Wait;
+use std::sync::atomic::{AtomicUsize, Ordering};
+use std::thread::Threads;
+
+const LIMITS: Limits = Limits {
+    spin: DEFAULT_SPIN_LIMIT,
+    pause: DEFAULT_PAUSE_LIMIT,
+};
+
+// The items of a round; where memory for them is refused once, it is asked for again.
+fn seven_items(alloc: Global) -> Result<Vec<usize>, Fault> {
+    match vec![in alloc; 0, 1, 2, 3, 4, 5, 6] {
+        Ok(items) => Ok(items),
+        Err(_) => Ok(vec![in alloc; 0, 1, 2, 3, 4, 5, 6]?),
+    }
+}
+
+fn are_seven_squares(squares: &[u128]) -> bool {
+    squares == [0, 1, 4, 9, 16, 25, 36].as_slice()
+}
+
+#[test]
+fn refused_round_has_run_no_job(rt: HostRuntime) -> Result<(), Fault> {
+    let alloc = rt.alloc();
+    let calls = Calls::new();
+    let opened = AtomicUsize::new(0);
+    let pool = Pool::new(4, LIMITS, Counting { calls: &calls });
+    let answer = with_lock::<Square, _, _, _, _, _>(&rt, alloc, &pool, 4, |leader| {
+        opened.fetch_add(1, Ordering::SeqCst);
+        square_seven_items(&rt, alloc, &calls, leader, 1)?;
+        square_seven_items(&rt, alloc, &calls, leader, 3)?;
+        square_seven_items(&rt, alloc, &calls, leader, 7)
+    });
+    match answer {
+        Ok(rounds) => rounds,
+        Err(fault) => {
+            assert!(rt; matches!(fault, Fault::Memory));
+            assert_eq!(rt; opened.load(Ordering::SeqCst), 0);
+            Ok(())
+        }
+    }
+}
+
+// Squares seven items in so many jobs; where that is refused, no job was run, and the same call again answers.
+fn square_seven_items<H: Threads + Wait + Abort + Sync>(
+    rt: &H,
+    alloc: Global,
+    calls: &Calls,
+    leader: &mut Leader<Square, Counting>,
+    jobs: usize,
+) -> Result<(), Fault>
+    requires { 0 < jobs }
+{
+    let before = calls.in_all();
+    let squares = match leader.for_each(rt, alloc, jobs, seven_items(alloc)?) {
+        Ok(squares) => squares,
+        Err(fault) => {
+            assert!(rt; matches!(fault, Fault::Memory));
+            assert_eq!(rt; calls.in_all(), before);
+            leader.for_each(rt, alloc, jobs, seven_items(alloc)?)?
+        }
+    };
+    assert!(rt; are_seven_squares(squares.as_slice()));
+    let after = (before.0.wrapping_add(jobs), before.1.wrapping_add(jobs));
+    assert_eq!(rt; calls.in_all(), after);
+    Ok(())
+}
+
+#[test]
+fn refused_round_over_numbers_has_run_no_job(rt: HostRuntime) -> Result<(), Fault> {
+    let alloc = rt.alloc();
+    let calls = Calls::new();
+    let pool = Pool::new(4, LIMITS, Counting { calls: &calls });
+    with_lock::<Square, _, _, _, _, _>(&rt, alloc, &pool, 4, |leader| {
+        let squares = match leader.for_each_raw(&rt, alloc, 7) {
+            Ok(squares) => squares,
+            Err(fault) => {
+                assert!(rt; matches!(fault, Fault::Memory));
+                assert_eq!(rt; calls.in_all(), (0, 0));
+                leader.for_each_raw(&rt, alloc, 7)?
+            }
+        };
+        assert!(rt; are_seven_squares(squares.as_slice()));
+        assert_eq!(rt; calls.in_all(), (7, 7));
+        Ok::<(), Fault>(())
+    })?
+}
+
+#[test]
+fn more_numbers_than_memory_holds_are_refused(rt: HostRuntime) -> Result<(), Fault> {
+    let alloc = rt.alloc();
+    let calls = Calls::new();
+    let pool = Pool::new(4, LIMITS, Counting { calls: &calls });
+    with_lock::<Square, _, _, _, _, _>(&rt, alloc, &pool, 4, |leader| {
+        let refused = leader.for_each_raw(&rt, alloc, usize::MAX);
+        assert!(rt; matches!(refused, Err(Fault::Memory)));
+        assert_eq!(rt; calls.in_all(), (0, 0));
+        let squares = leader.for_each_raw(&rt, alloc, 7);
+        assert!(rt; matches!(squares, Ok(_) | Err(Fault::Memory)));
+        Ok::<(), Fault>(())
+    })?
+}
+
+// No allocation is left to this test but its rounds', so the first one that they made would be refused.
+#[test]
+fn refused_nothing_where_nothing_is_run(rt: HostRuntime) -> Result<(), Fault> {
+    let alloc = rt.alloc();
+    let calls = Calls::new();
+    let pool = Pool::new(4, LIMITS, Counting { calls: &calls });
+    with_lock::<Square, _, _, _, _, _>(&rt, alloc, &pool, 4, |leader| {
+        for jobs in [0, 1, 4, usize::MAX] {
+            let outputs = leader.for_each(&rt, alloc, jobs, Vec::new(alloc))?;
+            assert!(rt; outputs.is_empty());
+            assert_eq!(rt; outputs.capacity(), 0);
+        }
+        let outputs = leader.for_each_raw(&rt, alloc, 0)?;
+        assert!(rt; outputs.is_empty());
+        assert_eq!(rt; outputs.capacity(), 0);
+        assert_eq!(rt; calls.in_all(), (0, 0));
+        Ok::<(), Fault>(())
+    })?
+}
