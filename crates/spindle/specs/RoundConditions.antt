@@ -93,3 +93,7 @@ IsClosing v = (q : ℕ) × (member was : Bool) × (read : Option ℕ) × (v.stan
 -- and it has cleared it
 abbrev pub HasCleared : {N : Type 0} → View N → Type 0
 HasCleared v = (q : ℕ) × (member : Bool) × (read : Option ℕ) × (v.standing ≡ Closing q member true read)
+
+-- it has nothing to finish, and no number left in its share
+abbrev pub IsIdleSeat : {N : Type 0} → View N → Type 0
+IsIdleSeat v = (v.claim ≡ None) × (v.to ≤ v.from)

@@ -14,6 +14,8 @@ pub mod ending;
 pub mod joining;
 pub mod leaving;
 pub mod steps;
+#[cfg(test)]
+mod tests;
 pub mod waiting;
 
 /// The most parties of a barrier (`MASK` of spindle).
