@@ -3,8 +3,8 @@ use Rattle.std.proofs.Common.{arith, ◌∙◌, ap, sym, subst}
 use Rattle.spindle.specs.RoundSlots.{bare}
 use Rattle.spindle.specs.RoundViews.{Onward}
 use Rattle.spindle.proofs.RoundClients.{onward_then, share_next}
-use Rattle.spindle.proofs.round.tests.spend.Goals as goal
-use Rattle.spindle.proofs.round.tests.spend.Goals.{in-Some, in-None}
+use Rattle.spindle.proofs.round.tests.play.spend.Goals as goal
+use Rattle.spindle.proofs.round.tests.play.spend.Goals.{in-Some, in-None}
 
 pub loop-i-preserved : goal.loop-i-preserved
 loop-i-preserved c = let f = c.loop-i.invariant in let v = c.args.seat.now.me.0 in let a = c.loop-i.seat.me in let b = c.next_of_share.new.seat.me in let free = c.requires.free in let here = f.from in let end_is = f.to in

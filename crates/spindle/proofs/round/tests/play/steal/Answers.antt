@@ -3,7 +3,7 @@ use Rattle.std.proofs.Common.{◌∙◌}
 use Rattle.spindle.specs.declared.round.claim.Steal.TheVariants as steal
 use Rattle.spindle.specs.RoundSlots.{bare}
 use Rattle.spindle.proofs.RoundClients.{onward_then, stolen, claims_again}
-use Rattle.spindle.proofs.round.tests.steal.Goals as goal
+use Rattle.spindle.proofs.round.tests.play.steal.Goals as goal
 
 pub finish-number-requires-clause-own : goal.finish-number-requires-clause-own
 finish-number-requires-clause-own c = (stolen bare c.args.seat.now.me c.try_steal.new.seat.me c.requires.free _ (steal.Job _ _) c.in-Job.ensures.step).2

@@ -2,7 +2,7 @@
 use Rattle.std.proofs.Common.{arith, ◌∙◌, false}
 use Rattle.spindle.specs.RoundSlots.{bare}
 use Rattle.spindle.proofs.RoundClients.{filled_round, round_published, may_claim}
-use Rattle.spindle.proofs.round.tests.lead.Goals as goal
+use Rattle.spindle.proofs.round.tests.play.lead.Goals as goal
 
 pub returns-clause-free : goal.returns-clause-free
 returns-clause-free c = let v = c.args.seat.now.me.0 in let l = c.requires.leads in let f = filled_round bare _ c.args.jobs l.0.0 v c.fill.new.seat.me.0 l.0.1 l.1 tt c.fill.ensures.filled in

@@ -2,7 +2,7 @@
 use Rattle.std.proofs.Common.{◌≡◌, ℕ, ◌≤◌, None}
 use Rattle.spindle.specs.RoundConditions.{MayBegin, IsItsShare}
 use Rattle.spindle.specs.RoundViews.{Onward, SeesAsBefore}
-use Rattle.spindle.proofs.round.tests.spend.Given as goal
+use Rattle.spindle.proofs.round.tests.play.spend.Given as goal
 
 abbrev pub invariant-loop-i : goal.invariant-loop-i
 invariant-loop-i l = record {

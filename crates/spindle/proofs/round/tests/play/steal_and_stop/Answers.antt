@@ -4,7 +4,7 @@ use Rattle.spindle.specs.declared.round.claim.Steal.TheVariants as steal
 use Rattle.spindle.specs.RoundConditions.{IsItsShare, MayPutBack}
 use Rattle.spindle.specs.RoundSlots.{bare}
 use Rattle.spindle.proofs.RoundClients.{stolen, stop_done, share_put}
-use Rattle.spindle.proofs.round.tests.steal_and_stop.Goals as goal
+use Rattle.spindle.proofs.round.tests.play.steal_and_stop.Goals as goal
 
 pub stop-requires-clause-own : goal.stop-requires-clause-own
 stop-requires-clause-own c = let a = stolen bare c.args.seat.now.me c.try_steal.new.seat.me c.requires.free _ (steal.Job _ _) c.in-Job.ensures.step in (a.2, (c.requires.free.1.0, a.0.number ∙ c.requires.free.1.1), a.0.may_stop ∙ c.requires.may)
