@@ -11,6 +11,7 @@ use crate::barrier::waiting::ExitStatus;
 use crate::barrier::{Barrier, BarrierInit, JoinRefused};
 use crate::round_table::slots::Bare;
 use crate::round_table::{BARRIER, Seat};
+use spindle_parts::fault::Fault;
 use std::alloc::{AllocError, Global};
 use std::sync::Wait;
 use std::test::Fail;
@@ -241,4 +242,13 @@ fn more_threads_than_cores_come_and_go(rt: HostRuntime) -> Result<(), Fail> {
     meet(&rt, comers(rt.alloc(), &init, seat, 9)?);
     assert_eq!(rt; init.current_num_threads(), 0);
     Ok(())
+}
+
+/// It ends well whichever allocation is refused: `rt try --test --fail-alloc N`.
+#[test]
+fn a_barrier_without_memory_is_refused(rt: HostRuntime) {
+    match BarrierInit::new(rt.alloc()) {
+        Ok((init, _seat)) => assert_eq!(rt; init.current_num_threads(), 0),
+        Err(fault) => assert!(rt; matches!(fault, Fault::Memory)),
+    }
 }
