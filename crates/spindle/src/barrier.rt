@@ -18,6 +18,10 @@ pub mod steps;
 mod tests;
 pub mod waiting;
 
+pub use self::ending::AfterEnd;
+pub use self::steps::{Arrival, Look};
+pub use self::waiting::{ExitStatus, Full};
+
 /// The most parties of a barrier (`MASK` of spindle).
 pub const MASK: u32 = 32767;
 
