@@ -1,8 +1,7 @@
 -- What the answers of a barrier's calls tell the party that asked.
-use Rattle.std.proofs.Common.{◌≡◌, ◌≢◌, ◌⊎◌, inl, inr, ⊎_elim, ℕ, ◌+◌, ◌-◌, ◌/◌, ◌%◌, ◌<◌, ◌≤◌, Bool, true, false, eqb, eq-eqb, ne_eqb, le-ltb, lt-ltb, List, [], ◌∷◌, ◌++◌, append_assoc, sym, refl, ap, ◌∙◌, subst, arith, Option, Some, None, if◌then◌else◌, ◌==◌, ◌&&◌, nat_lt}
+use Rattle.std.proofs.Common.{◌≡◌, ◌≢◌, ◌⊎◌, inl, inr, ⊎_elim, ℕ, ◌+◌, ◌-◌, ◌/◌, ◌%◌, ◌<◌, ◌≤◌, Bool, true, false, eq-eqb, ne_eqb, le-ltb, lt-ltb, List, [], ◌∷◌, ◌++◌, append_assoc, sym, refl, ap, ◌∙◌, subst, arith, Option, None, if◌then◌else◌, ◌==◌, ◌&&◌, nat_lt}
 use Rattle.atomic_table.specs.Table.{Me}
 use Rattle.spindle_parts.specs.declared.trail.Trace.{Trace}
-use Rattle.spindle.specs.declared.barrier.steps.JoinStep.{JoinStep}
 use Rattle.spindle.specs.declared.barrier.steps.JoinStep.TheVariants as join
 use Rattle.spindle.specs.declared.barrier.steps.Arrival.TheVariants as arrival
 use Rattle.spindle.specs.declared.barrier.steps.Look.TheVariants as look
@@ -16,8 +15,8 @@ use Rattle.spindle.specs.declared.round_table.view.View.{View}
 use Rattle.spindle.specs.RoundRule.{Deed, deed_of, deeds_of}
 use Rattle.spindle_parts.specs.Trail.{trace}
 use Rattle.spindle.specs.declared.round_table.view.Kind.TheVariants as kind
-use Rattle.spindle.specs.RoundSteps.{noted, missing, leaving, exit_word, outside, looking, loading, standing, unknown, sense_of, count_of, most_of, round_of, clearing, ending, closing_read, with_word, cleared, after_end, turned_word}
-use Rattle.spindle.specs.RoundConditions.{HasSense, HasPart, IsWaiting, MayLeave, MayExit, IsIdleSeat}
+use Rattle.spindle.specs.RoundSteps.{noted, missing, leaving, exit_word, outside, looking, loading, standing, unknown, sense_of, count_of, most_of, round_of, clearing, with_word, cleared, after_end, turned_word}
+use Rattle.spindle.specs.RoundConditions.{HasSense, IsWaiting, MayLeave, MayExit, IsIdleSeat}
 use Rattle.spindle.specs.RoundAnswers.{JoinedBy, JoinRefusedBy, ArrivedBy, LookedBy, LeftBy, ExitedBy, EndedBy}
 use Rattle.spindle.specs.declared.barrier.Barrier.{Barrier}
 use Rattle.spindle.specs.declared.barrier.steps.Look.{Look}

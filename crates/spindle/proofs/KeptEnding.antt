@@ -1,12 +1,12 @@
 -- The steps that can end a round: an exit, and the closer's stores.
-use Rattle.std.proofs.Common.{◌≡◌, ◌≢◌, ◌⊎◌, inl, inr, ⊎_elim, ℕ, suc, ◌+◌, ◌*◌, ◌-◌, ◌/◌, ◌%◌, ◌^◌, ◌<◌, ◌≤◌, Bool, true, false, eqb, eq-eqb, ne_eqb, le-ltb, lt-ltb, List, [], ◌∷◌, ◌++◌, get_or, set, length-set, get_or-set_same, get_or-set_other, sym, refl, ap, ◌∙◌, subst, arith, Option, Some, None, if◌then◌else◌, ◌==◌, ◌&&◌, nat_lt}
+use Rattle.std.proofs.Common.{◌≡◌, ◌≢◌, ◌⊎◌, inl, ⊎_elim, ℕ, ◌+◌, ◌*◌, ◌-◌, ◌<◌, ◌≤◌, Bool, true, false, eqb, eq-eqb, ne_eqb, le-ltb, lt-ltb, List, [], ◌∷◌, get_or, set, length-set, get_or-set_same, get_or-set_other, sym, refl, ap, ◌∙◌, subst, arith, Option, Some, None, if◌then◌else◌, ◌==◌, ◌&&◌}
 use mathlib.Core.Option.{none, some}
 use lib.ListN.{get_elem?}
 use prog.Atomic.{either}
 use Rattle.atomic_table.specs.Table as table
 use Rattle.atomic_table.specs.Table.{Me, step, keeps, stepped, Allows}
 use Rattle.atomic_table.proofs.Lists.{at_set}
-use Rattle.spindle_parts.specs.State.{State, Out, In, Arrived, Party, Round, put_party, now, party, inside, members, wake, waking, weight_in, weight_member, is_in, is_member, times, Free}
+use Rattle.spindle_parts.specs.State.{State, Out, Arrived, Party, Round, put_party, now, party, inside, members, waking, weight_in, weight_member, is_in, is_member, Free}
 use Rattle.spindle_parts.specs.Steps.{Exit, Clear, End, after, arrived, Allowed, with_status, closer_after}
 use Rattle.spindle_parts.specs.Runs.{state, IsRun}
 use Rattle.spindle_parts.specs.BarrierWord.{word}
@@ -16,18 +16,18 @@ use Rattle.spindle_parts.proofs.Parties.{look_here, look_wake, total_put, inside
 use Rattle.spindle_parts.proofs.Fates.{idle_out}
 use Rattle.spindle_parts.proofs.Soundness.{Sound, sound, none_in, no_closer, alone_hidden}
 use Rattle.spindle.specs.declared.round_table.view.Standing.{Standing}
-use Rattle.spindle.specs.declared.round_table.view.Standing.TheVariants.{Away, Inside, Waiting, Closing}
+use Rattle.spindle.specs.declared.round_table.view.Standing.TheVariants.{Away, Inside, Closing}
 use Rattle.spindle.specs.declared.round_table.view.Kind.{Kind}
 use Rattle.spindle.specs.declared.round_table.view.View.{View}
 use Rattle.spindle.specs.RoundSlots.{Discipline, Lawful}
 use Rattle.spindle.specs.declared.round_table.view.Kind.TheVariants as kind
-use Rattle.spindle.specs.RoundRule.{deeds, Stands, Shows, Knows, Words, Laid, InRange, InRest, IsLeft, StandsFor, stored_at, number_of}
-use Rattle.spindle.specs.RoundSteps.{exited, exiting, exit_word, ends, ending, turned_word, clears, clearing, cleared, outside, noted, unknown, round_of, standing, after_end, count_of, most_of, sense_of}
+use Rattle.spindle.specs.RoundRule.{deeds, Stands, Shows, Words, Laid, InRange, InRest, IsLeft, StandsFor, number_of}
+use Rattle.spindle.specs.RoundSteps.{exited, exiting, exit_word, ends, ending, turned_word, clears, clearing, cleared, outside, noted, round_of, standing, after_end, count_of, most_of, sense_of}
 use Rattle.spindle.specs.RoundConditions.{MayExit}
 use Rattle.spindle.proofs.RoundQuiet.{quiet_run}
 use Rattle.spindle.proofs.RoundMoves.{Rule, SeatOf, Before, exchanges, stores, moves, moves_with, stands_on}
 use Rattle.spindle.proofs.RoundWords.{word_fields, status_words, by_equal}
-use Rattle.spindle.proofs.KeptBarrier.{share_of, idle_seat, no_deed, none_of}
+use Rattle.spindle.proofs.KeptBarrier.{share_of, idle_seat, no_deed}
 
 -- nothing is published before or after a step on the barrier word
 pub hidden_words : (t : ℕ) (s s' : State) (ws : List ℕ) (x : ℕ) → Words t s ws → s.published ≡ None → s'.published ≡ None → x ≡ word s' → Words t s' (set ws 0 x)

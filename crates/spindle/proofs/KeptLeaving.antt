@@ -1,18 +1,18 @@
 -- A party that has arrived leaves the barrier, and one that is in exits.
-use Rattle.std.proofs.Common.{◌≡◌, ◌≢◌, ◌⊎◌, inl, inr, ⊎_elim, ℕ, suc, ◌+◌, ◌*◌, ◌-◌, ◌/◌, ◌%◌, ◌^◌, ◌<◌, ◌≤◌, Bool, true, false, eqb, eq-eqb, ne_eqb, List, [], ◌∷◌, get_or, sym, refl, ap, ◌∙◌, subst, arith, Option, Some, None, if◌then◌else◌, ◌==◌}
+use Rattle.std.proofs.Common.{◌≡◌, ◌≢◌, ◌⊎◌, inl, ⊎_elim, ℕ, suc, ◌+◌, ◌-◌, ◌/◌, ◌%◌, ◌<◌, Bool, true, false, eqb, [], ◌∷◌, get_or, sym, refl, ap, ◌∙◌, subst, arith, Some, None}
 use mathlib.Core.Option.{none}
 use prog.Atomic.{either}
 use Rattle.atomic_table.specs.Table as table
 use Rattle.atomic_table.specs.Table.{Me, step, keeps, stepped, Allows}
-use Rattle.spindle_parts.specs.State.{State, Out, In, Arrived, Party, put_party, now, party, inside, members, weight_in, weight_member, is_in, is_member}
+use Rattle.spindle_parts.specs.State.{State, Out, In, Arrived, Party, now, party, inside, weight_in, weight_member, is_in, is_member}
 use Rattle.spindle_parts.specs.Steps.{Leave, after, Allowed, with_status}
 use Rattle.spindle_parts.specs.Runs.{state}
 use Rattle.spindle_parts.proofs.Parties.{look_here, total_put}
 use Rattle.spindle_parts.proofs.Soundness.{Sound, sound}
-use Rattle.spindle.specs.declared.round_table.view.Standing.TheVariants.{Away, Inside, Waiting, Closing}
+use Rattle.spindle.specs.declared.round_table.view.Standing.TheVariants.{Waiting}
 use Rattle.spindle.specs.declared.round_table.view.View.{View}
 use Rattle.spindle.specs.RoundSlots.{Discipline, Lawful}
-use Rattle.spindle.specs.RoundRule.{deeds, Stands, Shows}
+use Rattle.spindle.specs.RoundRule.{deeds, Stands}
 use Rattle.spindle.specs.RoundSteps.{left, leaving}
 use Rattle.spindle.specs.declared.round_table.view.Standing.{Standing}
 use Rattle.spindle.specs.RoundConditions.{MayLeave, HasSense}

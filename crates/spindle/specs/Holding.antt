@@ -1,5 +1,5 @@
 -- What a barrier's party holds: the seat that it was made with, and what it keeps beside it.
-use Rattle.std.specs.Prelude.{◌≡◌, ℕ, Bool, true, false}
+use Rattle.std.specs.Prelude.{◌≡◌, true, false}
 use Rattle.spindle.specs.declared.barrier.Barrier.{Barrier}
 use Rattle.spindle.specs.declared.barrier.leaving.Leave.{Leave}
 use Rattle.spindle.specs.declared.barrier.leaving.Leave.TheVariants as leave

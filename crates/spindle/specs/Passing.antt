@@ -1,12 +1,12 @@
 -- What a party's steps on the barrier leave of its seat.
-use Rattle.std.specs.Prelude.{◌≡◌, ◌≢◌, ℕ, ◌+◌, ◌%◌, ◌<◌, Bool, true, false, List, [], ◌++◌, Option, Some, None}
+use Rattle.std.specs.Prelude.{◌≡◌, ℕ, ◌+◌, ◌%◌, false, List, [], ◌++◌}
 use Rattle.atomic_table.specs.Table.{Me}
 use Rattle.spindle_parts.specs.declared.trail.Trace.{Trace}
 use Rattle.spindle.specs.declared.barrier.steps.JoinStep.TheVariants.{Joined, Full}
 use Rattle.spindle.specs.declared.barrier.steps.Arrival.TheVariants.{Arrived}
 use Rattle.spindle.specs.declared.barrier.steps.LeaveStep.TheVariants as leave
 use Rattle.spindle.specs.declared.round_table.view.Standing.{Standing}
-use Rattle.spindle.specs.declared.round_table.view.Standing.TheVariants.{Away, Inside, Waiting, Closing}
+use Rattle.spindle.specs.declared.round_table.view.Standing.TheVariants.{Away, Inside}
 use Rattle.spindle.specs.declared.round_table.view.Kind.{Kind}
 use Rattle.spindle.specs.declared.round_table.view.Known.{Known}
 use Rattle.spindle.specs.declared.round_table.view.View.{View}

@@ -1,5 +1,5 @@
 -- The closer's load and its store keep the table's rule.
-use Rattle.std.proofs.Common.{rules, arith, ap, ◌∙◌}
+use Rattle.std.proofs.Common.{rules, ap, ◌∙◌}
 use Rattle.spindle.specs.RoundSteps.{with_word}
 use Rattle.spindle.proofs.KeptBarrier.{closer_reads}
 use Rattle.spindle.proofs.KeptEnding.{ends_round}

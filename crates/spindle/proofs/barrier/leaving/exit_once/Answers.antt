@@ -1,5 +1,5 @@
 -- The two steps of an exit keep the table's rule.
-use Rattle.std.proofs.Common.{rules, arith, ◌≡◌, ◌*◌, ◌-◌, sym, refl, ap, ◌∙◌, subst, eq-eqb, ne_eqb, if◌then◌else◌}
+use Rattle.std.proofs.Common.{rules, ◌≡◌, ◌*◌, ◌-◌, sym, ap, ◌∙◌, subst, eq-eqb, ne_eqb, if◌then◌else◌}
 use Rattle.spindle.specs.RoundSteps.{exit_word, most_of, sense_of}
 use Rattle.spindle.specs.RoundConditions.{MayExit}
 use Rattle.spindle.proofs.KeptLoads.{loads}

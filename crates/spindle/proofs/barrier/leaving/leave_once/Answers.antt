@@ -1,5 +1,5 @@
 -- The two steps of a leave keep the table's rule.
-use Rattle.std.proofs.Common.{rules, arith, ◌≡◌, sym, ◌∙◌, subst}
+use Rattle.std.proofs.Common.{rules, sym, ◌∙◌, subst}
 use Rattle.spindle.specs.RoundConditions.{MayLeave, HasSense}
 use Rattle.spindle.proofs.BarrierClients.{still_waits}
 use Rattle.spindle.proofs.KeptBarrier.{looks}

@@ -1,6 +1,6 @@
 -- What is left of the share starts at the loop's number.
-use Rattle.std.proofs.Common.{◌≡◌, ℕ, ◌≤◌, None}
-use Rattle.spindle.specs.RoundConditions.{MayBegin, IsItsShare}
+use Rattle.std.proofs.Common.{◌≡◌, None}
+use Rattle.spindle.specs.RoundConditions.{IsItsShare}
 use Rattle.spindle.specs.RoundViews.{Onward, SeesAsBefore}
 use Rattle.spindle.proofs.round.tests.play.spend.Given as goal
 
