@@ -6,6 +6,7 @@ use crate::round::stopping::PutBack;
 use std::test::Fail;
 
 mod play;
+mod scripts;
 
 #[test]
 fn a_round_of_ten_jobs_on_four_threads(rt: HostRuntime) -> Result<(), Fail> {
