@@ -5,6 +5,8 @@ use crate::round::Round;
 use crate::round::stopping::PutBack;
 use std::test::Fail;
 
+mod coming_and_going;
+mod lines;
 mod play;
 mod scripts;
 
