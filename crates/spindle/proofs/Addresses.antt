@@ -1,10 +1,10 @@
 -- Where a number stands among the hands that numbers are dealt in.
-use Rattle.std.proofs.Common.{◌≡◌, ℕ, ◌+◌, ◌-◌, ◌*◌, ◌/◌, ◌%◌, ◌<◌, ◌≤◌, List, [], ◌++◌, inl, inr, length, take, drop, get_or, Some, ap, sym, ◌∙◌, zero, suc, arith, length-append, map, zero-add}
+use Rattle.std.proofs.Common.{◌≡◌, ℕ, ◌+◌, ◌-◌, ◌*◌, ◌/◌, ◌%◌, ◌<◌, ◌≤◌, List, ◌++◌, inl, inr, length, take, drop, get_or, Some, ap, ◌∙◌, zero, suc, arith, length-append, refl, min}
 use Rattle.std.specs.Prelude.{slice_get}
-use Rattle.std.proofs.lemmas.List.{get_or-take, get_or-drop, get_or_append_left, get_or-append_right, get_or-map, length-map, length-take-le, length-drop}
+use Rattle.std.proofs.lemmas.List.{get_or-take, get_or-drop, get_or_append_left, get_or-append_right, length-take, length-take-le, length-drop}
 use Rattle.std.proofs.lemmas.Option.{slice_get-get_or}
 use Rattle.std.proofs.lemmas.Bool.{cases_lt}
-use Rattle.std.proofs.Math.Nat.{mul-le-mul_left, div-lt_iff_lt-mul}
+use Rattle.std.proofs.Math.Nat.{mul-le-mul_left, div-lt_iff_lt-mul, div-add-mod'}
 use Rattle.spindle_parts.specs.Pieces.{counted, dealt}
 use Rattle.spindle_parts.proofs.Deals.{length-counted}
 
@@ -45,7 +45,7 @@ pub dealt_rest : (n threads thread : ℕ) → n / threads * thread + n / threads
 dealt_rest n threads thread k h = rw (length-counted 0 n) (behind_run n (n / threads) (n / threads * thread) (n / threads * threads + thread) k h)
 
 -- the last run ends where the left-over numbers begin
-run_ends : (n threads thread : ℕ) → 0 < threads → thread < threads → n / threads * thread + n / threads ≤ n
+pub run_ends : (n threads thread : ℕ) → 0 < threads → thread < threads → n / threads * thread + n / threads ≤ n
 run_ends n threads thread h k =
     omega (arith, mul-le-mul_left {m = thread + 1} {n = threads} (n / threads) (omega arith))
 
@@ -67,18 +67,31 @@ rest_address number n threads h k l =
     let thread = number - n / threads * threads in
     dealt_rest n threads thread (run_ends n threads thread h (omega arith)) (omega arith) ∙ ap (λ m. Some m) (omega arith)
 
--- what the i-th hand has, where the hands have what each thread is dealt
-pub hand_has : {H : Type 0} (f : H → List ℕ) (F : ℕ → List ℕ) (hands : List H) (threads i : ℕ) (hand : H) → map f hands ≡ map F (counted 0 threads) → i < threads → hand ≡ get_or hands i hand → f hand ≡ F i
-hand_has f F hands threads i hand e h at =
-    let c = length-counted 0 threads in
-    let l : length hands ≡ threads = omega (arith, ap length e, length-map hands f, length-map (counted 0 threads) F, c) in
-    ap f at
-    ∙ sym (get_or-map f hands i hand [] (omega (arith, l)))
-    ∙ ap (λ xs. get_or xs i []) e
-    ∙ get_or-map F (counted 0 threads) i 0 [] (omega (arith, c))
-    ∙ ap F (get_or-counted 0 threads i h ∙ zero-add i)
+own_run_length : (n threads thread : ℕ) → thread < threads → length (take (n / threads) (drop (n / threads * thread) (counted 0 n))) ≡ n / threads
+own_run_length n threads thread h =
+    let xs = counted 0 n in
+    let start = n / threads * thread in
+    length-take-le (n / threads) (drop start xs) (omega (arith, length-drop start xs, length-counted 0 n, run_ends n threads thread (omega (arith, h)) h))
 
--- as many hands as threads
-pub hand_for_each : {H : Type 0} (f : H → List ℕ) (F : ℕ → List ℕ) (hands : List H) (threads : ℕ) → map f hands ≡ map F (counted 0 threads) → length hands ≡ threads
-hand_for_each f F hands threads e =
-    omega (arith, ap length e, length-map hands f, length-map (counted 0 threads) F, length-counted 0 threads)
+left_over_length : (n a : ℕ) → length (take 1 (drop a (counted 0 n))) ≡ min 1 (n - a)
+left_over_length n a =
+    let xs = counted 0 n in
+    length-take 1 (drop a xs) ∙ ap (min 1) (length-drop a xs ∙ ap (λ m. m - a) (length-counted 0 n))
+
+-- how many a thread is dealt
+hand_length : (n threads thread : ℕ) → thread < threads → length (dealt (counted 0 n) threads thread) ≡ n / threads + min 1 (n - (n / threads * threads + thread))
+hand_length n threads thread h =
+    rw (length-counted 0 n, length-append (take (n / threads) (drop (n / threads * thread) (counted 0 n))) (take 1 (drop (n / threads * threads + thread) (counted 0 n))), own_run_length n threads thread h, left_over_length n (n / threads * threads + thread)) refl
+
+-- a thread for which a number is left over is dealt one more
+pub longer_hand : (n threads thread : ℕ) → thread < threads → thread < n % threads → n / threads + 1 ≡ length (dealt (counted 0 n) threads thread)
+longer_hand n threads thread h k = omega (arith, hand_length n threads thread h, div-add-mod' n threads)
+
+-- and the others aren't
+pub shorter_hand : (n threads thread : ℕ) → thread < threads → n % threads ≤ thread → n / threads ≡ length (dealt (counted 0 n) threads thread)
+shorter_hand n threads thread h k = omega (arith, hand_length n threads thread h, div-add-mod' n threads)
+
+-- behind the run there is one place at most, that of a left-over number
+pub behind : (n threads thread place : ℕ) → thread < threads → place < length (dealt (counted 0 n) threads thread) → n / threads ≤ place → (place ≡ n / threads) × (n / threads * threads + thread < n)
+behind n threads thread place h k l =
+    let c = hand_length n threads thread h in (omega (arith, c, k, l), omega (arith, c, k, l))

@@ -4,6 +4,7 @@ pub mod ListRuns
 pub mod Outputs
 pub mod Places
 pub mod TrayPlaces
+pub mod PieceRuns
 pub mod RoundQuiet
 pub mod RoundMoves
 pub mod RoundWords
@@ -23,3 +24,5 @@ pub mod RoundClients
 pub mod KeptLeaving
 pub mod KeptEnding
 pub mod BarrierClients
+pub mod Workers
+mod Helpers

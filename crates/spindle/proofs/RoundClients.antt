@@ -18,7 +18,7 @@ use Rattle.spindle.specs.RoundSlots.{Discipline}
 use Rattle.spindle.specs.RoundRule.{Deed, Began, Ended, Showed, IsListed, deeds_of, deed_of}
 use Rattle.spindle.specs.RoundSteps.{beginning, range_word, list_empty, searching, reading_rest, recalling, missing, claiming, stealing, resting, sharing, finishing, stopping, seeing, putting, publishing, learning, round_of, start_of, end_of}
 use Rattle.spindle.specs.RoundConditions.{MayPublish, MayClaim, MayBegin, MayFinish, MayPutBack, MayArrive, IsItsShare, IsDone}
-use Rattle.spindle.specs.RoundAnswers.{searching_all, OwnClaimed, StolenBy, RestClaimed, SharedBy, FinishedBy, SeenBy, PutBy, FilledBy}
+use Rattle.spindle.specs.RoundAnswers.{searching_all, OwnClaimed, StolenBy, RestClaimed, SharedBy, FinishedBy, SeenBy, LeftOver, PutBy, FilledBy}
 use Rattle.spindle.specs.RoundViews.{shown_of, published_of, AtWork, Onward, SeesAsBefore, SharesAsBefore, AfterClaim, AfterSteal}
 use Rattle.spindle.proofs.RoundWords.{by_less, by_equal}
 use Rattle.spindle.proofs.RoundSearch.{may_still}
@@ -153,6 +153,10 @@ module _ {S N : Type 0} (D : Discipline S N) (m w : Me S (View N)) (may : MayCla
   rest_claimed n claim.Again a = let v : View N = reading_rest a.0 m.0 in let u : View N = recalling n v in let z : View N = missing 32 a.1 u in subst (AfterClaim claim.Again m.0) (sym (ap (λ y. y.0) a.2))
       (onward_then m.0 v z (rest_on a.0 m.0) (onward_then v u z (recalled_on n v) (missed_on 32 a.1 u)), refl, (refl, refl), may)
 
+  -- the range was read as empty
+  pub own_nothing : (i : ℕ) → OwnClaimed D i claim.Nothing m w → IsListed i w.0.known.emptied
+  own_nothing i a = subst (λ (v : View N). IsListed i v.known.emptied) (sym (ap (λ z. z.0) a.1)) (searched_empty may.1.0 i a.0 m.0 may.1.1 a.2)
+
   -- the remainder was read as empty
   pub rest_nothing : (n : ℕ) → RestClaimed D n claim.Nothing m w → IsListed w.0.threads w.0.known.emptied
   rest_nothing n a = subst (λ (v : View N). IsListed v.threads v.known.emptied) (sym (ap (λ z. z.0) a.1)) (rest_empty may.1.0 a.0 m.0 may.1.1 a.2)
@@ -197,6 +201,11 @@ share_put {N = N} m w i back.Occupied share left may own a = subst (λ (z : View
 share_put {N = N} m w i back.Again share left may own a = let v : View N = searching i a.0 m.0 in subst (λ (z : View N). Onward m.0 z × MayPutBack z × IsItsShare left z × (back.Again ≡ back.Put → left.from ≡ left.to)) (sym (ap (λ z. z.0) a.2))
     (onward_then m.0 v (missing (40 + 8 * i) a.1 v) (searched_on i a.0 m.0) (missed_on (40 + 8 * i) a.1 v), may, subst (λ (z : Span). IsItsShare z m.0) (sym a.4) own, λ e. absurd cc)
 
+-- What is left was read.
+pub left_seen : {S N : Type 0} (m w : Me S (View N)) (t i found : ℕ) → i ≤ t → LeftOver t i found m w → Onward m.0 w.0 × SeesAsBefore m.0 w.0 × SharesAsBefore m.0 w.0 × (w.0.claim ≡ m.0.claim)
+left_seen {N = N} m w t i found le a = let P : View N → Type 0 = λ u. Onward m.0 u × SeesAsBefore m.0 u × SharesAsBefore m.0 u × (u.claim ≡ m.0.claim) in
+    dite (ℕ_discrete i t) (λ here. subst P (sym (ap (λ z. z.0) (a.1 here))) (rest_on found m.0, refl, (refl, refl), refl)) (λ apart. subst P (sym (ap (λ z. z.0) (a.0 (omega arith)))) (searched_on i found m.0, refl, (refl, refl), refl))
+
 -- Arriving.
 
 -- where all ranges and the remainder were read as empty, nothing is left
@@ -222,6 +231,10 @@ round_published {N = N} m w q n b inside_q a = subst (λ (u : View N). AtWork n 
 -- who may claim may claim again, once what it has begun since is finished and its share is empty
 pub claims_again : {N : Type 0} (v w : View N) → MayClaim v → Onward v w → SeesAsBefore v w → w.to ≤ w.from → w.claim ≡ None → MayClaim w
 claims_again v w may on same empty idle = ((may.0.0, on.standing ∙ may.0.1, idle, empty), (may.1.0, on.number ∙ may.1.1), same ∙ may.2)
+
+-- and so after a claim from its own range or the remainder, whose job is finished
+pub claims_on : {N : Type 0} (v u w : View N) → MayClaim v → Onward v u × SeesAsBefore v u × SharesAsBefore v u → Onward u w × SeesAsBefore u w → SharesAsBefore u w × (w.claim ≡ None) → MayClaim w
+claims_on v u w may claim job done = claims_again v w may (onward_then v u w claim.0 job.0) (job.1 ∙ claim.1) (let a = claim.2.0 in let b = claim.2.1 in let c = done.0.0 in let d = done.0.1 in let le = may.0.3 in omega arith) done.1
 
 -- the published word tells a member the number
 pub number_learned : {S N : Type 0} (m w : Me S (View N)) (q found : ℕ) → m.0.standing ≡ Inside q → w ≡ (learning found m.0, m.1) → found ≢ 0

@@ -1,15 +1,14 @@
 -- The places of a tray: what stands at the one that is written, and at the others.
-use Rattle.std.proofs.Common.{◌≡◌, ◌≢◌, ℕ, ◌+◌, ◌-◌, ◌<◌, ◌≤◌, ◌++◌, List, [], ◌∷◌, length, get_or, map, slice_set, Option, Some, None, Result, Ok, Err, refl, ap, sym, ◌∙◌, zero, suc, OnOk, OnErr, arith}
+use Rattle.std.proofs.Common.{◌≡◌, ◌≢◌, ℕ, ◌+◌, ◌<◌, List, [], ◌∷◌, length, take, get_or, map, slice_set, Option, Some, Result, Ok, Err, refl, ap, sym, ◌∙◌, zero, suc, OnOk, OnErr, arith}
 use Rattle.std.specs.Prelude.{option_and_then, slice_get, unwrap_or}
-use Rattle.std.proofs.lemmas.List.{get_or-set_same, length-set, map-id}
+use Rattle.std.proofs.lemmas.List.{get_or-set_same, length-set, take_more, take_more_set, take-map}
 use Rattle.std.proofs.lemmas.Option.{slice_get-get_or, unwrap_or-slice_get}
 use Rattle.std.specs.List.{AllZip}
-use Rattle.spindle_parts.specs.declared.cut.Piece.{Piece}
-use Rattle.spindle.specs.Done.{Given, Slot}
-use Rattle.spindle.specs.Trays.{Awaits}
+use Rattle.spindle.specs.Done.{Slot}
+use Rattle.spindle.specs.Trays.{Awaits, AwaitsAll}
+use Rattle.spindle.specs.PieceRuns.{piece_at}
+use Rattle.std.proofs.Math.Seq.{map-set_same}
 use Rattle.spindle_parts.proofs.Lists.{all_zip_append}
-use Rattle.spindle_parts.specs.Pieces.{counted}
-use Rattle.spindle_parts.proofs.Lists.{counted_snoc, map_snoc}
 
 -- what stands at a place
 pub at_place : {A X : Type 0} (f : A → Option X) (xs : List A) (at : ℕ) (s : A) → at < length xs → s ≡ get_or xs at s → option_and_then f (slice_get xs at) ≡ f s
@@ -40,32 +39,25 @@ on_err (Err e) f p = f p
 pub some_is : {A : Type 0} {x y : A} → Some x ≡ Some y → x ≡ y
 some_is e = cc
 
--- one more place passed
-pub counted_more : {X : Type 0} (f : ℕ → X) (from at : ℕ) → from ≤ at → map f (counted from (at + 1 - from)) ≡ map f (counted from (at - from)) ++ f at ∷ []
-counted_more f from at h =
-    let e : at + 1 - from ≡ at - from + 1 = omega arith in
-    let n : from + (at - from) ≡ at = omega arith in
-    rw (e, counted_snoc from (at - from), map_snoc f (counted from (at - from)) (from + (at - from)), n) refl
+-- a place that is written keeps its number, so the first places have the numbers that they had
+pub numbers_stay : {A : Type 0} (f : A → ℕ) (xs : List A) (own : List ℕ) (at : ℕ) (t d : A) → f t ≡ f (get_or xs at d) → take (length own) (map f xs) ≡ own → take (length own) (map f (slice_set xs at t)) ≡ own
+numbers_stay f xs own at t d e h = ap (take (length own)) (map-set_same f xs at t d e) ∙ h
 
--- the places of a hand have its pieces' numbers
-pub numbers_await : {A B : Type 0} (pieces : List (Piece A)) (places : List (Slot A B)) → AllZip Awaits pieces places → map (λ place. place.number) places ≡ map (λ piece. piece.number) pieces
-numbers_await [] [] z = refl
-numbers_await [] (s ∷ places) z = absurd z
-numbers_await (p ∷ pieces) [] z = absurd z
-numbers_await (p ∷ pieces) (s ∷ places) z =
-    let rest = numbers_await pieces places z.1 in
+numbers_await : {A B : Type 0} (C : A → A → Type 0) (items : List A) (pieces : ℕ) (own : List ℕ) (slots : List (Slot A B)) → AllZip (λ number slot. Awaits C (piece_at items pieces number) number slot) own slots → map (λ slot. slot.number) slots ≡ own
+numbers_await C items pieces [] [] z = refl
+numbers_await C items pieces [] (s ∷ slots) z = absurd z
+numbers_await C items pieces (n ∷ own) [] z = absurd z
+numbers_await C items pieces (n ∷ own) (s ∷ slots) z =
+    let rest = numbers_await C items pieces own slots z.1 in
     λ i. z.0.0 i ∷ rest i
 
--- one more piece awaits
-pub await_more : {A B : Type 0} (pieces : List (Piece A)) (places : List (Slot A B)) (piece : Piece A) (given : Given A) (slot : Slot A B) → AllZip Awaits pieces places → given.number ≡ piece.number → given.inputs ≡ piece.items.items → slot.number ≡ given.number → slot.ready ≡ Some given → slot.finished ≡ None → AllZip Awaits (pieces ++ piece ∷ []) (places ++ slot ∷ [])
-await_more pieces places piece given slot z n i m r f =
-    let ready = r ∙ (λ j. Some (record { number = n j; inputs = i j })) in
-    all_zip_append Awaits pieces places (piece ∷ []) (slot ∷ []) z ((m ∙ n, ready, f), tt)
+-- where the pieces of these numbers wait, the places have the numbers
+pub await_numbers : {A B : Type 0} (C : A → A → Type 0) (items : List A) (pieces : ℕ) (own : List ℕ) (places : List (Slot A B)) → AwaitsAll C items pieces own places → take (length own) (map (λ slot. slot.number) places) ≡ own
+await_numbers C items pieces own places z =
+    take-map (λ slot. slot.number) (length own) places ∙ numbers_await C items pieces own (take (length own) places) z
 
--- a function of each element of a list that was walked to its end
-pub walked : {A B : Type 0} (f : A → B) (xs all : List A) → map (λ x. x) xs ≡ all → map f xs ≡ map f all
-walked f xs all e = ap (map f) (sym (map-id xs) ∙ e)
-
--- lists with the same at a place have the same element there
-pub same_there : {A : Type 0} (xs ys : List A) (i : ℕ) (d : A) → slice_get xs i ≡ slice_get ys i → get_or xs i d ≡ get_or ys i d
-same_there xs ys i d e = sym (unwrap_or-slice_get xs i d) ∙ ap (λ found. unwrap_or found d) e ∙ unwrap_or-slice_get ys i d
+-- one more place is filled
+pub one_more_waits : {A B : Type 0} (R : ℕ → Slot A B → Type 0) (own : List ℕ) (places : List (Slot A B)) (k n : ℕ) (t : Slot A B) → slice_get own k ≡ Some n → k < length own → k < length places → AllZip R (take k own) (take k places) → R n t → AllZip R (take (k + 1) own) (take (k + 1) (slice_set places k t))
+one_more_waits R own places k n t e h h' z r =
+    let here : get_or own k 0 ≡ n = sym (unwrap_or-slice_get own k 0) ∙ ap (λ found. unwrap_or found 0) e in
+    rw (take_more own k 0 h, here, take_more_set places k t h') (all_zip_append R (take k own) (take k places) (n ∷ []) (t ∷ []) z (r, tt))

@@ -1,7 +1,33 @@
 -- What contracts see of a leader.
-use Rattle.std.specs.Prelude.{ℕ}
+use Rattle.std.specs.Prelude.{◌≡◌, ℕ}
+use Rattle.spindle_parts.specs.declared.fault.Fault.{Fault}
+use Rattle.spindle_parts.specs.declared.fault.Fault.TheVariants.{Memory, Lost}
 use Rattle.spindle.specs.declared.lock.leader.Leader.{Leader}
+use Rattle.spindle.specs.declared.round_table.view.View.{View}
+use Rattle.spindle.specs.RoundConditions.{MayFill}
+use Rattle.spindle.specs.Working.{PlayedRound}
 
 -- the threads of its lock
 abbrev pub threads_of : {J G L I O N S : Type 0} → Leader J G L I O N S → ℕ
-threads_of leader = leader.crew.threads
+threads_of leader = leader.post.post.tables.now.crew.threads
+
+-- what its seat at the round table knows, with the trail of its own steps
+abbrev pub view_of : {J G L I O N S : Type 0} → Leader J G L I O N S → View (Unit {0})
+view_of leader = leader.post.post.barrier.seat.me.0
+
+-- it is in, and nothing is published
+abbrev pub IsBetweenRounds : {J G L I O N S : Type 0} → Leader J G L I O N S → Type 0
+IsBetweenRounds leader = MayFill (view_of leader)
+
+-- it made no step at the round table, so its trail is as before
+abbrev pub MadeNoStep : {J G L I O N S : Type 0} → (old new : Leader J G L I O N S) → Type 0
+MadeNoStep old new = view_of new ≡ view_of old
+
+-- it published once, so many jobs, and that round has ended
+abbrev pub PlayedOnce : {J G L I O N S : Type 0} → (jobs : ℕ) → (old new : Leader J G L I O N S) → Type 0
+PlayedOnce jobs old new = PlayedRound jobs (view_of old) (view_of new)
+
+-- where its round of so many jobs was refused: for want of memory it made no step, and a piece is lost only from a round that was played
+abbrev pub LeftByRefusal : {J G L I O N S : Type 0} → (jobs : ℕ) → (old new : Leader J G L I O N S) → Fault → Type 0
+LeftByRefusal jobs old new Memory = MadeNoStep old new
+LeftByRefusal jobs old new (Lost k) = PlayedOnce jobs old new

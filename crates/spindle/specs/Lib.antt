@@ -3,6 +3,7 @@ pub mod Same
 pub mod Done
 pub mod Outputs
 pub mod Trays
+pub mod PieceRuns
 pub mod Leaders
 pub mod Locks
 pub mod Rounds
@@ -16,3 +17,7 @@ pub mod RoundViews
 pub mod Seats
 pub mod Holding
 pub mod Passing
+pub mod Working
+pub mod Opening
+pub mod Alone
+pub mod Parties

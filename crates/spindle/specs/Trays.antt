@@ -1,7 +1,8 @@
 -- What stands in the places of a tray.
-use Rattle.std.specs.Prelude.{◌≡◌, ℕ, List, Option, Some, None, option_and_then, slice_get}
-use Rattle.spindle_parts.specs.declared.cut.Piece.{Piece}
+use Rattle.std.specs.Prelude.{◌≡◌, ℕ, List, Option, Some, None, length, take, option_and_then, slice_get}
+use Rattle.std.specs.List.{AllZip}
 use Rattle.spindle.specs.Done.{Given, Done, Slot}
+use Rattle.spindle.specs.PieceRuns.{piece_at}
 
 -- the piece that waits at a place
 abbrev pub ready_at : {A B : Type 0} → List (Slot A B) → ℕ → Option (Given A)
@@ -15,7 +16,13 @@ finished_at places at = option_and_then (λ slot. slot.finished) (slice_get plac
 abbrev pub number_at : {A B : Type 0} → List (Slot A B) → ℕ → Option ℕ
 number_at places at = option_and_then (λ slot. Some slot.number) (slice_get places at)
 
--- the piece waits in its place, and nothing was brought back
-abbrev pub Awaits : {A B : Type 0} → Piece A → Slot A B → Type 0
-Awaits piece slot =
-    (slot.number ≡ piece.number) × (slot.ready ≡ Some (record { number = piece.number; inputs = piece.items.items })) × (slot.finished ≡ None)
+-- a clone of the piece waits in its place, and nothing was brought back
+abbrev pub Awaits : {A B : Type 0} → (A → A → Type 0) → List A → ℕ → Slot A B → Type 0
+Awaits {A} IsClone items number slot =
+    (slot.number ≡ number) × (slot.finished ≡ None)
+    × ((inputs : List A) × (slot.ready ≡ Some (record { number = number; inputs = inputs })) × AllZip IsClone items inputs)
+
+-- the pieces of these numbers wait in the first places
+abbrev pub AwaitsAll : {A B : Type 0} → (A → A → Type 0) → List A → (pieces : ℕ) → List ℕ → List (Slot A B) → Type 0
+AwaitsAll IsClone items pieces numbers places =
+    AllZip (λ number slot. Awaits IsClone (piece_at items pieces number) number slot) numbers (take (length numbers) places)

@@ -49,7 +49,7 @@ pub enum JoinRefused<P> {
 #[derive(Drop)]
 pub struct Barrier<'a, D: Slots> {
     init: &'a BarrierInit<D>,
-    seat: Seat<D>,
+    pub(crate) seat: Seat<D>,
     sense: u64,
     /// Not so of a closer that has exited.
     is_member: bool,

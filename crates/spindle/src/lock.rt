@@ -4,22 +4,34 @@
 //! the rounds, `context` what a job is given, and `gathering` how the outputs of a round are put together.
 
 mod address;
+mod alone;
 mod context;
 mod crew;
 mod finished;
 mod gate;
 mod gathering;
+mod helper;
 mod job;
 mod leader;
+mod leader_post;
 mod limits;
 mod nest;
+mod notices;
+mod phases;
+mod pieces;
 mod place;
 mod pool;
+mod post;
 mod ready;
 mod root;
+mod runner;
 mod shared;
+mod sleep;
+mod starting;
+mod tables;
 mod tray;
 mod trays;
+mod work;
 
 pub use context::JobCx;
 pub use finished::Finished;

@@ -1,15 +1,15 @@
 //! Callers to read first: each runs rounds in a lock, and says what comes out in its own words.
-ghost use Rattle.std.specs.Prelude.{◌≡◌, ◌+◌, ◌*◌, ◌<◌, IfOk, map};
+ghost use Rattle.std.specs.Prelude.{◌≡◌, ◌+◌, ◌*◌, ◌<◌, ◌≤◌, IfOk, OnOk, map, vec_len};
 ghost use Rattle.std.specs.List.{AllZip};
 ghost use Rattle.std.proofs.Common.{rules};
-ghost use Rattle.spindle.specs.Rounds.{ClonesAreSame};
+ghost use Rattle.spindle.specs.Rounds.{ClonesAreSame, job_count};
 ghost use Rattle.spindle_parts.specs.Pieces.{joined};
-ghost use Rattle.spindle_vectors.specs.Callers.{AreAllOf, IsFunction};
+ghost use Rattle.spindle_vectors.specs.Callers.{AreAllOf, IsFunction, PublishedTwice};
 ghost use denote.Param.Send.{IsSync};
 
 use crate::chunks::AddOne;
 use spindle::cut::piece_lengths;
-use spindle::lock::{End, Gate, Job, JobCx, Limits, Nest, NoGate, Pool};
+use spindle::lock::{End, Gate, Job, JobCx, Leader, Limits, Nest, NoGate, Opens, Pool};
 use spindle::{Fault, ListRun, SharedList, with_lock};
 use std::alloc::{AllocError, Global};
 use std::sync::Wait;
@@ -154,4 +154,28 @@ where
     let by_one = outputs_of::<J, _, _>(rt, alloc, &alone, jobs, items)?;
     let by_many = outputs_of::<J, _, _>(rt, alloc, pool, jobs, equal_items)?;
     Ok((by_one, by_many))
+}
+
+/// Two rounds of one leader, whose trail then has both, in their order, each of as many jobs as its list has pieces.
+pub fn two_rounds<J: Opens<L>, G: Gate, L, H: Threads + Wait + Sync>(
+    rt: &H,
+    alloc: Global,
+    leader: &mut Leader<J, G, L>,
+    jobs: usize,
+    first: Vec<J::In>,
+    second: Vec<J::In>,
+) -> Result<(Vec<J::Out>, Vec<J::Out>), Fault>
+    requires jobs { 2 ≤ jobs }
+    requires items { (2 ≤ vec_len first) × (2 ≤ vec_len second) }
+    requires clones { ClonesAreSame J.In.is_clone first.items
+        × ClonesAreSame J.In.is_clone second.items }
+    ensures first { IfOk result (λ outputs. AllZip J.meets first.items outputs.0.items) }
+    ensures second { IfOk result (λ outputs. AllZip J.meets second.items outputs.1.items) }
+    ensures rounds { let n = job_count (vec_len first) jobs in
+        let m = job_count (vec_len second) jobs in
+        OnOk result (PublishedTwice n m leader.old leader.new) }
+{
+    let by_first = leader.for_each(rt, alloc, jobs, first)?;
+    let by_second = leader.for_each(rt, alloc, jobs, second)?;
+    Ok((by_first, by_second))
 }

@@ -53,7 +53,7 @@ fn a_leader_has_no_number_between_rounds_nor_in_a_round_of_one_job(
     rt: HostRuntime,
 ) -> Result<(), Fault> {
     let alloc = rt.alloc();
-    let pool = Pool::new(4, LIMITS, NoGate);
+    let pool = Pool::with_starts(4, LIMITS, NoGate, 0);
     with_lock::<Place, _, _, _, _, _>(&rt, alloc, &pool, 16, |leader| {
         assert_eq!(rt; leader.max_num_threads(), 4);
         assert_eq!(rt; leader.current_thread_index(), None);
@@ -81,7 +81,7 @@ fn a_leader_alone_has_number_0_in_a_round_of_two_jobs(rt: HostRuntime) -> Result
 fn one_item_is_one_direct_job(rt: HostRuntime) -> Result<(), Fault> {
     let alloc = rt.alloc();
     let calls = Calls::new();
-    let pool = Pool::new(16, LIMITS, Counting { calls: &calls });
+    let pool = Pool::with_starts(16, LIMITS, Counting { calls: &calls }, 0);
     let squares = with_lock::<Square, _, _, _, _, _>(&rt, alloc, &pool, 16, |leader| {
         leader.for_each(&rt, alloc, 8, vec![in alloc; 7]?)
     })??;
@@ -148,7 +148,7 @@ fn a_lock_has_the_least_of_three_numbers_of_threads(rt: HostRuntime) -> Result<(
         assert_eq!(rt; pool.current_num_threads(), pool_threads);
         assert_eq!(rt; pool.max_num_threads(), pool_threads);
         assert_eq!(rt; pool.current_thread_index(), None);
-        with_lock::<Nothing, _, _, _, _, _>(&rt, rt.alloc(), &pool, most, |leader| {
+        with_lock::<Zero, _, _, _, _, _>(&rt, rt.alloc(), &pool, most, |leader| {
             assert_eq!(rt; leader.max_num_threads(), threads);
             assert_eq!(rt; leader.current_num_threads(), 1);
         })?;
@@ -199,5 +199,19 @@ fn one_thread_and_many_answer_alike(rt: HostRuntime) -> Result<(), Fault> {
     )?;
     assert_eq!(rt; by_one, vec![in alloc; 4, 9, 25]?);
     assert_eq!(rt; by_many, vec![in alloc; 4, 9, 25]?);
+    Ok(())
+}
+
+#[test]
+fn two_rounds_of_one_leader_answer_both_lists(rt: HostRuntime) -> Result<(), Fault> {
+    let alloc = rt.alloc();
+    let pool = Pool::new(4, LIMITS, NoGate);
+    let (first, second) = with_lock::<Square, _, _, _, _, _>(&rt, alloc, &pool, 4, |leader| {
+        let first = vec![in alloc; 2, 3, 5]?;
+        let second = vec![in alloc; 7, 11]?;
+        callers::two_rounds(&rt, alloc, leader, 2, first, second)
+    })??;
+    assert_eq!(rt; first, vec![in alloc; 4, 9, 25]?);
+    assert_eq!(rt; second, vec![in alloc; 49, 121]?);
     Ok(())
 }

@@ -12,3 +12,5 @@ mod jobs;
 mod leader_rows;
 #[cfg(test)]
 mod refusals;
+#[cfg(test)]
+mod thread_rows;

@@ -43,6 +43,15 @@ fn refused_round_has_run_no_job(rt: HostRuntime) -> Result<(), Fault> {
         square_seven_items(&rt, alloc, &calls, leader, 3)?;
         square_seven_items(&rt, alloc, &calls, leader, 7)
     });
+    unopened_or(&rt, &opened, answer)
+}
+
+// What the rounds of a lock answered; where the lock was refused, its closure wasn't run.
+fn unopened_or<H: Abort>(
+    rt: &H,
+    opened: &AtomicUsize,
+    answer: Result<Result<(), Fault>, Fault>,
+) -> Result<(), Fault> {
     match answer {
         Ok(rounds) => rounds,
         Err(fault) => {
@@ -51,6 +60,31 @@ fn refused_round_has_run_no_job(rt: HostRuntime) -> Result<(), Fault> {
             Ok(())
         }
     }
+}
+
+// One allocation at most is refused, so one of the two locks opens.
+#[test]
+fn refused_lock_opens_when_asked_again(rt: HostRuntime) -> Result<(), Fault> {
+    let alloc = rt.alloc();
+    let calls = Calls::new();
+    let opened = AtomicUsize::new(0);
+    let pool = Pool::new(4, LIMITS, Counting { calls: &calls });
+    for _ in 0..2 {
+        let before = opened.load(Ordering::SeqCst);
+        let answer = with_lock::<Square, _, _, _, _, _>(&rt, alloc, &pool, 4, |leader| {
+            opened.fetch_add(1, Ordering::SeqCst);
+            square_seven_items(&rt, alloc, &calls, leader, 4)
+        });
+        match answer {
+            Ok(round) => round?,
+            Err(fault) => {
+                assert!(rt; matches!(fault, Fault::Memory));
+                assert_eq!(rt; opened.load(Ordering::SeqCst), before);
+            }
+        }
+    }
+    assert!(rt; opened.load(Ordering::SeqCst) > 0);
+    Ok(())
 }
 
 // Squares seven items in so many jobs; where that is refused, no job was run, and the same call again answers.
@@ -82,8 +116,10 @@ fn square_seven_items<H: Threads + Wait + Abort + Sync>(
 fn refused_round_over_numbers_has_run_no_job(rt: HostRuntime) -> Result<(), Fault> {
     let alloc = rt.alloc();
     let calls = Calls::new();
+    let opened = AtomicUsize::new(0);
     let pool = Pool::new(4, LIMITS, Counting { calls: &calls });
-    with_lock::<Square, _, _, _, _, _>(&rt, alloc, &pool, 4, |leader| {
+    let answer = with_lock::<Square, _, _, _, _, _>(&rt, alloc, &pool, 4, |leader| {
+        opened.fetch_add(1, Ordering::SeqCst);
         let squares = match leader.for_each_raw(&rt, alloc, 7) {
             Ok(squares) => squares,
             Err(fault) => {
@@ -95,7 +131,8 @@ fn refused_round_over_numbers_has_run_no_job(rt: HostRuntime) -> Result<(), Faul
         assert!(rt; are_seven_squares(squares.as_slice()));
         assert_eq!(rt; calls.in_all(), (7, 7));
         Ok::<(), Fault>(())
-    })?
+    });
+    unopened_or(&rt, &opened, answer)
 }
 
 #[test]
@@ -113,13 +150,15 @@ fn more_numbers_than_memory_holds_are_refused(rt: HostRuntime) -> Result<(), Fau
     })?
 }
 
-// No allocation is left to this test but its rounds', so the first one that they made would be refused.
+// An empty round that took memory would be refused it once.
 #[test]
 fn refused_nothing_where_nothing_is_run(rt: HostRuntime) -> Result<(), Fault> {
     let alloc = rt.alloc();
     let calls = Calls::new();
+    let opened = AtomicUsize::new(0);
     let pool = Pool::new(4, LIMITS, Counting { calls: &calls });
-    with_lock::<Square, _, _, _, _, _>(&rt, alloc, &pool, 4, |leader| {
+    let answer = with_lock::<Square, _, _, _, _, _>(&rt, alloc, &pool, 4, |leader| {
+        opened.fetch_add(1, Ordering::SeqCst);
         for jobs in [0, 1, 4, usize::MAX] {
             let outputs = leader.for_each(&rt, alloc, jobs, Vec::new(alloc))?;
             assert!(rt; outputs.is_empty());
@@ -130,5 +169,6 @@ fn refused_nothing_where_nothing_is_run(rt: HostRuntime) -> Result<(), Fault> {
         assert_eq!(rt; outputs.capacity(), 0);
         assert_eq!(rt; calls.in_all(), (0, 0));
         Ok::<(), Fault>(())
-    })?
+    });
+    unopened_or(&rt, &opened, answer)
 }

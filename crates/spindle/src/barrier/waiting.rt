@@ -234,7 +234,7 @@ impl<'a, D: Slots> Barrier<'a, D> {
     }
 
     // The closer's two stores, by a member.
-    fn close(&mut self)
+    pub(crate) fn close(&mut self)
         requires held { IsHeld self.old }
         requires closer { (q : ℕ) × (was : Bool) × (read : Option ℕ) × (self.old.seat.me.0.standing ≡ Closing q true was read) }
         ensures held { Keeps self.old self.new }

@@ -2,12 +2,14 @@
 ghost use Rattle.std.specs.Prelude.{◌≡◌, ◌<◌, ◌≤◌, IfSome};
 
 use crate::lock::nest::Nest;
+use crate::lock::notices::Notices;
 use std::marker::Model;
 
 /// The context of a job whose kind has the inner nest N.
 #[derive(Drop)]
 pub struct JobCx<'a, N: Nest> {
     slots: Option<&'a N::Slots>,
+    notices: Notices<'a>,
     index: Option<usize>,
     current: usize,
     threads: usize,
@@ -29,6 +31,7 @@ impl<'a, N: Nest> JobCx<'a, N> {
     /// The context of a job that runs in a lock of so many threads, of which so many are there.
     pub(crate) fn new(
         slots: Option<&'a N::Slots>,
+        notices: Notices<'a>,
         index: Option<usize>,
         current: usize,
         threads: usize,
@@ -38,6 +41,7 @@ impl<'a, N: Nest> JobCx<'a, N> {
     {
         JobCx {
             slots,
+            notices,
             index,
             current,
             threads,
@@ -70,5 +74,7 @@ impl<'a, N: Nest> JobCx<'a, N> {
     /// Tells idle helpers of the lock to sleep at once until its next round. A leader that works alone has none.
     pub fn relieve_workers(&mut self)
         ensures { self.new.threads ≡ self.old.threads }
-    {}
+    {
+        self.notices.announce_rest();
+    }
 }

@@ -9,6 +9,7 @@ pub(crate) const MOST_THREADS: usize = 32767;
 pub struct Crew {
     threads: usize,
     ghost led: { 0 < threads },
+    ghost few: { threads ≤ 32767 },
 }
 
 impl Crew {
@@ -28,6 +29,7 @@ impl Crew {
     pub(crate) fn threads(&self) -> usize
         ensures number { result ≡ self.now.threads }
         ensures some { 0 < result }
+        ensures most { result ≤ 32767 }
     {
         self.threads
     }

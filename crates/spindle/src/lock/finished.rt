@@ -1,7 +1,9 @@
 //! A piece that was run: its outputs answer its inputs.
-ghost use Rattle.std.specs.Prelude.{◌≡◌};
+ghost use Rattle.std.specs.Prelude.{◌≡◌, ◌+◌, ◌≤◌, ◌↔◌, IsTrue, length, vec_len, vec_capacity};
 ghost use Rattle.std.specs.List.{AllZip};
+ghost use Rattle.spindle.specs.Rounds.{AddsAnswers};
 
+use crate::lists::are_equal;
 use crate::lock::job::Job;
 use std::marker::Model;
 
@@ -60,5 +62,28 @@ impl<J: Job> Finished<J> {
         ensures answers { AllZip J.meets self.inputs result.items }
     {
         self.outputs
+    }
+
+    /// Whether it is the piece of a number with these items.
+    pub(crate) fn is_of(&self, number: usize, items: &[J::In]) -> bool
+        ensures { IsTrue result ↔ ((self.now.number ≡ number) × (self.now.inputs ≡ items.now)) }
+    {
+        self.number == number && are_equal(self.inputs.as_slice(), items)
+    }
+
+    /// Moves the outputs to the end of the list. What is left is a piece of nothing, with its vectors' room.
+    pub(crate) fn move_outputs(&mut self, outputs: &mut Vec<J::Out>)
+        requires room { vec_len outputs.old + length self.old.inputs ≤ vec_capacity outputs.old }
+        ensures answers { AddsAnswers J.meets self.old.inputs outputs.old.items outputs.new.items }
+        ensures room { vec_capacity outputs.old ≤ vec_capacity outputs.new }
+        ensures number { self.new.number ≡ self.old.number }
+    {
+        outputs.append(&mut self.outputs).unwrap();
+        self.inputs.clear();
+    }
+
+    /// The vectors of its inputs and outputs.
+    pub(crate) fn into_vectors(self) -> (Vec<J::In>, Vec<J::Out>) {
+        (self.inputs, self.outputs)
     }
 }

@@ -4,7 +4,6 @@ ghost use Rattle.std.specs.Prelude.{◌≡◌, ◌+◌, ◌<◌, ◌≤◌, ◌�
 ghost use Rattle.std.specs.List.{AllZip};
 ghost use Rattle.spindle.specs.Outputs.{HoldsPiece, HoldAll, IsFirstLost, items_of, all_inputs_in};
 
-use crate::lists::are_equal;
 use crate::lock::finished::Finished;
 use crate::lock::job::Job;
 use spindle_parts::cut::Piece;
@@ -43,10 +42,7 @@ fn holds<J: Job>(place: &Option<Finished<J>>, piece: &Piece<J::In>) -> bool
     ensures { IsTrue result ↔ HoldsPiece piece.now place.now }
 {
     match place {
-        Some(finished) => {
-            finished.number() == piece.number
-                && are_equal(finished.inputs(), piece.items.as_slice())
-        }
+        Some(finished) => finished.is_of(piece.number, piece.items.as_slice()),
         None => false,
     }
 }

@@ -1,52 +1,52 @@
 //! The leader of a lock: rounds over lists of items.
 //!
 //! A round goes one way: items, pieces, jobs, outputs. All memory that a round takes is taken before its first job.
-ghost use Rattle.std.specs.Prelude.{◌≡◌, ℕ, ◌+◌, ◌<◌, ◌≤◌, ◌++◌, List, length, map, min, IfOk, IfErr, IfSome, IsOk, IsNone, vec_len, vec_capacity};
+ghost use Rattle.std.specs.Prelude.{◌≡◌, ◌<◌, ◌≤◌, IfOk, IfErr, OnOk, IsOk, IsNone, vec_len};
 ghost use Rattle.std.specs.List.{AllZip};
-ghost use Rattle.std.specs.Option.{ForSome};
 ghost use Rattle.std.specs.Fn.{FnOnceReturnsAtMut};
-ghost use Rattle.spindle_parts.specs.Pieces.{counted, joined};
-ghost use Rattle.spindle.specs.Leaders.{threads_of};
-ghost use Rattle.spindle.specs.Rounds.{job_count, ClonesAreSame, IsRefusal, AddsAnswers, items_of};
+ghost use Rattle.spindle_parts.specs.Pieces.{counted};
+ghost use Rattle.spindle.specs.Leaders.{threads_of, IsBetweenRounds, MadeNoStep, PlayedOnce, LeftByRefusal};
+ghost use Rattle.spindle.specs.Rounds.{job_count, ClonesAreSame, IsRefusal};
 
-use crate::lock::context::JobCx;
-use crate::lock::crew::Crew;
 use crate::lock::gate::Gate;
 use crate::lock::job::Job;
+use crate::lock::leader_post::LeaderPost;
+use crate::lock::pieces::Pieces;
+use crate::lock::runner::Runner;
 use crate::lock::shared::{Lock, Opens};
-use spindle_parts::cut::{Piece, cut};
+use spindle_parts::cut::cut;
 use spindle_parts::fault::Fault;
 use std::alloc::Global;
-use std::marker::PhantomData;
 use std::sync::Wait;
 use std::thread::Threads;
 
 /// A round has at most so many jobs, whatever a caller asks for.
 const MOST_JOBS: usize = 4294967295;
 
-/// The leader's number among a lock's threads.
-const LEADER: usize = 0;
-
 /// The leader of a lock over jobs of kind J, lent to the closure that the lock was opened for.
 #[derive(Drop)]
 pub struct Leader<'a, J: Job, G: Gate, L = Lock<J>> {
-    kind: PhantomData<J>,
     lock: &'a L,
-    gate: &'a G,
-    crew: Crew,
+    runner: Runner<'a, J, G>,
+    post: LeaderPost<'a>,
 }
 
 impl<'a, J: Opens<L>, G: Gate, L> Leader<'a, J, G, L> {
-    /// The leader of a lock with these threads.
-    pub(crate) fn new(lock: &'a L, gate: &'a G, crew: Crew) -> Leader<'a, J, G, L>
-        ensures { result.crew ≡ crew }
+    /// The leader of a lock, in whose barrier it stands.
+    pub(crate) fn new(
+        lock: &'a L,
+        runner: Runner<'a, J, G>,
+        post: LeaderPost<'a>,
+    ) -> Leader<'a, J, G, L>
+        ensures { threads_of result ≡ post.entry.post.tables.now.crew.threads }
     {
-        Leader {
-            kind: PhantomData,
-            lock,
-            gate,
-            crew,
-        }
+        Leader { lock, runner, post }
+    }
+
+    /// Tells the helpers to end.
+    pub(crate) fn dismiss<H: Wait>(&mut self, rt: &H) {
+        self.runner.notices.announce_exit();
+        self.runner.tables.sleep.wake(rt);
     }
 
     /// Runs the items in `n_jobs` jobs, or in as many as there are items where these are fewer, and at most in
@@ -67,61 +67,60 @@ impl<'a, J: Opens<L>, G: Gate, L> Leader<'a, J, G, L> {
         ensures refused { IfErr result
             (IsRefusal (threads_of self.old) (job_count (vec_len items) n_jobs)) }
         ensures empty { vec_len items ≡ 0 → IsOk result }
+        ensures played { let jobs = job_count (vec_len items) n_jobs in
+            OnOk result (2 ≤ jobs → PlayedOnce jobs self.old self.new) }
+        ensures direct { job_count (vec_len items) n_jobs ≤ 1 → MadeNoStep self.old self.new }
+        ensures left { IfErr result
+            (LeftByRefusal (job_count (vec_len items) n_jobs) self.old self.new) }
+        ensures between { IsBetweenRounds self.new }
         ensures lock { threads_of self.new ≡ threads_of self.old }
     {
         if items.is_empty() {
             return Ok(Vec::new(alloc));
         }
+        let jobs = items.len().min(n_jobs.min(MOST_JOBS));
+        if jobs > 1 && self.max_num_threads() > 1 {
+            return self.play(rt, alloc, jobs, items);
+        }
         let mut outputs = Vec::with_capacity(alloc, items.len())?;
-        if items.len() == 1 || n_jobs == 1 {
-            self.run_job(rt, alloc, 0, None, items.as_slice(), &mut outputs);
+        if jobs == 1 {
+            let inputs = items.as_slice();
+            self.runner.run(rt, alloc, 0, None, inputs, &mut outputs);
         } else {
-            let pieces = cut(alloc, &mut items, n_jobs.min(MOST_JOBS))?;
-            self.run_pieces(rt, alloc, pieces.as_slice(), &mut outputs);
+            let pieces = cut(alloc, &mut items, jobs)?;
+            let pieces = pieces.as_slice();
+            self.post
+                .play_alone(rt, alloc, &mut self.runner, pieces, &mut outputs);
         }
         Ok(outputs)
     }
 
-    // Runs the pieces one after another.
-    fn run_pieces<H: Threads + Wait + Sync>(
-        &self,
+    // A round with the helpers: hand out, publish, work, wait, gather.
+    fn play<H: Threads + Wait + Sync>(
+        &mut self,
         rt: &H,
         alloc: Global,
-        pieces: &[Piece<J::In>],
-        outputs: &mut Vec<J::Out>,
-    )
-        requires empty { vec_len outputs.old ≡ 0 }
-        requires room { length (items_of pieces.now) ≤ vec_capacity outputs.old }
-        ensures { AllZip J.meets (items_of pieces.now) outputs.new.items }
+        jobs: usize,
+        items: Vec<J::In>,
+    ) -> Result<Vec<J::Out>, Fault>
+        requires threads { 2 ≤ threads_of self.old }
+        requires jobs { (2 ≤ jobs) × (jobs ≤ 4294967295) × (jobs ≤ vec_len items) }
+        ensures answer { IfOk result (λ outputs. AllZip J.meets items.items outputs.items) }
+        ensures refused { IfErr result (IsRefusal (threads_of self.old) jobs) }
+        ensures played { OnOk result (PlayedOnce jobs self.old self.new) }
+        ensures left { IfErr result (LeftByRefusal jobs self.old self.new) }
+        ensures lock { threads_of self.new ≡ threads_of self.old }
     {
-        for piece in pieces {
-            let items = piece.items.as_slice();
-            self.run_job(rt, alloc, piece.number, Some(LEADER), items, outputs);
+        let mut outputs = Vec::with_capacity(alloc, items.len())?;
+        let pieces = Pieces::new(items.as_slice(), jobs);
+        let trays = J::trays(self.lock);
+        trays.hand_out(rt, alloc, &pieces)?;
+        self.post
+            .play(rt, alloc, trays, &mut self.runner, pieces.count() as u64);
+        match trays.gather(rt, &pieces, &mut outputs) {
+            Ok(()) => Ok(outputs),
+            Err(number) => Err(Fault::Lost(number)),
         }
-    }
-
-    // Runs one job between its two calls of the gate.
-    fn run_job<H: Threads + Wait + Sync>(
-        &self,
-        rt: &H,
-        alloc: Global,
-        number: usize,
-        index: Option<usize>,
-        items: &[J::In],
-        outputs: &mut Vec<J::Out>,
-    )
-        requires index { ForSome index (λ i. i < threads_of self.now) }
-        requires room { vec_len outputs.old + length items.now ≤ vec_capacity outputs.old }
-        ensures answered { AddsAnswers J.meets items.now outputs.old.items outputs.new.items }
-        ensures room { vec_capacity outputs.new ≡ vec_capacity outputs.old }
-        ensures len { vec_len outputs.new ≡ vec_len outputs.old + length items.now }
-    {
-        let mut context = JobCx::new(Some(J::slots(self.lock)), index, 1, self.crew.threads());
-        self.gate.begun(number);
-        for item in items {
-            outputs.push_reserved(J::run(rt, alloc, item, &mut context));
-        }
-        self.gate.done(number);
     }
 
     /// Runs f in the same lock; the number has no effect, as in spindle between two rounds.
@@ -142,15 +141,14 @@ impl<'a, J: Opens<L>, G: Gate, L> Leader<'a, J, G, L> {
         ensures leader { 0 < result }
         ensures most { result ≤ threads_of self.now }
     {
-        let _threads = self.crew.threads();
-        1
+        self.post.post.tables.current_num_threads()
     }
 
     /// The lock's threads.
     pub fn max_num_threads(&self) -> usize
         ensures { result ≡ threads_of self.now }
     {
-        self.crew.threads()
+        self.post.post.tables.crew.threads()
     }
 
     /// None: a leader has no number between rounds.
@@ -160,10 +158,13 @@ impl<'a, J: Opens<L>, G: Gate, L> Leader<'a, J, G, L> {
         None
     }
 
-    /// Tells idle helpers to sleep at once until the next round. A leader that works alone has none.
+    /// Tells idle helpers to sleep at once until the next round.
     pub fn relieve_workers(&mut self)
-        ensures { threads_of self.new ≡ threads_of self.old }
-    {}
+        ensures lock { threads_of self.new ≡ threads_of self.old }
+        ensures quiet { MadeNoStep self.old self.new }
+    {
+        self.runner.notices.announce_rest();
+    }
 }
 
 impl<'a, J: Opens<L, In = usize>, G: Gate, L> Leader<'a, J, G, L> {
@@ -178,6 +179,11 @@ impl<'a, J: Opens<L, In = usize>, G: Gate, L> Leader<'a, J, G, L> {
         ensures refused { IfErr result
             (IsRefusal (threads_of self.old) (job_count n_jobs n_jobs)) }
         ensures empty { n_jobs ≡ 0 → IsOk result }
+        ensures played { let jobs = job_count n_jobs n_jobs in
+            OnOk result (2 ≤ jobs → PlayedOnce jobs self.old self.new) }
+        ensures direct { n_jobs ≤ 1 → MadeNoStep self.old self.new }
+        ensures left { IfErr result (LeftByRefusal (job_count n_jobs n_jobs) self.old self.new) }
+        ensures between { IsBetweenRounds self.new }
         ensures lock { threads_of self.new ≡ threads_of self.old }
     {
         if n_jobs == 0 {

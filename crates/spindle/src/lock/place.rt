@@ -1,9 +1,13 @@
 //! The place of a piece in a tray: the piece until a thread takes it, and then what the thread brings back.
-ghost use Rattle.std.specs.Prelude.{◌≡◌, None, Some, OnOk, OnErr, IfErr, IsOk, ◌↔◌};
+ghost use Rattle.std.specs.Prelude.{◌≡◌, ◌+◌, ◌≤◌, ◌↔◌, None, Some, OnOk, OnErr, IfErr, IsTrue, IsOk, true, length, vec_len, vec_capacity};
+ghost use Rattle.spindle.specs.Rounds.{AddsAnswers};
+ghost use Rattle.spindle.specs.Outputs.{IsRunOf};
+ghost use Rattle.spindle.specs.Trays.{Awaits};
 
 use crate::lock::finished::Finished;
 use crate::lock::job::Job;
 use crate::lock::ready::Ready;
+use std::alloc::{AllocError, Global};
 use std::marker::Model;
 
 /// A place keeps its number, and holds no piece of another one.
@@ -27,16 +31,44 @@ impl<J: Job> Model for Place<J> {
 }
 
 impl<J: Job> Place<J> {
-    /// The place of a piece that is ready.
-    pub(crate) fn new(ready: Ready<J>) -> Place<J>
-        ensures number { result.number ≡ ready.number }
-        ensures ready { result.ready ≡ Some ready }
-        ensures finished { result.finished ≡ None }
-    {
+    /// A place of no piece. Takes no memory.
+    pub(crate) fn new() -> Place<J> {
         Place {
-            number: ready.number(),
-            ready: Some(ready),
+            number: 0,
+            ready: None,
             finished: None,
+        }
+    }
+
+    /// Puts a clone of a piece here, into the vectors of what stood here.
+    pub(crate) fn refill(
+        &mut self,
+        alloc: Global,
+        number: usize,
+        items: &[J::In],
+    ) -> Result<(), AllocError>
+        ensures { OnOk result (Awaits J.In.is_clone items.now number self.new) }
+    {
+        let (inputs, room) = self.take_vectors(alloc);
+        self.number = number;
+        self.ready = Some(Ready::new(number, items, inputs, room)?);
+        Ok(())
+    }
+
+    // The vectors of what stands here, or new ones.
+    fn take_vectors(&mut self, alloc: Global) -> (Vec<J::In>, Vec<J::Out>)
+        ensures { (self.new.ready ≡ None) × (self.new.finished ≡ None) }
+    {
+        if let Some(finished) = self.finished.take() {
+            self.ready = None;
+            return finished.into_vectors();
+        }
+        match self.ready.take() {
+            Some(ready) => {
+                let (_, inputs, room) = ready.into_parts();
+                (inputs, room)
+            }
+            None => (Vec::new(alloc), Vec::new(alloc)),
         }
     }
 
@@ -66,13 +98,26 @@ impl<J: Job> Place<J> {
         Ok(())
     }
 
-    /// Takes what was brought back, if a piece was.
-    pub(crate) fn take_finished(&mut self) -> Option<Finished<J>>
-        ensures piece { result ≡ self.old.finished }
-        ensures taken { self.new.finished ≡ None }
+    /// Moves the outputs of what was brought back to the end of the list, if it is the piece of a number with these items.
+    pub(crate) fn hand_over(
+        &mut self,
+        number: usize,
+        items: &[J::In],
+        outputs: &mut Vec<J::Out>,
+    ) -> bool
+        requires room { vec_len outputs.old + length items.now ≤ vec_capacity outputs.old }
+        ensures answers { result ≡ true
+            → AddsAnswers J.meets items.now outputs.old.items outputs.new.items }
+        ensures room { vec_capacity outputs.old ≤ vec_capacity outputs.new }
         ensures number { self.new.number ≡ self.old.number }
-        ensures ready { self.new.ready ≡ self.old.ready }
+        ensures held { IsTrue result ↔ IsRunOf number items.now self.old.finished }
     {
-        self.finished.take()
+        match &mut self.finished {
+            Some(finished) if finished.is_of(number, items) => {
+                finished.move_outputs(outputs);
+                true
+            }
+            _ => false,
+        }
     }
 }

@@ -74,4 +74,13 @@ impl<G: Gate> Pool<G> {
     pub(crate) fn gate(&self) -> &G {
         &self.gate
     }
+
+    pub(crate) fn limits(&self) -> Limits {
+        self.limits
+    }
+
+    /// How many helpers a lock may start.
+    pub(crate) fn starts(&self) -> usize {
+        self.starts
+    }
 }

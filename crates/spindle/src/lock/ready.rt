@@ -1,9 +1,9 @@
 //! A piece that is ready to run: nothing that it needs has to be made any more.
 ghost use Rattle.std.specs.Prelude.{◌≡◌, ◌≤◌, [], IfOk, vec_len, vec_capacity};
+ghost use Rattle.std.specs.List.{AllZip};
 
 use crate::lock::job::Job;
-use spindle_parts::cut::Piece;
-use std::alloc::{AllocError, Global};
+use std::alloc::AllocError;
 use std::marker::Model;
 
 /// A piece with room for an output for each of its items.
@@ -27,15 +27,23 @@ impl<J: Job> Model for Ready<J> {
 }
 
 impl<J: Job> Ready<J> {
-    /// The piece, with room for its outputs.
-    pub(crate) fn new(alloc: Global, piece: Piece<J::In>) -> Result<Ready<J>, AllocError>
-        ensures number { IfOk result (λ ready. ready.number ≡ piece.number) }
-        ensures inputs { IfOk result (λ ready. ready.inputs ≡ piece.items.items) }
+    /// A clone of a piece's items, with room for their outputs. What the vectors held goes; their room is used.
+    pub(crate) fn new(
+        number: usize,
+        items: &[J::In],
+        mut inputs: Vec<J::In>,
+        mut room: Vec<J::Out>,
+    ) -> Result<Ready<J>, AllocError>
+        ensures number { IfOk result (λ ready. ready.number ≡ number) }
+        ensures inputs { IfOk result (λ ready. AllZip J.In.is_clone items.now ready.inputs) }
     {
-        let room = Vec::with_capacity(alloc, piece.items.len())?;
+        inputs.clear();
+        inputs.extend_from_slice(items)?;
+        room.clear();
+        room.reserve(items.len())?;
         Ok(Ready {
-            number: piece.number,
-            inputs: piece.items,
+            number,
+            inputs,
             room,
         })
     }

@@ -1,8 +1,10 @@
-//! Opening a root lock.
+//! Opening a root lock: its tables are made, its helpers start, and at its end they are dismissed and joined.
 ghost use Rattle.std.specs.Prelude.{◌≡◌, ◌<◌, IfOk, OnErr, IsErrOf};
 ghost use Rattle.std.specs.Fn.{FnOnceReturnsAtMut};
+ghost use denote.Param.Send.{IsSync};
 ghost use Rattle.spindle.specs.Leaders.{threads_of};
 ghost use Rattle.spindle.specs.Locks.{lock_threads};
+ghost use Rattle.spindle.specs.Opening.{AreSeatsAt};
 
 use crate::lock::crew::Crew;
 use crate::lock::gate::Gate;
@@ -10,9 +12,12 @@ use crate::lock::leader::Leader;
 use crate::lock::nest::Nest;
 use crate::lock::pool::Pool;
 use crate::lock::shared::Opens;
+use crate::lock::starting::{Seats, lead};
+use crate::lock::tables::Tables;
 use spindle_parts::fault::Fault;
 use std::alloc::Global;
 use std::sync::Wait;
+use std::thread;
 use std::thread::Threads;
 
 /// Opens a lock over jobs of kind J, runs f with its leader, and closes the lock.
@@ -26,7 +31,7 @@ pub fn with_lock<
     F: FnOnce(&mut Leader<J, G, L>) -> R,
     L: Send + Sync + Drop,
     H: Threads + Wait + Sync,
->(_rt: &H, alloc: Global, pool: &Pool<G>, max_threads: usize, f: F) -> Result<R, Fault>
+>(rt: &H, alloc: Global, pool: &Pool<G>, max_threads: usize, f: F) -> Result<R, Fault>
 where
     J::In: Send + Sync,
     J::Out: Send,
@@ -41,6 +46,38 @@ where
 {
     let crew = Crew::new(pool.max_num_threads(), max_threads);
     let lock = J::open(alloc, crew.threads())?;
-    let mut leader = Leader::new(&lock, pool.gate(), crew);
-    Ok(f(&mut leader))
+    let (tables, seats) = Tables::new(alloc, crew, pool.limits())?;
+    Ok(scoped(rt, alloc, &tables, &lock, pool, seats, f))
+}
+
+// Opens the scope of the helpers' threads, which joins them at its end.
+fn scoped<
+    J: Opens<L> + Send,
+    G: Gate + Sync,
+    R,
+    F: FnOnce(&mut Leader<J, G, L>) -> R,
+    L: Send + Sync,
+    H: Threads + Wait + Sync,
+>(rt: &H, alloc: Global, tables: &Tables, lock: &L, pool: &Pool<G>, seats: Seats, f: F) -> R
+where
+    J::In: Send + Sync,
+    J::Out: Send,
+    J::Inner: Send,
+    <J::Inner as Nest>::Slots: Send + Sync,
+    requires callable { F.IsAlwaysCallable f }
+    requires seats { AreSeatsAt tables.now seats }
+    ensures { (old : _) × (new : _) × (threads_of old ≡ tables.now.crew.threads) × FnOnceReturnsAtMut F.FnOnce f old result new }
+{
+    let gate = pool.gate();
+    let starts = pool.starts();
+    thread::scope(
+        thread::scope_env(),
+        rt,
+        |scope| -> R
+            requires callable { F.IsAlwaysCallable f }
+            requires seats { AreSeatsAt tables.now seats }
+            requires sync { IsSync H.row }
+            ensures { (old : _) × (new : _) × (threads_of old ≡ tables.entry.now.crew.threads) × FnOnceReturnsAtMut F.FnOnce f old result new }
+        { lead::<_, J, G, R, F, L, H>(scope, rt, alloc, tables, lock, gate, seats, starts, f) },
+    )
 }

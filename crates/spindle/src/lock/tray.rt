@@ -2,17 +2,22 @@
 //!
 //! A leader fills the trays before it publishes a round. Whoever claims a number takes its piece out of the tray where
 //! it was dealt, and brings it back there, run. After the round the leader empties the places.
-ghost use Rattle.std.specs.Prelude.{◌≡◌, ℕ, ◌≢◌, ◌+◌, ◌^◌, ◌<◌, ◌≤◌, ◌↔◌, ◌++◌, [], Some, None, IsOk, IfOk, IfErr, OnOk, OnErr, map, slice_get, vec_len, vec_capacity};
+ghost use Rattle.std.specs.Prelude.{◌≡◌, ℕ, ◌≢◌, ◌+◌, ◌^◌, ◌<◌, ◌≤◌, ◌↔◌, [], true, Some, None, IsTrue, IsOk, IfOk, IfErr, OnOk, OnErr, length, map, take, slice_get, vec_len, vec_capacity};
 ghost use Rattle.std.specs.List.{AllZip};
 ghost use Rattle.spindle_parts.specs.Pieces.{counted, dealt};
-ghost use Rattle.spindle.specs.Trays.{ready_at, finished_at, number_at, Awaits};
+ghost use Rattle.spindle.specs.PieceRuns.{items_before};
+ghost use Rattle.spindle.specs.Rounds.{AddsAnswers};
+ghost use Rattle.spindle.specs.Outputs.{IsRunOf};
+ghost use Rattle.spindle.specs.Trays.{ready_at, finished_at, number_at, AwaitsAll};
 
+use crate::lock::address::{Address, hand_length};
 use crate::lock::finished::Finished;
 use crate::lock::job::Job;
+use crate::lock::pieces::Pieces;
 use crate::lock::place::Place;
 use crate::lock::ready::Ready;
-use spindle_parts::cut::Piece;
 use std::alloc::{AllocError, Global};
+use std::mem;
 
 /// The places of one thread number's pieces of a round.
 #[derive(Drop)]
@@ -21,12 +26,15 @@ pub(crate) struct Tray<J: Job> {
     threads: usize,
     pieces: usize,
     places: Vec<Place<J>>,
-    ghost dealt: { map (λ place. place.number) places.items ≡ dealt (counted 0 pieces) threads thread },
+    ghost named: { thread < threads },
+    ghost dealt: { let own = dealt (counted 0 pieces) threads thread in
+        take (length own) (map (λ place. place.number) places.items) ≡ own },
 }
 
 impl<J: Job> Tray<J> {
     /// A thread number's tray of no pieces. Takes no memory.
     pub(crate) fn new(alloc: Global, thread: usize, threads: usize) -> Tray<J>
+        requires { thread < threads }
         ensures { result.places.items ≡ [] }
     {
         Tray {
@@ -37,30 +45,28 @@ impl<J: Job> Tray<J> {
         }
     }
 
-    /// The tray filled with what a thread number was dealt of so many pieces. It keeps the room of its places.
-    pub(crate) fn refilled(
-        self,
+    /// Puts clones of what the thread number is dealt of the pieces into its places. After a refusal there are none.
+    pub(crate) fn refill(
+        &mut self,
         alloc: Global,
-        hand: Vec<Piece<J::In>>,
-        thread: usize,
-        threads: usize,
-        pieces: usize,
-    ) -> Result<Tray<J>, AllocError>
-        requires { map (λ piece. piece.number) hand.items ≡ dealt (counted 0 pieces) threads thread }
-        ensures places { IfOk result (λ tray. AllZip Awaits hand.items tray.places.items) }
+        pieces: &Pieces<'_, J::In>,
+    ) -> Result<(), AllocError>
+        ensures waits { OnOk result (AwaitsAll J.In.is_clone pieces.now.items.now pieces.now.count
+            (dealt (counted 0 pieces.now.count) self.old.threads self.old.thread) self.new.places.items) }
     {
-        let mut places = self.places;
-        places.clear();
-        places.reserve(hand.len())?;
-        for piece in hand {
-            places.push_reserved(Place::new(Ready::new(alloc, piece)?));
+        let count = pieces.count();
+        let thread = self.thread;
+        let length = hand_length(thread, count, self.threads);
+        self.pieces = 0;
+        let mut places = mem::replace(&mut self.places, Vec::new(alloc));
+        grow(&mut places, length)?;
+        for place in 0..length {
+            let number = Address { thread, place }.number(count, self.threads);
+            places[place].refill(alloc, number, pieces.piece(number))?;
         }
-        Ok(Tray {
-            thread,
-            threads,
-            pieces,
-            places,
-        })
+        self.pieces = count;
+        self.places = places;
+        Ok(())
     }
 
     /// Takes the piece that waits at a place, if there is one.
@@ -95,37 +101,65 @@ impl<J: Job> Tray<J> {
         place.put(finished)
     }
 
-    /// Moves what was brought back to the places from `from` on, so many, to the end of the list.
-    ///
-    /// The list gets None for a place to which nothing was brought back, or which isn't there.
-    pub(crate) fn move_out(
+    /// Moves the outputs of so many pieces, whose places begin at `from`, to the end of the list. Answers the first number
+    /// whose place doesn't hold its piece, run.
+    pub(crate) fn gather(
         &mut self,
         from: usize,
+        pieces: &Pieces<'_, J::In>,
+        number: usize,
         count: usize,
-        list: &mut Vec<Option<Finished<J>>>,
-    )
-        requires room { vec_len list.old + count ≤ vec_capacity list.old }
+        outputs: &mut Vec<J::Out>,
+    ) -> Result<(), usize>
+        requires numbers { number + count ≤ pieces.now.count }
         requires places { from + count < 2 ^ 64 }
-        ensures moved { list.new.items
-            ≡ list.old.items ++ map (finished_at self.old.places.items) (counted from count) }
-        ensures room { vec_capacity list.new ≡ vec_capacity list.old }
-        ensures len { vec_len list.new ≡ vec_len list.old + count }
+        requires before { AllZip J.meets
+            (items_before pieces.now.items.now pieces.now.count number) outputs.old.items }
+        requires room { length pieces.now.items.now ≤ vec_capacity outputs.old }
+        ensures answers { OnOk result (AllZip J.meets
+            (items_before pieces.now.items.now pieces.now.count (number + count)) outputs.new.items) }
+        ensures room { length pieces.now.items.now ≤ vec_capacity outputs.new }
+        ensures lost { IfErr result (λ k. k < pieces.now.count) }
     {
-        for at in from..from + count {
-            list.push_reserved(self.take_finished(at));
+        for at in 0..count {
+            let items = pieces.piece(number + at);
+            if !self.hand_over(from + at, number + at, items, outputs) {
+                return Err(number + at);
+            }
         }
+        Ok(())
     }
 
-    // Takes what was brought back to a place.
-    fn take_finished(&mut self, at: usize) -> Option<Finished<J>>
-        ensures piece { result ≡ finished_at self.old.places.items at }
-        ensures others { (k : ℕ) → k ≢ at
-            → slice_get self.new.places.items k ≡ slice_get self.old.places.items k }
+    // Moves the outputs at a place to the end of the list, if the piece of a number with these items is there, run.
+    fn hand_over(
+        &mut self,
+        at: usize,
+        number: usize,
+        items: &[J::In],
+        outputs: &mut Vec<J::Out>,
+    ) -> bool
+        requires room { vec_len outputs.old + length items.now ≤ vec_capacity outputs.old }
+        ensures answers { result ≡ true
+            → AddsAnswers J.meets items.now outputs.old.items outputs.new.items }
+        ensures room { vec_capacity outputs.old ≤ vec_capacity outputs.new }
+        ensures held { IsTrue result ↔ IsRunOf number items.now (finished_at self.old.places.items at) }
     {
         if at >= self.places.len() {
-            return None;
+            return false;
         }
         let place = &mut self.places[at];
-        place.take_finished()
+        place.hand_over(number, items, outputs)
     }
+}
+
+// Adds empty places until there are so many.
+fn grow<J: Job>(places: &mut Vec<Place<J>>, count: usize) -> Result<(), AllocError>
+    ensures { OnOk result (count ≤ vec_len places.new) }
+{
+    let missing = count.saturating_sub(places.len());
+    places.reserve(missing)?;
+    for _ in 0..missing {
+        places.push_reserved(Place::new());
+    }
+    Ok(())
 }

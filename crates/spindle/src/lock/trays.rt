@@ -1,23 +1,23 @@
 //! The trays of a lock: one a thread number, each behind a lock of its own, so that threads which run the pieces that
 //! they were dealt never wait for one another.
-ghost use Rattle.std.specs.Prelude.{◌≡◌, ◌<◌, ◌≤◌, [], IfOk, IfErr, IfSome, OnErr, IsErrOf, map, vec_len, vec_capacity};
-ghost use Rattle.spindle_parts.specs.Pieces.{counted, dealt};
+ghost use Rattle.std.specs.Prelude.{◌≡◌, ◌<◌, ◌≤◌, [], IfOk, IfErr, IfSome, OnOk, OnErr, IsErrOf, length, vec_len, vec_capacity};
+ghost use Rattle.std.specs.List.{AllZip};
 
 use crate::lock::address::Address;
 use crate::lock::finished::Finished;
 use crate::lock::job::Job;
+use crate::lock::pieces::Pieces;
 use crate::lock::ready::Ready;
 use crate::lock::tray::Tray;
-use spindle_parts::cut::Piece;
+use crossbeam_utils::CachePadded;
 use spindle_parts::fault::Fault;
-use std::alloc::{AllocError, Global};
-use std::mem;
+use std::alloc::Global;
 use std::sync::{Mutex, Wait};
 
 /// The trays of a lock, by thread number.
 #[derive(Drop)]
-pub(crate) struct Trays<J: Job> {
-    trays: Vec<Mutex<Tray<J>>>,
+pub struct Trays<J: Job> {
+    trays: Vec<CachePadded<Mutex<Tray<J>>>>,
     ghost led: { 0 < vec_len trays },
 }
 
@@ -30,50 +30,27 @@ impl<J: Job> Trays<J> {
     {
         let mut trays = Vec::with_capacity(alloc, threads)?;
         for thread in 0..threads {
-            trays.push_reserved(Mutex::new(Tray::new(alloc, thread, threads)));
+            let tray = Mutex::new(Tray::new(alloc, thread, threads));
+            trays.push_reserved(CachePadded::new(tray));
         }
         Ok(Trays { trays })
     }
 
-    /// Puts what each thread was dealt of so many pieces into its tray. All that the pieces' runs need is made here.
+    /// Puts clones of the pieces into the trays of those that they are dealt to. All that the pieces' runs need is made
+    /// here, and what earlier rounds made is used again.
     ///
     /// After a refusal the trays hold no round's pieces as a whole; the next round fills them again.
     pub(crate) fn hand_out<H: Wait>(
         &self,
         rt: &H,
         alloc: Global,
-        mut hands: Vec<Vec<Piece<J::In>>>,
-        pieces: usize,
+        pieces: &Pieces<'_, J::In>,
     ) -> Result<(), Fault>
-        requires { let threads = vec_len self.now.trays in
-            map (λ hand. map (λ piece. piece.number) hand.items) hands.items
-            ≡ map (dealt (counted 0 pieces) threads) (counted 0 threads) }
         ensures { OnErr result (IsErrOf result Fault.Memory) }
     {
-        for thread in 0..self.trays.len() {
-            let hand = mem::replace(&mut hands[thread], Vec::new(alloc));
-            self.refill(rt, alloc, hand, thread, pieces)?;
+        for tray in &self.trays {
+            tray.lock(rt).refill(alloc, pieces)?;
         }
-        Ok(())
-    }
-
-    // Puts a thread's hand into its tray, in place of what stood there.
-    fn refill<H: Wait>(
-        &self,
-        rt: &H,
-        alloc: Global,
-        hand: Vec<Piece<J::In>>,
-        thread: usize,
-        pieces: usize,
-    ) -> Result<(), AllocError>
-        requires thread { thread < vec_len self.now.trays }
-        requires numbers { map (λ piece. piece.number) hand.items
-            ≡ dealt (counted 0 pieces) (vec_len self.now.trays) thread }
-    {
-        let threads = self.trays.len();
-        let mut tray = self.trays[thread].lock(rt);
-        let spent = mem::replace(&mut *tray, Tray::new(alloc, thread, threads));
-        *tray = spent.refilled(alloc, hand, thread, threads, pieces)?;
         Ok(())
     }
 
@@ -107,26 +84,31 @@ impl<J: Job> Trays<J> {
             .put(address.place, finished)
     }
 
-    /// Moves what was brought back of so many pieces into `places`, in the order of their numbers.
-    ///
-    /// A place is None where nothing was brought back. The runs that were dealt come first, then the left-over pieces.
-    pub(crate) fn collect<H: Wait>(
+    /// Moves the outputs of the pieces to the end of the list, in order. Answers the first number whose place is empty or
+    /// holds another number or other inputs than the piece; what has moved by then stays. Takes no memory.
+    pub(crate) fn gather<H: Wait>(
         &self,
         rt: &H,
-        pieces: usize,
-        places: &mut Vec<Option<Finished<J>>>,
-    )
-        requires empty { places.old.items ≡ [] }
-        requires room { pieces ≤ vec_capacity places.old }
-        ensures { vec_len places.new ≡ pieces }
+        pieces: &Pieces<'_, J::In>,
+        outputs: &mut Vec<J::Out>,
+    ) -> Result<(), usize>
+        requires empty { outputs.old.items ≡ [] }
+        requires room { length pieces.now.items.now ≤ vec_capacity outputs.old }
+        ensures answers { OnOk result (AllZip J.meets pieces.now.items.now outputs.new.items) }
+        ensures lost { IfErr result (λ k. k < pieces.now.count) }
     {
-        let each = pieces / self.trays.len();
-        let over = pieces % self.trays.len();
-        for tray in &self.trays {
-            tray.lock(rt).move_out(0, each, places);
+        let threads = self.trays.len();
+        let each = pieces.count() / threads;
+        for thread in 0..threads {
+            self.trays[thread]
+                .lock(rt)
+                .gather(0, pieces, each * thread, each, outputs)?;
         }
-        for tray in &self.trays[..over] {
-            tray.lock(rt).move_out(each, 1, places);
+        for thread in 0..pieces.count() % threads {
+            self.trays[thread]
+                .lock(rt)
+                .gather(each, pieces, each * threads + thread, 1, outputs)?;
         }
+        Ok(())
     }
 }

@@ -6,9 +6,14 @@ use crate::round::stopping::PutBack;
 use std::test::Fail;
 
 mod coming_and_going;
+mod counts;
+mod helping;
+mod leading;
 mod lines;
 mod play;
 mod scripts;
+mod threads;
+mod turns;
 
 #[test]
 fn a_round_of_ten_jobs_on_four_threads(rt: HostRuntime) -> Result<(), Fail> {

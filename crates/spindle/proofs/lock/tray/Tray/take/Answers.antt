@@ -1,14 +1,15 @@
 -- A place that is emptied keeps its number.
 use Rattle.std.proofs.Common.{◌<◌, length, ap, sym, ◌∙◌, rules}
-use Rattle.std.proofs.Math.Seq.{map-set_same}
-use Rattle.spindle.proofs.TrayPlaces.{at_place, at_written, at_others}
+use Rattle.spindle_parts.specs.Pieces.{counted, dealt}
+use Rattle.spindle.proofs.TrayPlaces.{numbers_stay, at_place, at_written, at_others}
 use Rattle.spindle.proofs.lock.tray.Tray.take.Goals as goal
 
 pub invariant_of-self : goal.invariant_of-self
 invariant_of-self g c =
-    let xs = c.args.self.now.places.items in
+    let tray = c.args.self.now in
+    let xs = tray.places.items in
     let d = c.index_mut-place.result.now in
-    record { dealt = map-set_same (λ place. place.number) xs c.args.at c.take.new.self d (c.take.ensures.number ∙ ap (λ place. place.number) c.index_mut-place.ensures.value) ∙ c.args.self.now.dealt }
+    record { named = c.args.self.now.named; dealt = numbers_stay (λ place. place.number) xs (dealt (counted 0 tray.pieces) tray.threads tray.thread) c.args.at c.take.new.self d (c.take.ensures.number ∙ ap (λ place. place.number) c.index_mut-place.ensures.value) tray.dealt }
 
 pub returns-clause-piece : goal.returns-clause-piece
 returns-clause-piece g c =

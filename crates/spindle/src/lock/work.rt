@@ -1,0 +1,306 @@
+//! The work of one thread in a published round: it claims jobs, runs their pieces, and counts them as finished.
+//!
+//! A thread begins with its own range, then steals from the longest, a share at a time, and at last takes from the
+//! remainder. In a round that may stop it looks before each claim whether the round was stopped.
+ghost use Rattle.std.specs.Prelude.{◌≡◌, ◌%◌, ◌<◌, ◌≤◌, ◌↔◌, IsTrue, None, true, false};
+ghost use Rattle.spindle.specs.RoundConditions.{MayFinish, MayPutBack, IsItsShare, IsDone};
+ghost use Rattle.spindle.specs.RoundViews.{Onward, SeesAsBefore, SharesAsBefore};
+ghost use Rattle.spindle.specs.Working.{OnTask, IsIdle, Worked, HasSearched};
+
+use crate::lock::finished::Finished;
+use crate::lock::gate::Gate;
+use crate::lock::job::Job;
+use crate::lock::runner::Runner;
+use crate::lock::trays::Trays;
+use crate::round::Round;
+use crate::round::claim::{Claim, Claimed, Share, Steal};
+use crate::round::stopping::PutBack;
+use crate::round_table::Seat;
+use crate::round_table::slots::Bare;
+use std::alloc::Global;
+use std::sync::Wait;
+use std::thread;
+use std::thread::Threads;
+
+/// What a published word says of its round.
+#[derive(Clone, Copy)]
+pub(crate) struct Task {
+    pub(crate) jobs: u64,
+    pub(crate) may_stop: bool,
+}
+
+impl Task {
+    /// The task of a word, which isn't 0.
+    pub(crate) fn new(word: u64) -> Task
+        ensures jobs { result.jobs ≡ word % 4294967296 }
+        ensures may_stop { IsTrue result.may_stop ↔ (4294967296 ≤ word) }
+    {
+        Task {
+            jobs: word % HIGH,
+            may_stop: word >= HIGH,
+        }
+    }
+}
+
+const HIGH: u64 = 4294967296;
+
+/// A thread of a lock, with its number.
+#[derive(Drop)]
+pub(crate) struct Worker<'r, 't, J: Job> {
+    pub(crate) round: &'r Round<Bare>,
+    pub(crate) trays: &'t Trays<J>,
+    pub(crate) thread: usize,
+}
+
+impl<'r, 't, J: Job> Worker<'r, 't, J> {
+    /// Works until nothing of the round is left for the thread.
+    pub(crate) fn work<G: Gate, H: Threads + Wait + Sync>(
+        &self,
+        rt: &H,
+        alloc: Global,
+        runner: &mut Runner<'_, J, G>,
+        seat: &mut Seat<Bare>,
+        task: Task,
+    )
+        requires seated { seat.old.table_id ≡ self.now.round.now.init.table.shared.table_id }
+        requires sized { seat.old.me.0.threads ≡ self.now.round.now.init.threads }
+        requires thread { self.now.thread < self.now.round.now.init.threads }
+        requires crew { self.now.thread < runner.old.tables.now.crew.threads }
+        requires task { OnTask task.jobs task.may_stop seat.old.me.0 }
+        requires idle { IsIdle seat.old.me.0 }
+        ensures seat { (seat.new.table_id ≡ seat.old.table_id) × (seat.new.id ≡ seat.old.id) }
+        ensures crew { runner.new.tables ≡ runner.old.tables }
+        ensures worked { Worked task.jobs task.may_stop seat.old.me.0 seat.new.me.0 }
+        ensures done { IsDone seat.new.me.0 }
+    {
+        self.run_own(rt, alloc, runner, seat, task);
+        if self.run_stolen(rt, alloc, runner, seat, task) {
+            return;
+        }
+        self.run_rest(rt, alloc, runner, seat, task);
+    }
+
+    // Whether the round was stopped.
+    fn sees_stop(&self, seat: &mut Seat<Bare>, task: Task) -> bool
+        requires seated { seat.old.table_id ≡ self.now.round.now.init.table.shared.table_id }
+        requires task { OnTask task.jobs task.may_stop seat.old.me.0 }
+        ensures seat { (seat.new.table_id ≡ seat.old.table_id) × (seat.new.id ≡ seat.old.id) }
+        ensures onward { Onward seat.old.me.0 seat.new.me.0 × OnTask task.jobs task.may_stop seat.new.me.0 }
+        ensures same { SharesAsBefore seat.old.me.0 seat.new.me.0 × (seat.new.me.0.claim ≡ seat.old.me.0.claim) }
+        ensures seen { seat.new.me.0.known.seen_stop ≡ result }
+    {
+        task.may_stop && self.round.stopped(seat)
+    }
+
+    // The jobs of the thread's own range, until it is empty.
+    fn run_own<G: Gate, H: Threads + Wait + Sync>(
+        &self,
+        rt: &H,
+        alloc: Global,
+        runner: &mut Runner<'_, J, G>,
+        seat: &mut Seat<Bare>,
+        task: Task,
+    )
+        requires seated { seat.old.table_id ≡ self.now.round.now.init.table.shared.table_id }
+        requires sized { seat.old.me.0.threads ≡ self.now.round.now.init.threads }
+        requires thread { self.now.thread < self.now.round.now.init.threads }
+        requires crew { self.now.thread < runner.old.tables.now.crew.threads }
+        requires task { OnTask task.jobs task.may_stop seat.old.me.0 }
+        requires idle { IsIdle seat.old.me.0 }
+        ensures seat { (seat.new.table_id ≡ seat.old.table_id) × (seat.new.id ≡ seat.old.id) }
+        ensures crew { runner.new.tables ≡ runner.old.tables }
+        ensures worked { Worked task.jobs task.may_stop seat.old.me.0 seat.new.me.0 }
+    {
+        for _ in rt.forever() {
+            if self.sees_stop(seat, task) {
+                return;
+            }
+            match self.round.try_claim_own(seat, self.thread) {
+                Claim::Job(claimed) => self.run(rt, alloc, runner, seat, claimed, task),
+                Claim::Nothing => return,
+                Claim::Again => {}
+            }
+        }
+        unreachable!()
+    }
+
+    // Steals until all ranges are empty, or the round is stopped: then it answers true.
+    fn run_stolen<G: Gate, H: Threads + Wait + Sync>(
+        &self,
+        rt: &H,
+        alloc: Global,
+        runner: &mut Runner<'_, J, G>,
+        seat: &mut Seat<Bare>,
+        task: Task,
+    ) -> bool
+        requires seated { seat.old.table_id ≡ self.now.round.now.init.table.shared.table_id }
+        requires sized { seat.old.me.0.threads ≡ self.now.round.now.init.threads }
+        requires thread { self.now.thread < self.now.round.now.init.threads }
+        requires crew { self.now.thread < runner.old.tables.now.crew.threads }
+        requires task { OnTask task.jobs task.may_stop seat.old.me.0 }
+        requires idle { IsIdle seat.old.me.0 }
+        ensures seat { (seat.new.table_id ≡ seat.old.table_id) × (seat.new.id ≡ seat.old.id) }
+        ensures crew { runner.new.tables ≡ runner.old.tables }
+        ensures worked { Worked task.jobs task.may_stop seat.old.me.0 seat.new.me.0 }
+        ensures stopped { result ≡ true → seat.new.me.0.known.seen_stop ≡ true }
+        ensures searched { result ≡ false → HasSearched seat.new.me.0 }
+    {
+        for _ in rt.forever() {
+            if self.sees_stop(seat, task) {
+                return true;
+            }
+            match self.round.try_steal(seat) {
+                Steal::Job(claimed, share) => {
+                    self.run(rt, alloc, runner, seat, claimed, task);
+                    self.run_share(rt, alloc, runner, seat, share, task);
+                }
+                Steal::Nothing => return false,
+                Steal::Again => {}
+            }
+        }
+        unreachable!()
+    }
+
+    // The jobs of a share. Where the round is stopped the rest of the share goes back.
+    fn run_share<G: Gate, H: Threads + Wait + Sync>(
+        &self,
+        rt: &H,
+        alloc: Global,
+        runner: &mut Runner<'_, J, G>,
+        seat: &mut Seat<Bare>,
+        mut share: Share,
+        task: Task,
+    )
+        requires seated { seat.old.table_id ≡ self.now.round.now.init.table.shared.table_id }
+        requires sized { seat.old.me.0.threads ≡ self.now.round.now.init.threads }
+        requires thread { self.now.thread < self.now.round.now.init.threads }
+        requires crew { self.now.thread < runner.old.tables.now.crew.threads }
+        requires task { OnTask task.jobs task.may_stop seat.old.me.0 }
+        requires idle { seat.old.me.0.claim ≡ None }
+        requires share { IsItsShare share seat.old.me.0 }
+        ensures seat { (seat.new.table_id ≡ seat.old.table_id) × (seat.new.id ≡ seat.old.id) }
+        ensures crew { runner.new.tables ≡ runner.old.tables }
+        ensures worked { Worked task.jobs task.may_stop seat.old.me.0 seat.new.me.0 }
+    {
+        for _ in rt.forever() {
+            if self.sees_stop(seat, task) {
+                return self.put_back(rt, seat, share);
+            }
+            match self.round.next_of_share(seat, self.thread, &mut share) {
+                Some(claimed) => self.run(rt, alloc, runner, seat, claimed, task),
+                None => return share.done(),
+            }
+        }
+        unreachable!()
+    }
+
+    // Puts a share back into the thread's own range, which is empty.
+    fn put_back<H: Wait>(&self, rt: &H, seat: &mut Seat<Bare>, mut share: Share)
+        requires seated { seat.old.table_id ≡ self.now.round.now.init.table.shared.table_id }
+        requires sized { seat.old.me.0.threads ≡ self.now.round.now.init.threads }
+        requires thread { self.now.thread < self.now.round.now.init.threads }
+        requires free { MayPutBack seat.old.me.0 }
+        requires share { IsItsShare share seat.old.me.0 }
+        ensures seat { (seat.new.table_id ≡ seat.old.table_id) × (seat.new.id ≡ seat.old.id) }
+        ensures worked { Onward seat.old.me.0 seat.new.me.0 × MayPutBack seat.new.me.0 × IsIdle seat.new.me.0 }
+    {
+        for _ in rt.forever() {
+            if let PutBack::Put = self.round.put_back(seat, self.thread, &mut share) {
+                return share.done();
+            }
+            thread::yield_now();
+        }
+        unreachable!()
+    }
+
+    // The jobs of the remainder, until it is empty.
+    fn run_rest<G: Gate, H: Threads + Wait + Sync>(
+        &self,
+        rt: &H,
+        alloc: Global,
+        runner: &mut Runner<'_, J, G>,
+        seat: &mut Seat<Bare>,
+        task: Task,
+    )
+        requires seated { seat.old.table_id ≡ self.now.round.now.init.table.shared.table_id }
+        requires sized { seat.old.me.0.threads ≡ self.now.round.now.init.threads }
+        requires thread { self.now.thread < self.now.round.now.init.threads }
+        requires crew { self.now.thread < runner.old.tables.now.crew.threads }
+        requires task { OnTask task.jobs task.may_stop seat.old.me.0 }
+        requires idle { IsIdle seat.old.me.0 }
+        requires searched { HasSearched seat.old.me.0 }
+        ensures seat { (seat.new.table_id ≡ seat.old.table_id) × (seat.new.id ≡ seat.old.id) }
+        ensures crew { runner.new.tables ≡ runner.old.tables }
+        ensures worked { Worked task.jobs task.may_stop seat.old.me.0 seat.new.me.0 }
+        ensures done { IsDone seat.new.me.0 }
+    {
+        for _ in rt.forever() {
+            if self.sees_stop(seat, task) {
+                return;
+            }
+            match self.round.try_claim_rest(seat) {
+                Claim::Job(claimed) => self.run(rt, alloc, runner, seat, claimed, task),
+                Claim::Nothing => return,
+                Claim::Again => {}
+            }
+        }
+        unreachable!()
+    }
+
+    // Runs a claimed job, and counts it.
+    fn run<G: Gate, H: Threads + Wait + Sync>(
+        &self,
+        rt: &H,
+        alloc: Global,
+        runner: &mut Runner<'_, J, G>,
+        seat: &mut Seat<Bare>,
+        claimed: Claimed,
+        task: Task,
+    )
+        requires seated { seat.old.table_id ≡ self.now.round.now.init.table.shared.table_id }
+        requires crew { self.now.thread < runner.old.tables.now.crew.threads }
+        requires own { MayFinish claimed seat.old.me.0 }
+        ensures seat { (seat.new.table_id ≡ seat.old.table_id) × (seat.new.id ≡ seat.old.id) }
+        ensures crew { runner.new.tables ≡ runner.old.tables }
+        ensures onward { Onward seat.old.me.0 seat.new.me.0 × SeesAsBefore seat.old.me.0 seat.new.me.0 }
+        ensures finished { SharesAsBefore seat.old.me.0 seat.new.me.0 × (seat.new.me.0.claim ≡ None) }
+    {
+        let finished = self.run_piece(rt, alloc, runner, claimed.number() as usize, task);
+        self.round.finish(seat, claimed, &finished);
+        if finished.number() < task.jobs as usize {
+            drop(self.trays.put(rt, task.jobs as usize, finished));
+        }
+    }
+
+    // Runs the piece of a number. Where it isn't in its tray nothing runs.
+    fn run_piece<G: Gate, H: Threads + Wait + Sync>(
+        &self,
+        rt: &H,
+        alloc: Global,
+        runner: &mut Runner<'_, J, G>,
+        number: usize,
+        task: Task,
+    ) -> Finished<J>
+        requires crew { self.now.thread < runner.old.tables.now.crew.threads }
+        ensures number { result.number ≡ number }
+        ensures crew { runner.new.tables ≡ runner.old.tables }
+    {
+        let pieces = task.jobs as usize;
+        if number < pieces
+            && let Some(piece) = self.trays.take(rt, pieces, number)
+        {
+            let (_, inputs, mut outputs) = piece.into_parts();
+            runner.run(
+                rt,
+                alloc,
+                number,
+                Some(self.thread),
+                inputs.as_slice(),
+                &mut outputs,
+            );
+            Finished::new(number, inputs, outputs)
+        } else {
+            Finished::new(number, Vec::new(alloc), Vec::new(alloc))
+        }
+    }
+}

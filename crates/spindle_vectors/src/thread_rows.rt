@@ -1,0 +1,261 @@
+//! Rows of rounds that several threads run: idle threads that sleep at once, jobs that wait for each other, and locks
+//! some of whose threads can't be started.
+
+use crate::callers;
+use crate::jobs::{Calls, Counting, Place, Square};
+use spindle::lock::{Gate, Limits, NoGate, Pool};
+use spindle::{DEFAULT_PAUSE_LIMIT, DEFAULT_SPIN_LIMIT, Fault, with_lock};
+use std::hint::spin_loop;
+use std::sync::atomic::{AtomicUsize, Ordering};
+
+const LIMITS: Limits = Limits {
+    spin: DEFAULT_SPIN_LIMIT,
+    pause: DEFAULT_PAUSE_LIMIT,
+};
+
+/// A thread waits for the others for at most so many turns.
+const MOST_TURNS: usize = 10000000;
+
+/// A gate at which the jobs of a round wait until all of them have begun.
+#[derive(Drop)]
+struct Meeting<'a> {
+    jobs: usize,
+    begun: &'a AtomicUsize,
+    missed: &'a AtomicUsize,
+}
+
+impl<'a> Gate for Meeting<'a> {
+    fn begun(&self, _number: usize) {
+        let jobs = self.jobs.max(1);
+        let before = self.begun.fetch_add(1, Ordering::SeqCst);
+        let all = (before / jobs).wrapping_add(1).wrapping_mul(jobs);
+        for _ in 0..MOST_TURNS {
+            if self.begun.load(Ordering::SeqCst) >= all {
+                return;
+            }
+            spin_loop();
+        }
+        self.missed.fetch_add(1, Ordering::SeqCst);
+    }
+
+    fn done(&self, _number: usize) {}
+}
+
+#[test]
+fn threads_that_sleep_at_once_miss_no_round(rt: HostRuntime) -> Result<(), Fault> {
+    let alloc = rt.alloc();
+    let pool = Pool::new(4, Limits { spin: 0, pause: 0 }, NoGate);
+    with_lock::<Square, _, _, _, _, _>(&rt, alloc, &pool, 4, |leader| {
+        for _ in 0..1000 {
+            let numbers = vec![in alloc; 0, 1, 2, 3, 4, 5, 6, 7]?;
+            let squares = leader.for_each(&rt, alloc, 4, numbers)?;
+            assert_eq!(rt; squares, vec![in alloc; 0, 1, 4, 9, 16, 25, 36, 49]?);
+        }
+        Ok::<(), Fault>(())
+    })?
+}
+
+#[test]
+fn each_job_of_many_threads_passes_the_gate_once(rt: HostRuntime) -> Result<(), Fault> {
+    let alloc = rt.alloc();
+    let calls = Calls::new();
+    let pool = Pool::new(4, LIMITS, Counting { calls: &calls });
+    let numbers = vec![in alloc; 0, 1, 2, 3, 4, 5, 6, 7, 8, 9]?;
+    let squares = with_lock::<Square, _, _, _, _, _>(&rt, alloc, &pool, 4, |leader| {
+        leader.for_each(&rt, alloc, 4, numbers)
+    })??;
+    assert_eq!(rt;
+        squares,
+        vec![in alloc; 0, 1, 4, 9, 16, 25, 36, 49, 64, 81]?
+    );
+    for number in 0..4 {
+        assert_eq!(rt; calls.of_job(number), (1, 1));
+    }
+    assert_eq!(rt; calls.in_all(), (4, 4));
+    Ok(())
+}
+
+#[test]
+fn four_jobs_of_each_round_run_at_once(rt: HostRuntime) -> Result<(), Fault> {
+    let alloc = rt.alloc();
+    let begun = AtomicUsize::new(0);
+    let missed = AtomicUsize::new(0);
+    let gate = Meeting {
+        jobs: 4,
+        begun: &begun,
+        missed: &missed,
+    };
+    let pool = Pool::new(4, LIMITS, gate);
+    with_lock::<Square, _, _, _, _, _>(&rt, alloc, &pool, 4, |leader| {
+        for _ in 0..3 {
+            let squares = leader.for_each(&rt, alloc, 4, vec![in alloc; 0, 1, 2, 3]?)?;
+            assert_eq!(rt; squares, vec![in alloc; 0, 1, 4, 9]?);
+        }
+        Ok::<(), Fault>(())
+    })??;
+    assert_eq!(rt; begun.load(Ordering::SeqCst), 12);
+    assert_eq!(rt; missed.load(Ordering::SeqCst), 0);
+    Ok(())
+}
+
+#[test]
+fn four_threads_at_once_have_four_numbers(rt: HostRuntime) -> Result<(), Fault> {
+    let alloc = rt.alloc();
+    let begun = AtomicUsize::new(0);
+    let missed = AtomicUsize::new(0);
+    let gate = Meeting {
+        jobs: 4,
+        begun: &begun,
+        missed: &missed,
+    };
+    let pool = Pool::new(4, LIMITS, gate);
+    let places = with_lock::<Place, _, _, _, _, _>(&rt, alloc, &pool, 4, |leader| {
+        leader.for_each(&rt, alloc, 4, vec![in alloc; 0, 1, 2, 3]?)
+    })??;
+    assert_eq!(rt; missed.load(Ordering::SeqCst), 0);
+    for thread in 0..4 {
+        let here = places.iter().filter(|place| place.0 == Some(thread));
+        assert_eq!(rt; here.count(), 1, "thread {thread}");
+    }
+    Ok(())
+}
+
+#[test]
+fn a_leader_with_helpers_has_no_number_outside_a_published_round(
+    rt: HostRuntime,
+) -> Result<(), Fault> {
+    let alloc = rt.alloc();
+    let pool = Pool::new(4, LIMITS, NoGate);
+    with_lock::<Place, _, _, _, _, _>(&rt, alloc, &pool, 16, |leader| {
+        for _ in 0..100 {
+            assert_eq!(rt; leader.max_num_threads(), 4);
+            assert_eq!(rt; leader.current_thread_index(), None);
+            for place in leader.for_each(&rt, alloc, 1, vec![in alloc; 0, 1]?)? {
+                assert!(rt; place.0.is_none());
+                assert_eq!(rt; place.2, 4);
+            }
+            for place in leader.for_each(&rt, alloc, 2, vec![in alloc; 0, 1]?)? {
+                assert!(rt; matches!(place.0, Some(0..=3)));
+            }
+        }
+        Ok::<(), Fault>(())
+    })?
+}
+
+#[test]
+fn two_jobs_wait_for_each_other(rt: HostRuntime) -> Result<(), Fault> {
+    let alloc = rt.alloc();
+    let begun = AtomicUsize::new(0);
+    let missed = AtomicUsize::new(0);
+    let gate = Meeting {
+        jobs: 2,
+        begun: &begun,
+        missed: &missed,
+    };
+    let pool = Pool::new(2, LIMITS, gate);
+    let squares = with_lock::<Square, _, _, _, _, _>(&rt, alloc, &pool, 2, |leader| {
+        leader.for_each(&rt, alloc, 2, vec![in alloc; 5, 6]?)
+    })??;
+    assert_eq!(rt; squares, vec![in alloc; 25, 36]?);
+    assert_eq!(rt; missed.load(Ordering::SeqCst), 0);
+    Ok(())
+}
+
+#[test]
+fn threads_that_cannot_be_started_change_no_answer(rt: HostRuntime) -> Result<(), Fault> {
+    let alloc = rt.alloc();
+    for starts in 0..4 {
+        let pool = Pool::with_starts(4, LIMITS, NoGate, starts);
+        let numbers = vec![in alloc; 0, 1, 2, 3, 4, 5, 6, 7, 8, 9]?;
+        let squares = with_lock::<Square, _, _, _, _, _>(&rt, alloc, &pool, 4, |leader| {
+            assert_eq!(rt; leader.max_num_threads(), 4);
+            leader.for_each(&rt, alloc, 4, numbers)
+        })??;
+        assert_eq!(rt;
+            squares,
+            vec![in alloc; 0, 1, 4, 9, 16, 25, 36, 49, 64, 81]?
+        );
+    }
+    let pool = Pool::with_starts(4, LIMITS, NoGate, 0);
+    with_lock::<Square, _, _, _, _, _>(&rt, alloc, &pool, 4, |leader| {
+        assert_eq!(rt; leader.max_num_threads(), 4);
+        assert_eq!(rt; leader.current_num_threads(), 1);
+        Ok::<(), Fault>(())
+    })?
+}
+
+#[test]
+fn without_helpers_jobs_cannot_meet(rt: HostRuntime) -> Result<(), Fault> {
+    let alloc = rt.alloc();
+    let begun = AtomicUsize::new(0);
+    let missed = AtomicUsize::new(0);
+    let gate = Meeting {
+        jobs: 2,
+        begun: &begun,
+        missed: &missed,
+    };
+    let pool = Pool::with_starts(2, LIMITS, gate, 0);
+    let squares = with_lock::<Square, _, _, _, _, _>(&rt, alloc, &pool, 2, |leader| {
+        leader.for_each(&rt, alloc, 2, vec![in alloc; 5, 6]?)
+    })??;
+    assert_eq!(rt; squares, vec![in alloc; 25, 36]?);
+    assert_eq!(rt; missed.load(Ordering::SeqCst), 1);
+    Ok(())
+}
+
+#[test]
+fn ten_thousand_rounds_in_one_lock(rt: HostRuntime) -> Result<(), Fault> {
+    let alloc = rt.alloc();
+    let pool = Pool::new(3, LIMITS, NoGate);
+    with_lock::<Square, _, _, _, _, _>(&rt, alloc, &pool, 3, |leader| {
+        for _ in 0..10000 {
+            let squares = leader.for_each(&rt, alloc, 3, vec![in alloc; 1, 2, 3]?)?;
+            assert_eq!(rt; squares, vec![in alloc; 1, 4, 9]?);
+        }
+        Ok::<(), Fault>(())
+    })?
+}
+
+#[test]
+fn a_thousand_locks_in_turn(rt: HostRuntime) -> Result<(), Fault> {
+    let alloc = rt.alloc();
+    let pool = Pool::new(2, LIMITS, NoGate);
+    for _ in 0..1000 {
+        let squares = callers::squares(&rt, alloc, &pool, 2, vec![in alloc; 3, 4]?)?;
+        assert_eq!(rt; squares, vec![in alloc; 9, 16]?);
+    }
+    Ok(())
+}
+
+#[test]
+fn sixty_four_threads_on_few_processors(rt: HostRuntime) -> Result<(), Fault> {
+    let alloc = rt.alloc();
+    for limits in [
+        LIMITS,
+        Limits { spin: 0, pause: 0 },
+        Limits {
+            spin: u32::MAX,
+            pause: 1,
+        },
+    ] {
+        let pool = Pool::new(64, limits, NoGate);
+        with_lock::<Square, _, _, _, _, _>(&rt, alloc, &pool, 64, |leader| {
+            for _ in 0..50 {
+                let squares = leader.for_each_raw(&rt, alloc, 100)?;
+                assert_eq!(rt; squares.len(), 100);
+                assert_eq!(rt; squares[99], 9801);
+            }
+            Ok::<(), Fault>(())
+        })??;
+    }
+    Ok(())
+}
+
+#[test]
+fn a_lock_in_which_nothing_is_published(rt: HostRuntime) -> Result<(), Fault> {
+    let alloc = rt.alloc();
+    let pool = Pool::new(4, LIMITS, NoGate);
+    let answer = with_lock::<Square, _, _, _, _, _>(&rt, alloc, &pool, 4, |_leader| 7)?;
+    assert_eq!(rt; answer, 7);
+    Ok(())
+}
