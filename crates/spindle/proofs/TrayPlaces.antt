@@ -43,18 +43,18 @@ some_is e = cc
 pub numbers_stay : {A : Type 0} (f : A → ℕ) (xs : List A) (own : List ℕ) (at : ℕ) (t d : A) → f t ≡ f (get_or xs at d) → take (length own) (map f xs) ≡ own → take (length own) (map f (slice_set xs at t)) ≡ own
 numbers_stay f xs own at t d e h = ap (take (length own)) (map-set_same f xs at t d e) ∙ h
 
-numbers_await : {A B : Type 0} (C : A → A → Type 0) (items : List A) (pieces : ℕ) (own : List ℕ) (slots : List (Slot A B)) → AllZip (λ number slot. Awaits C (piece_at items pieces number) number slot) own slots → map (λ slot. slot.number) slots ≡ own
-numbers_await C items pieces [] [] z = refl
-numbers_await C items pieces [] (s ∷ slots) z = absurd z
-numbers_await C items pieces (n ∷ own) [] z = absurd z
-numbers_await C items pieces (n ∷ own) (s ∷ slots) z =
-    let rest = numbers_await C items pieces own slots z.1 in
+numbers_await : {A B : Type 0} (items : List A) (pieces : ℕ) (own : List ℕ) (slots : List (Slot A B)) → AllZip (λ number slot. Awaits (piece_at items pieces number) number slot) own slots → map (λ slot. slot.number) slots ≡ own
+numbers_await items pieces [] [] z = refl
+numbers_await items pieces [] (s ∷ slots) z = absurd z
+numbers_await items pieces (n ∷ own) [] z = absurd z
+numbers_await items pieces (n ∷ own) (s ∷ slots) z =
+    let rest = numbers_await items pieces own slots z.1 in
     λ i. z.0.0 i ∷ rest i
 
 -- where the pieces of these numbers wait, the places have the numbers
-pub await_numbers : {A B : Type 0} (C : A → A → Type 0) (items : List A) (pieces : ℕ) (own : List ℕ) (places : List (Slot A B)) → AwaitsAll C items pieces own places → take (length own) (map (λ slot. slot.number) places) ≡ own
-await_numbers C items pieces own places z =
-    take-map (λ slot. slot.number) (length own) places ∙ numbers_await C items pieces own (take (length own) places) z
+pub await_numbers : {A B : Type 0} (items : List A) (pieces : ℕ) (own : List ℕ) (places : List (Slot A B)) → AwaitsAll items pieces own places → take (length own) (map (λ slot. slot.number) places) ≡ own
+await_numbers items pieces own places z =
+    take-map (λ slot. slot.number) (length own) places ∙ numbers_await items pieces own (take (length own) places) z
 
 -- one more place is filled
 pub one_more_waits : {A B : Type 0} (R : ℕ → Slot A B → Type 0) (own : List ℕ) (places : List (Slot A B)) (k n : ℕ) (t : Slot A B) → slice_get own k ≡ Some n → k < length own → k < length places → AllZip R (take k own) (take k places) → R n t → AllZip R (take (k + 1) own) (take (k + 1) (slice_set places k t))

@@ -16,13 +16,12 @@ finished_at places at = option_and_then (λ slot. slot.finished) (slice_get plac
 abbrev pub number_at : {A B : Type 0} → List (Slot A B) → ℕ → Option ℕ
 number_at places at = option_and_then (λ slot. Some slot.number) (slice_get places at)
 
--- a clone of the piece waits in its place, and nothing was brought back
-abbrev pub Awaits : {A B : Type 0} → (A → A → Type 0) → List A → ℕ → Slot A B → Type 0
-Awaits {A} IsClone items number slot =
-    (slot.number ≡ number) × (slot.finished ≡ None)
-    × ((inputs : List A) × (slot.ready ≡ Some (record { number = number; inputs = inputs })) × AllZip IsClone items inputs)
+-- the piece waits in its place, and nothing was brought back
+abbrev pub Awaits : {A B : Type 0} → List A → ℕ → Slot A B → Type 0
+Awaits inputs number slot =
+    (slot.number ≡ number) × (slot.finished ≡ None) × (slot.ready ≡ Some (record { number = number; inputs = inputs }))
 
 -- the pieces of these numbers wait in the first places
-abbrev pub AwaitsAll : {A B : Type 0} → (A → A → Type 0) → List A → (pieces : ℕ) → List ℕ → List (Slot A B) → Type 0
-AwaitsAll IsClone items pieces numbers places =
-    AllZip (λ number slot. Awaits IsClone (piece_at items pieces number) number slot) numbers (take (length numbers) places)
+abbrev pub AwaitsAll : {A B : Type 0} → List A → (pieces : ℕ) → List ℕ → List (Slot A B) → Type 0
+AwaitsAll items pieces numbers places =
+    AllZip (λ number slot. Awaits (piece_at items pieces number) number slot) numbers (take (length numbers) places)

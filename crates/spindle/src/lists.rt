@@ -1,8 +1,8 @@
 //! Lists as a job's inputs: a list that clones share, and runs of one.
 //!
-//! A leader clones each input of a round and compares it afterwards, and a job's inputs have the law that equal inputs
-//! are the same value. A plain `Vec` can't have that law, since contracts see its capacity, and its clone copies each
-//! item. A `SharedList` is seen as the list of its items alone, and its clones share them.
+//! A leader compares the inputs of a round afterwards, and a job's inputs have the law that equal inputs are the same
+//! value. A plain `Vec` can't have that law, since contracts see its capacity, and its clone copies each item. A
+//! `SharedList` is seen as the list of its items alone, and its clones share them. A round's own items are such a list.
 ghost use Rattle.std.specs.Prelude.{◌≡◌, List, true, IfOk, IfErr, IsOk, length, IsTrue, ◌↔◌, []};
 ghost use Rattle.std.specs.Cmp.Lexicographic.{pointwise, lists_equiv, lists_per};
 ghost use Rattle.spindle.specs.Same.{equal_lists_are_same};

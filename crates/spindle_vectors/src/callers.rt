@@ -2,7 +2,7 @@
 ghost use Rattle.std.specs.Prelude.{◌≡◌, ◌+◌, ◌*◌, ◌<◌, ◌≤◌, IfOk, OnOk, map, vec_len};
 ghost use Rattle.std.specs.List.{AllZip};
 ghost use Rattle.std.proofs.Common.{rules};
-ghost use Rattle.spindle.specs.Rounds.{ClonesAreSame, job_count};
+ghost use Rattle.spindle.specs.Rounds.{job_count};
 ghost use Rattle.spindle_parts.specs.Pieces.{joined};
 ghost use Rattle.spindle_vectors.specs.Callers.{AreAllOf, IsFunction, PublishedTwice};
 ghost use denote.Param.Send.{IsSync};
@@ -76,7 +76,6 @@ where
     J::Inner: Send,
     <J::Inner as Nest>::Slots: Send + Sync,
     requires jobs { 0 < jobs }
-    requires clones { ClonesAreSame J.In.is_clone items.items }
     ensures { IfOk result (λ outputs. AllZip J.meets items.items outputs.items) }
 {
     with_lock::<J, _, _, _, _, _>(
@@ -87,7 +86,6 @@ where
         |leader|
             requires sync { IsSync H.row }
             requires jobs { 0 < jobs }
-            requires clones { ClonesAreSame J.In.is_clone items.items }
         { leader.for_each(rt, alloc, jobs, items) },
     )?
 }
@@ -146,7 +144,6 @@ where
     <J::Inner as Nest>::Slots: Send + Sync,
     requires jobs { 0 < jobs }
     requires equal { equal_items.items ≡ items.items }
-    requires clones { ClonesAreSame J.In.is_clone items.items }
     requires function { IsFunction J.meets }
     ensures { IfOk result (λ outputs. outputs.0.items ≡ outputs.1.items) }
 {
@@ -167,8 +164,6 @@ pub fn two_rounds<J: Opens<L>, G: Gate, L, H: Threads + Wait + Sync>(
 ) -> Result<(Vec<J::Out>, Vec<J::Out>), Fault>
     requires jobs { 2 ≤ jobs }
     requires items { (2 ≤ vec_len first) × (2 ≤ vec_len second) }
-    requires clones { ClonesAreSame J.In.is_clone first.items
-        × ClonesAreSame J.In.is_clone second.items }
     ensures first { IfOk result (λ outputs. AllZip J.meets first.items outputs.0.items) }
     ensures second { IfOk result (λ outputs. AllZip J.meets second.items outputs.1.items) }
     ensures rounds { let n = job_count (vec_len first) jobs in

@@ -3,6 +3,7 @@ ghost use Rattle.std.specs.Prelude.{◌≡◌, ◌∷◌, [], IfOk, length};
 ghost use Rattle.spindle.specs.Outputs.{items_of};
 
 use crate::callers::Square;
+use spindle::lists::SharedList;
 use spindle::lock::{Finished, gather};
 use spindle_parts::cut::Piece;
 use std::alloc::{AllocError, Global};
@@ -18,9 +19,9 @@ fn only<T: Drop>(alloc: Global, item: T) -> Result<Vec<T>, AllocError>
 }
 
 /// A piece of one number, squared.
-fn squared(alloc: Global, number: usize, input: u32) -> Result<Finished<Square>, AllocError> {
+fn squared(alloc: Global, number: usize, input: u32) -> Result<Finished<Square>, Fail> {
     let square = u64::from(input) * u64::from(input);
-    let inputs = only(alloc, input)?;
+    let inputs = SharedList::from_vec(alloc, only(alloc, input)?)?.run(0, 1)?;
     let outputs = only(alloc, square)?;
     Ok(Finished::new(number, inputs, outputs))
 }

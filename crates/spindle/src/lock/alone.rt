@@ -154,7 +154,7 @@ impl<'r, 'p, J: Job> LoneWorker<'r, 'p, J> {
         if number == self.next && number < self.pieces.len() {
             self.run_next(rt, alloc, runner);
         }
-        let finished: Finished<J> = Finished::new(number, Vec::new(alloc), Vec::new(alloc));
+        let finished: Finished<J> = Finished::empty(alloc, number);
         self.round.finish(seat, claimed, &finished);
     }
 

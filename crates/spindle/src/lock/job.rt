@@ -12,8 +12,8 @@ use std::thread::Threads;
 ///
 /// A kind of job has no value at run time: what `run` needs beside its context stands in the input.
 pub trait Job {
-    /// What a job is given. A round hands inputs to other threads, and compares what comes back with what it
-    /// handed out, so clones of an input are to be equal to it, and both ought to be cheap.
+    /// What a job is given. A round lends its items to other threads as runs of one list, and compares what comes back
+    /// with what it handed out, so a comparison ought to be cheap. No item is cloned.
     type In: Clone + Eq + Drop;
 
     /// What a job answers. A job that can fail says so here.

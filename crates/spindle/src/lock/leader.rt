@@ -6,8 +6,9 @@ ghost use Rattle.std.specs.List.{AllZip};
 ghost use Rattle.std.specs.Fn.{FnOnceReturnsAtMut};
 ghost use Rattle.spindle_parts.specs.Pieces.{counted};
 ghost use Rattle.spindle.specs.Leaders.{threads_of, IsBetweenRounds, MadeNoStep, PlayedOnce, LeftByRefusal};
-ghost use Rattle.spindle.specs.Rounds.{job_count, ClonesAreSame, IsRefusal};
+ghost use Rattle.spindle.specs.Rounds.{job_count, IsRefusal};
 
+use crate::lists::SharedList;
 use crate::lock::gate::Gate;
 use crate::lock::job::Job;
 use crate::lock::leader_post::LeaderPost;
@@ -62,7 +63,6 @@ impl<'a, J: Opens<L>, G: Gate, L> Leader<'a, J, G, L> {
         mut items: Vec<J::In>,
     ) -> Result<Vec<J::Out>, Fault>
         requires jobs { 0 < vec_len items → 0 < n_jobs }
-        requires clones { ClonesAreSame J.In.is_clone items.items }
         ensures answer { IfOk result (λ outputs. AllZip J.meets items.items outputs.items) }
         ensures refused { IfErr result
             (IsRefusal (threads_of self.old) (job_count (vec_len items) n_jobs)) }
@@ -112,7 +112,7 @@ impl<'a, J: Opens<L>, G: Gate, L> Leader<'a, J, G, L> {
         ensures lock { threads_of self.new ≡ threads_of self.old }
     {
         let mut outputs = Vec::with_capacity(alloc, items.len())?;
-        let pieces = Pieces::new(items.as_slice(), jobs);
+        let pieces = Pieces::new(SharedList::from_vec(alloc, items)?, jobs);
         let trays = J::trays(self.lock);
         trays.hand_out(rt, alloc, &pieces)?;
         self.post

@@ -4,6 +4,7 @@ ghost use Rattle.spindle.specs.Rounds.{AddsAnswers};
 ghost use Rattle.spindle.specs.Outputs.{IsRunOf};
 ghost use Rattle.spindle.specs.Trays.{Awaits};
 
+use crate::lists::run::ListRun;
 use crate::lock::finished::Finished;
 use crate::lock::job::Job;
 use crate::lock::ready::Ready;
@@ -40,35 +41,35 @@ impl<J: Job> Place<J> {
         }
     }
 
-    /// Puts a clone of a piece here, into the vectors of what stood here.
+    /// Puts a piece here, with the room of what stood here.
     pub(crate) fn refill(
         &mut self,
         alloc: Global,
         number: usize,
-        items: &[J::In],
+        inputs: ListRun<J::In>,
     ) -> Result<(), AllocError>
-        ensures { OnOk result (Awaits J.In.is_clone items.now number self.new) }
+        ensures { OnOk result (Awaits inputs number self.new) }
     {
-        let (inputs, room) = self.take_vectors(alloc);
+        let room = self.take_room(alloc);
         self.number = number;
-        self.ready = Some(Ready::new(number, items, inputs, room)?);
+        self.ready = Some(Ready::new(number, inputs, room)?);
         Ok(())
     }
 
-    // The vectors of what stands here, or new ones.
-    fn take_vectors(&mut self, alloc: Global) -> (Vec<J::In>, Vec<J::Out>)
+    // The room of what stands here, or a new vector.
+    fn take_room(&mut self, alloc: Global) -> Vec<J::Out>
         ensures { (self.new.ready ≡ None) × (self.new.finished ≡ None) }
     {
         if let Some(finished) = self.finished.take() {
             self.ready = None;
-            return finished.into_vectors();
+            return finished.into_room();
         }
         match self.ready.take() {
             Some(ready) => {
-                let (_, inputs, room) = ready.into_parts();
-                (inputs, room)
+                let (_, _, room) = ready.into_parts();
+                room
             }
-            None => (Vec::new(alloc), Vec::new(alloc)),
+            None => Vec::new(alloc),
         }
     }
 

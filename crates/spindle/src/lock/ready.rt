@@ -1,7 +1,7 @@
 //! A piece that is ready to run: nothing that it needs has to be made any more.
-ghost use Rattle.std.specs.Prelude.{◌≡◌, ◌≤◌, [], IfOk, vec_len, vec_capacity};
-ghost use Rattle.std.specs.List.{AllZip};
+ghost use Rattle.std.specs.Prelude.{◌≡◌, ◌≤◌, [], IfOk, length, vec_capacity};
 
+use crate::lists::run::ListRun;
 use crate::lock::job::Job;
 use std::alloc::AllocError;
 use std::marker::Model;
@@ -10,37 +10,34 @@ use std::marker::Model;
 #[derive(Drop)]
 pub(crate) struct Ready<J: Job> {
     number: usize,
-    inputs: Vec<J::In>,
+    inputs: ListRun<J::In>,
     room: Vec<J::Out>,
 }
 
 impl<J: Job> Model for Ready<J> {
-    ghost use Rattle.std.specs.Prelude.{◌≡◌, ◌≤◌, [], vec_len, vec_capacity};
+    ghost use Rattle.std.specs.Prelude.{◌≡◌, ◌≤◌, [], length, vec_capacity};
     ghost use Rattle.spindle.specs.Done.{Given};
 
     ghost Value = { Given J.In };
 
-    ghost view = { λ piece. record { number = piece.number; inputs = piece.inputs.items } };
+    ghost view = { λ piece. record { number = piece.number; inputs = piece.inputs } };
 
     ghost invariant = { λ piece. (piece.room.items ≡ [])
-        × (vec_len piece.inputs ≤ vec_capacity piece.room) };
+        × (length piece.inputs ≤ vec_capacity piece.room) };
 }
 
 impl<J: Job> Ready<J> {
-    /// A clone of a piece's items, with room for their outputs. What the vectors held goes; their room is used.
+    /// A piece with room for its outputs. What the vector held goes; its room is used.
     pub(crate) fn new(
         number: usize,
-        items: &[J::In],
-        mut inputs: Vec<J::In>,
+        inputs: ListRun<J::In>,
         mut room: Vec<J::Out>,
     ) -> Result<Ready<J>, AllocError>
         ensures number { IfOk result (λ ready. ready.number ≡ number) }
-        ensures inputs { IfOk result (λ ready. AllZip J.In.is_clone items.now ready.inputs) }
+        ensures inputs { IfOk result (λ ready. ready.inputs ≡ inputs) }
     {
-        inputs.clear();
-        inputs.extend_from_slice(items)?;
         room.clear();
-        room.reserve(items.len())?;
+        room.reserve(inputs.len())?;
         Ok(Ready {
             number,
             inputs,
@@ -56,11 +53,11 @@ impl<J: Job> Ready<J> {
     }
 
     /// The piece's number, its inputs, and the empty room for their outputs.
-    pub(crate) fn into_parts(self) -> (usize, Vec<J::In>, Vec<J::Out>)
+    pub(crate) fn into_parts(self) -> (usize, ListRun<J::In>, Vec<J::Out>)
         ensures number { result.0 ≡ self.number }
-        ensures inputs { result.1.items ≡ self.inputs }
+        ensures inputs { result.1 ≡ self.inputs }
         ensures empty { result.2.items ≡ [] }
-        ensures room { vec_len result.1 ≤ vec_capacity result.2 }
+        ensures room { length result.1 ≤ vec_capacity result.2 }
     {
         (self.number, self.inputs, self.room)
     }

@@ -45,13 +45,9 @@ impl<J: Job> Tray<J> {
         }
     }
 
-    /// Puts clones of what the thread number is dealt of the pieces into its places. After a refusal there are none.
-    pub(crate) fn refill(
-        &mut self,
-        alloc: Global,
-        pieces: &Pieces<'_, J::In>,
-    ) -> Result<(), AllocError>
-        ensures waits { OnOk result (AwaitsAll J.In.is_clone pieces.now.items.now pieces.now.count
+    /// Puts what the thread number is dealt of the pieces into its places. After a refusal there are none.
+    pub(crate) fn refill(&mut self, alloc: Global, pieces: &Pieces<J::In>) -> Result<(), AllocError>
+        ensures waits { OnOk result (AwaitsAll pieces.now.items pieces.now.count
             (dealt (counted 0 pieces.now.count) self.old.threads self.old.thread) self.new.places.items) }
     {
         let count = pieces.count();
@@ -62,7 +58,7 @@ impl<J: Job> Tray<J> {
         grow(&mut places, length)?;
         for place in 0..length {
             let number = Address { thread, place }.number(count, self.threads);
-            places[place].refill(alloc, number, pieces.piece(number))?;
+            places[place].refill(alloc, number, pieces.run(number)?)?;
         }
         self.pieces = count;
         self.places = places;
@@ -106,7 +102,7 @@ impl<J: Job> Tray<J> {
     pub(crate) fn gather(
         &mut self,
         from: usize,
-        pieces: &Pieces<'_, J::In>,
+        pieces: &Pieces<J::In>,
         number: usize,
         count: usize,
         outputs: &mut Vec<J::Out>,
@@ -114,11 +110,11 @@ impl<J: Job> Tray<J> {
         requires numbers { number + count ≤ pieces.now.count }
         requires places { from + count < 2 ^ 64 }
         requires before { AllZip J.meets
-            (items_before pieces.now.items.now pieces.now.count number) outputs.old.items }
-        requires room { length pieces.now.items.now ≤ vec_capacity outputs.old }
+            (items_before pieces.now.items pieces.now.count number) outputs.old.items }
+        requires room { length pieces.now.items ≤ vec_capacity outputs.old }
         ensures answers { OnOk result (AllZip J.meets
-            (items_before pieces.now.items.now pieces.now.count (number + count)) outputs.new.items) }
-        ensures room { length pieces.now.items.now ≤ vec_capacity outputs.new }
+            (items_before pieces.now.items pieces.now.count (number + count)) outputs.new.items) }
+        ensures room { length pieces.now.items ≤ vec_capacity outputs.new }
         ensures lost { IfErr result (λ k. k < pieces.now.count) }
     {
         for at in 0..count {

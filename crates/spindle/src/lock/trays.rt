@@ -36,7 +36,7 @@ impl<J: Job> Trays<J> {
         Ok(Trays { trays })
     }
 
-    /// Puts clones of the pieces into the trays of those that they are dealt to. All that the pieces' runs need is made
+    /// Puts the pieces into the trays of those that they are dealt to. All that the pieces' runs need is made
     /// here, and what earlier rounds made is used again.
     ///
     /// After a refusal the trays hold no round's pieces as a whole; the next round fills them again.
@@ -44,7 +44,7 @@ impl<J: Job> Trays<J> {
         &self,
         rt: &H,
         alloc: Global,
-        pieces: &Pieces<'_, J::In>,
+        pieces: &Pieces<J::In>,
     ) -> Result<(), Fault>
         ensures { OnErr result (IsErrOf result Fault.Memory) }
     {
@@ -89,12 +89,12 @@ impl<J: Job> Trays<J> {
     pub(crate) fn gather<H: Wait>(
         &self,
         rt: &H,
-        pieces: &Pieces<'_, J::In>,
+        pieces: &Pieces<J::In>,
         outputs: &mut Vec<J::Out>,
     ) -> Result<(), usize>
         requires empty { outputs.old.items ≡ [] }
-        requires room { length pieces.now.items.now ≤ vec_capacity outputs.old }
-        ensures answers { OnOk result (AllZip J.meets pieces.now.items.now outputs.new.items) }
+        requires room { length pieces.now.items ≤ vec_capacity outputs.old }
+        ensures answers { OnOk result (AllZip J.meets pieces.now.items outputs.new.items) }
         ensures lost { IfErr result (λ k. k < pieces.now.count) }
     {
         let threads = self.trays.len();

@@ -300,7 +300,7 @@ impl<'r, 't, J: Job> Worker<'r, 't, J> {
             );
             Finished::new(number, inputs, outputs)
         } else {
-            Finished::new(number, Vec::new(alloc), Vec::new(alloc))
+            Finished::empty(alloc, number)
         }
     }
 }

@@ -47,7 +47,7 @@ pub fn finish(alloc: Global, round: &Round<Bare>, seat: &mut Seat<Bare>, claimed
     ensures share { SharesAsBefore seat.old.me.0 seat.new.me.0 × (seat.new.me.0.claim ≡ None) }
 {
     let number = claimed.number();
-    let piece: Finished<Idle> = Finished::new(number as usize, Vec::new(alloc), Vec::new(alloc));
+    let piece: Finished<Idle> = Finished::empty(alloc, number as usize);
     round.finish(seat, claimed, &piece);
     number
 }

@@ -7,6 +7,6 @@ use Rattle.spindle.proofs.lock.tray.Tray.gather.Given as goal
 abbrev pub invariant-loop-at : goal.invariant-loop-at
 invariant-loop-at g l =
     let pieces = l.fn.pieces in record {
-      before : AllZip g.J.Job.meets (items_before pieces.items.now pieces.count (l.fn.number + l.at)) l.outputs.items;
-      room : length pieces.items.now ≤ vec_capacity l.outputs;
+      before : AllZip g.J.Job.meets (items_before pieces.items pieces.count (l.fn.number + l.at)) l.outputs.items;
+      room : length pieces.items ≤ vec_capacity l.outputs;
     }

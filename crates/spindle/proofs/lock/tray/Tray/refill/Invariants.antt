@@ -12,7 +12,7 @@ invariant-loop-place g l =
       enough : l.length ≤ vec_len l.places;
       waits :
           AllZip
-          (λ number slot. Awaits g.J.In.Clone.is_clone (piece_at pieces.items.now pieces.count number) number slot)
+          (λ number slot. Awaits (piece_at pieces.items pieces.count number) number slot)
           (take l.place (dealt (counted 0 pieces.count) l.fn.self.threads l.fn.self.thread))
           (take l.place l.places.items);
     }

@@ -7,13 +7,13 @@ use Rattle.spindle.proofs.lock.trays.Trays.gather.Given as goal
 abbrev pub invariant-loop-thread : goal.invariant-loop-thread
 invariant-loop-thread g l =
     let pieces = l.fn.pieces in record {
-      before : AllZip g.J.Job.meets (items_before pieces.items.now pieces.count (l.each * l.thread)) l.outputs.items;
-      room : length pieces.items.now ≤ vec_capacity l.outputs;
+      before : AllZip g.J.Job.meets (items_before pieces.items pieces.count (l.each * l.thread)) l.outputs.items;
+      room : length pieces.items ≤ vec_capacity l.outputs;
     }
 
 abbrev pub invariant-loop-thread-2 : goal.invariant-loop-thread-2
 invariant-loop-thread-2 g l =
     let pieces = l.fn.pieces in record {
-      before : AllZip g.J.Job.meets (items_before pieces.items.now pieces.count (l.each * l.threads + l.thread)) l.outputs.items;
-      room : length pieces.items.now ≤ vec_capacity l.outputs;
+      before : AllZip g.J.Job.meets (items_before pieces.items pieces.count (l.each * l.threads + l.thread)) l.outputs.items;
+      room : length pieces.items ≤ vec_capacity l.outputs;
     }
