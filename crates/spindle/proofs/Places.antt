@@ -10,7 +10,8 @@ use Rattle.spindle_parts.specs.declared.cut.Piece.{Piece}
 use Rattle.spindle_parts.proofs.Lists.{joined_snoc, map_snoc}
 use Rattle.spindle_parts.proofs.Lists.{all_zip_append}
 use Rattle.spindle.specs.Done.{Done}
-use Rattle.spindle.specs.Outputs.{HoldAll, items_of, inputs_in, all_inputs_in}
+use Rattle.spindle.specs.Outputs.{HoldAll, inputs_in, all_inputs_in}
+use Rattle.spindle.specs.Rounds.{items_of}
 
 -- two lists that agree do so on their first k places
 pub all_zip_take : {A B : Type 0} (R : A → B → Type 0) (k : ℕ) (xs : List A) (ys : List B) → AllZip R xs ys → AllZip R (take k xs) (take k ys)

@@ -53,10 +53,6 @@ module _ {N : Type 0} (n : ℕ) (b : Bool) where
 pub still_searched : {N : Type 0} (v w : View N) → HasSearched v → Onward v w → HasSearched w
 still_searched v w searched step i lt = step.emptied i (searched i (let e = step.threads in omega arith))
 
--- who is on its task and idle stands free inside its round
-pub free_inside : {N : Type 0} (n : ℕ) (b : Bool) (v : View N) → OnTask n b v → IsIdle v → IsFreeInside v
-free_inside n b v on idle = (on.0.inside.0, on.0.inside.1, idle.0, idle.1)
-
 -- the round's end, after work in the round
 pub passed_after : {S N : Type 0} (v : View N) (u w : Me S (View N)) → Onward v u.0 → IsIdle u.0 → InNext u w → HasPassed v w.0
 passed_after v u w on idle next = let st : Standing = Inside (round_of u.0.standing + 1) in let k : Known = unknown u.0.leader false in

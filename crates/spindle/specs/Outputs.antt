@@ -23,10 +23,6 @@ abbrev pub IsFirstLost : {A B : Type 0} → List (Piece A) → List (Option (Don
 IsFirstLost pieces places k =
     HoldAll (take k pieces) (take k places) × ¬ (HoldAll (take (k + 1) pieces) (take (k + 1) places))
 
--- the items of the pieces, in order
-abbrev pub items_of : {A : Type 0} → List (Piece A) → List A
-items_of pieces = joined (map (λ piece. piece.items.items) pieces)
-
 -- the inputs of what a place holds
 abbrev pub inputs_in : {A B : Type 0} → Option (Done A B) → List A
 inputs_in None = []

@@ -1,6 +1,6 @@
 //! Gathering the outputs of the pieces [1] and [2]: what the places hold, and what comes of it.
 ghost use Rattle.std.specs.Prelude.{◌≡◌, ◌∷◌, [], IfOk, length};
-ghost use Rattle.spindle.specs.Outputs.{items_of};
+ghost use Rattle.spindle.specs.Rounds.{items_of};
 
 use crate::callers::Square;
 use spindle::lists::SharedList;

@@ -2,7 +2,8 @@
 //! there, with the numbers and inputs that they were handed out with, do their outputs become the answer.
 ghost use Rattle.std.specs.Prelude.{◌≡◌, ◌+◌, ◌<◌, ◌≤◌, ◌↔◌, [], IsOk, IfErr, OnOk, OnErr, IsTrue, length, None, replicate, vec_len, vec_capacity};
 ghost use Rattle.std.specs.List.{AllZip};
-ghost use Rattle.spindle.specs.Outputs.{HoldsPiece, HoldAll, IsFirstLost, items_of, all_inputs_in};
+ghost use Rattle.spindle.specs.Outputs.{HoldsPiece, HoldAll, IsFirstLost, all_inputs_in};
+ghost use Rattle.spindle.specs.Rounds.{items_of};
 
 use crate::lock::finished::Finished;
 use crate::lock::job::Job;
