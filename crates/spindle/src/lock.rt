@@ -29,6 +29,7 @@ mod shared;
 mod sleep;
 mod starting;
 mod tables;
+mod task;
 mod tray;
 mod trays;
 mod work;

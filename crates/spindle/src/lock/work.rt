@@ -2,7 +2,7 @@
 //!
 //! A thread begins with its own range, then steals from the longest, a share at a time, and at last takes from the
 //! remainder. In a round that may stop it looks before each claim whether the round was stopped.
-ghost use Rattle.std.specs.Prelude.{◌≡◌, ◌%◌, ◌<◌, ◌≤◌, ◌↔◌, IsTrue, None, true, false};
+ghost use Rattle.std.specs.Prelude.{◌≡◌, ◌<◌, None, true, false};
 ghost use Rattle.spindle.specs.RoundConditions.{MayFinish, MayPutBack, IsItsShare, IsDone};
 ghost use Rattle.spindle.specs.RoundViews.{Onward, SeesAsBefore, SharesAsBefore};
 ghost use Rattle.spindle.specs.Working.{OnTask, IsIdle, Worked, HasSearched};
@@ -11,6 +11,7 @@ use crate::lock::finished::Finished;
 use crate::lock::gate::Gate;
 use crate::lock::job::Job;
 use crate::lock::runner::Runner;
+use crate::lock::task::Task;
 use crate::lock::trays::Trays;
 use crate::round::Round;
 use crate::round::claim::{Claim, Claimed, Share, Steal};
@@ -21,28 +22,6 @@ use std::alloc::Global;
 use std::sync::Wait;
 use std::thread;
 use std::thread::Threads;
-
-/// What a published word says of its round.
-#[derive(Clone, Copy)]
-pub(crate) struct Task {
-    pub(crate) jobs: u64,
-    pub(crate) may_stop: bool,
-}
-
-impl Task {
-    /// The task of a word, which isn't 0.
-    pub(crate) fn new(word: u64) -> Task
-        ensures jobs { result.jobs ≡ word % 4294967296 }
-        ensures may_stop { IsTrue result.may_stop ↔ (4294967296 ≤ word) }
-    {
-        Task {
-            jobs: word % HIGH,
-            may_stop: word >= HIGH,
-        }
-    }
-}
-
-const HIGH: u64 = 4294967296;
 
 /// A thread of a lock, with its number.
 #[derive(Drop)]
