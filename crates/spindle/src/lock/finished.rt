@@ -100,9 +100,4 @@ impl<J: Job> Finished<J> {
         outputs.append(&mut self.outputs).unwrap();
         self.inputs = None;
     }
-
-    /// The vector of its outputs.
-    pub(crate) fn into_room(self) -> Vec<J::Out> {
-        self.into_outputs()
-    }
 }

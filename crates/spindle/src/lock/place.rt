@@ -62,11 +62,11 @@ impl<J: Job> Place<J> {
     {
         if let Some(finished) = self.finished.take() {
             self.ready = None;
-            return finished.into_room();
+            return finished.into_outputs();
         }
         match self.ready.take() {
             Some(ready) => {
-                let (_, _, room) = ready.into_parts();
+                let (_, room) = ready.into_parts();
                 room
             }
             None => Vec::new(alloc),

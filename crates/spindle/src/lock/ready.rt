@@ -52,13 +52,12 @@ impl<J: Job> Ready<J> {
         self.number
     }
 
-    /// The piece's number, its inputs, and the empty room for their outputs.
-    pub(crate) fn into_parts(self) -> (usize, ListRun<J::In>, Vec<J::Out>)
-        ensures number { result.0 ≡ self.number }
-        ensures inputs { result.1 ≡ self.inputs }
-        ensures empty { result.2.items ≡ [] }
-        ensures room { length result.1 ≤ vec_capacity result.2 }
+    /// The piece's inputs, and the empty room for their outputs.
+    pub(crate) fn into_parts(self) -> (ListRun<J::In>, Vec<J::Out>)
+        ensures inputs { result.0 ≡ self.inputs }
+        ensures empty { result.1.items ≡ [] }
+        ensures room { length result.0 ≤ vec_capacity result.1 }
     {
-        (self.number, self.inputs, self.room)
+        (self.inputs, self.room)
     }
 }

@@ -268,7 +268,7 @@ impl<'r, 't, J: Job> Worker<'r, 't, J> {
         if number < pieces
             && let Some(piece) = self.trays.take(rt, pieces, number)
         {
-            let (_, inputs, mut outputs) = piece.into_parts();
+            let (inputs, mut outputs) = piece.into_parts();
             runner.run(
                 rt,
                 alloc,
