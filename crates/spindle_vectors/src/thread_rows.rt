@@ -237,6 +237,10 @@ fn sixty_four_threads_on_few_processors(rt: HostRuntime) -> Result<(), Fault> {
             spin: u32::MAX,
             pause: 1,
         },
+        Limits {
+            spin: 0,
+            pause: u32::MAX,
+        },
     ] {
         let pool = Pool::new(64, limits, NoGate);
         with_lock::<Square, _, _, _, _, _>(&rt, alloc, &pool, 64, |leader| {
@@ -257,5 +261,25 @@ fn a_lock_in_which_nothing_is_published(rt: HostRuntime) -> Result<(), Fault> {
     let pool = Pool::new(4, LIMITS, NoGate);
     let answer = with_lock::<Square, _, _, _, _, _>(&rt, alloc, &pool, 4, |_leader| 7)?;
     assert_eq!(rt; answer, 7);
+    Ok(())
+}
+
+#[test]
+fn a_closure_that_returns_early_closes_its_lock(rt: HostRuntime) -> Result<(), Fault> {
+    let alloc = rt.alloc();
+    let pool = Pool::new(4, LIMITS, NoGate);
+    let last = with_lock::<Square, _, _, _, _, _>(&rt, alloc, &pool, 4, |leader| {
+        for round in 0..100 {
+            let squares = leader.for_each(&rt, alloc, 4, vec![in alloc; 1, 2, 3, 4]?)?;
+            assert_eq!(rt; squares, vec![in alloc; 1, 4, 9, 16]?);
+            if round == 5 {
+                return Ok::<usize, Fault>(round);
+            }
+        }
+        Ok(100)
+    })??;
+    assert_eq!(rt; last, 5);
+    let squares = callers::squares(&rt, alloc, &pool, 4, vec![in alloc; 5, 6]?)?;
+    assert_eq!(rt; squares, vec![in alloc; 25, 36]?);
     Ok(())
 }
