@@ -5,7 +5,7 @@ ghost use Rattle.std.specs.Prelude.{◌≡◌, ◌<◌, ◌≤◌, IfOk, IfErr, 
 ghost use Rattle.std.specs.List.{AllZip};
 ghost use Rattle.std.specs.Fn.{FnOnceReturnsAtMut};
 ghost use Rattle.spindle_parts.specs.Pieces.{counted};
-ghost use Rattle.spindle.specs.Leaders.{threads_of, IsBetweenRounds, MadeNoStep, PlayedOnce, LeftByRefusal};
+ghost use Rattle.spindle.specs.Leaders.{threads_of, AnnouncedRest, IsBetweenRounds, MadeNoStep, PlayedOnce, LeftByRefusal};
 ghost use Rattle.spindle.specs.Rounds.{job_count, IsRefusal};
 
 use crate::lists::SharedList;
@@ -162,6 +162,7 @@ impl<'a, J: Opens<L>, G: Gate, L> Leader<'a, J, G, L> {
     pub fn relieve_workers(&mut self)
         ensures lock { threads_of self.new ≡ threads_of self.old }
         ensures quiet { MadeNoStep self.old self.new }
+        ensures rest { AnnouncedRest self.old self.new }
     {
         self.runner.notices.announce_rest();
     }

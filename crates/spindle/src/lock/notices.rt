@@ -1,5 +1,6 @@
 //! What a lock's threads announce to each other: that all rest until the next round, and that the helpers end.
 ghost use Rattle.std.specs.Prelude.{◌≡◌, IfOk, OnErr, IsErrOf};
+ghost use Rattle.spindle_parts.specs.LedgerSteps.{announcing};
 
 use spindle_parts::requests::{Requests, Seat};
 
@@ -44,7 +45,9 @@ impl<'a> Notices<'a> {
     }
 
     /// Tells idle threads to sleep at once until the next round.
-    pub(crate) fn announce_rest(&mut self) {
+    pub(crate) fn announce_rest(&mut self)
+        ensures { self.new.seat.me.0 ≡ announcing 16 1 self.old.seat.me.0 }
+    {
         self.ledger.announce_rest(&mut self.seat, true);
     }
 
