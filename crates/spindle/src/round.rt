@@ -23,6 +23,7 @@ const HIGH: u64 = 4294967296;
 /// The rounds of a table, with the barrier that ends them.
 #[derive(Drop)]
 pub struct Round<D: Slots> {
+    /// The barrier that parties join.
     pub init: BarrierInit<D>,
 }
 

@@ -26,18 +26,25 @@ pub mod plays;
 pub mod slots;
 pub mod view;
 
+/// The barrier word.
 pub const BARRIER: usize = 0;
 
+/// The number of jobs published.
 pub const PUBLISHED: usize = 8;
 
+/// How many jobs have finished.
 pub const FINISHED: usize = 16;
 
+/// Whether the round was stopped.
 pub const STOPPED: usize = 24;
 
+/// The remainder.
 pub const REST: usize = 32;
-/// The first range, and how far one word is from the next.
+
+/// The first range.
 pub const RANGES: usize = 40;
 
+/// How far one word of a kind is from the next.
 pub const APART: usize = 8;
 
 /// The rule: between any two atomic steps there is a run that ends in a state which words and seats show.

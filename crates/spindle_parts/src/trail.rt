@@ -4,8 +4,12 @@
 ///
 /// "In this call" means: in the steps that the call added to the trail.
 pub struct Trace<K> {
+    /// The word's place in the table.
     pub word: u64,
+    /// What was done.
     pub kind: K,
+    /// The word's value before the step.
     pub found: u64,
+    /// The word's value after it.
     pub left: u64,
 }

@@ -26,6 +26,7 @@ pub struct Pauses {
 }
 
 impl Pauses {
+    /// The pauses of a party that begins to wait.
     pub fn new() -> Pauses {
         Pauses {
             spins: SPINS,
@@ -47,6 +48,7 @@ impl Pauses {
 /// There are as many parties as there may be. The seat comes back.
 #[derive(Drop)]
 pub struct Full<P> {
+    /// The seat of the party that wasn't let in.
     pub seat: P,
 }
 

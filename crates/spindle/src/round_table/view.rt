@@ -17,28 +17,41 @@ pub enum Standing {
 
 /// What one atomic step did. A load or an exchange that fails leaves the state of the round.
 pub enum Kind {
+    /// A load.
     Load,
+    /// An exchange that found another value than was loaded.
     Miss,
+    /// The party became a member.
     Join,
+    /// The member arrived.
     Arrive,
+    /// A member that had arrived left.
     Leave,
+    /// A member that hadn't arrived left.
     Exit,
     /// The round, and the number that begins.
     Begin(u64, u64),
     /// The round, and the number that finishes.
     Finish(u64, u64),
+    /// A store of a word for the next round.
     Fill,
     /// The round, the number published, and whether the round may stop.
     Publish(u64, u64, bool),
+    /// The round was stopped.
     Stop,
+    /// A share was put back into an empty range.
     PutBack,
+    /// The published number was taken back.
     Clear,
+    /// The round ended.
     End,
 }
 
 /// What the leader did last with a slot.
 pub enum Spot<N> {
+    /// It has put nothing there.
     Vacant,
+    /// It has taken the right to the slot, and not given it back.
     Out,
     /// The round in which the leader put a piece there, and the piece.
     Filled(u64, N),
@@ -62,12 +75,17 @@ pub struct Known {
 
 /// What a seat knows. N is what it notes of the piece that it has claimed.
 pub struct View<N> {
+    /// Whether it is the leader's seat.
     pub leader: bool,
+    /// The table's threads.
     pub threads: u64,
+    /// Where its party stands.
     pub standing: Standing,
+    /// What it knows of the round that it is inside.
     pub known: Known,
     /// The number that the seat has begun and not finished.
     pub claim: Option<u64>,
+    /// What it notes of the piece of that number.
     pub note: Option<N>,
     /// The seat's share: the numbers from `from` up to `to`, the end not included.
     pub from: u64,
@@ -76,5 +94,6 @@ pub struct View<N> {
     pub laid: Option<u64>,
     /// Of the leader: what it did with the slots, the newest first.
     pub board: LinkedList<(u64, Spot<N>)>,
+    /// The seat's own steps, the newest first.
     pub trail: LinkedList<Trace<Kind>>,
 }

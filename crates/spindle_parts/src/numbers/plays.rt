@@ -19,14 +19,17 @@ pub enum Kind {
 
 /// The number that a seat has.
 pub enum Holding {
+    /// None.
     Nothing,
     /// The leader has 0 for as long as the table lives.
     Leads,
+    /// This number, until the seat gives it.
     Has(u64),
 }
 
 /// What a seat knows. No value of it is made.
 pub struct View {
+    /// The number that the seat has.
     pub holding: Holding,
     /// The seat's own steps, the newest first.
     pub trail: LinkedList<Trace<Kind>>,

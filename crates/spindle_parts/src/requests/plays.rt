@@ -30,7 +30,9 @@ pub enum Kind {
 
 /// What a seat knows: how many requests it answers for, and its own steps, the newest first.
 pub struct Account {
+    /// What the seat asked, took and closed, less what it installed and subtracted.
     pub credit: u64,
+    /// The seat's own steps, the newest first.
     pub trail: LinkedList<Trace<Kind>>,
 }
 

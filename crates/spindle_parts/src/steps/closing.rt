@@ -11,6 +11,7 @@ use crate::steps::entries::set_sense;
 use crate::steps::registers::Registers;
 
 impl Registers {
+    /// A member arrives; the last of those who are in becomes the closer.
     pub fn arrive(&mut self, party: u32) -> Result<(), Why>
         requires reached { IsReached (shown self.old) }
         requires tidy { IsTidy self.old }
@@ -32,6 +33,7 @@ impl Registers {
         Ok(())
     }
 
+    /// A member that has arrived leaves, while there is no closer.
     pub fn leave(&mut self, party: u32) -> Result<(), Why>
         requires reached { IsReached (shown self.old) }
         requires tidy { IsTidy self.old }
@@ -52,6 +54,7 @@ impl Registers {
         Ok(())
     }
 
+    /// The closer takes back what is published.
     pub fn clear(&mut self, party: u32) -> Result<(), Why>
         requires tidy { IsTidy self.old }
         ensures served { Serves (shown self.old) true (Step.Clear party) (shown self.new) result }
@@ -64,6 +67,7 @@ impl Registers {
         Ok(())
     }
 
+    /// The closer ends a round in which nothing is published any more.
     pub fn end(&mut self, party: u32) -> Result<(), Why>
         requires reached { IsReached (shown self.old) }
         requires tidy { IsTidy self.old }

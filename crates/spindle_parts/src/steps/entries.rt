@@ -13,6 +13,7 @@ use crate::steps::registers::Entry;
 use std::alloc::AllocError;
 use std::collections::BTreeMap;
 
+/// The entries of all parties that ever came, by party.
 pub type Entries = BTreeMap<u32, Entry>;
 
 /// Gives a party that has an entry that sense.

@@ -11,6 +11,7 @@ use crate::steps::entries::{has_seen, note, set_running};
 use crate::steps::registers::Registers;
 
 impl Registers {
+    /// The leader publishes a round of so many jobs, two at least: an equal number to each counter, the others as the remainder.
     pub fn publish(&mut self, party: u32, count: u32, stoppable: bool) -> Result<(), Why>
         requires reached { IsReached (shown self.old) }
         requires tidy { IsTidy self.old }
@@ -62,6 +63,7 @@ impl Registers {
         Ok(count)
     }
 
+    /// Begins the next job of a thread's counter, and answers its number.
     pub fn claim(&mut self, party: u32, thread: u32) -> Result<u32, Why>
         requires reached { IsReached (shown self.old) }
         requires tidy { IsTidy self.old }
@@ -87,6 +89,7 @@ impl Registers {
         Ok(number)
     }
 
+    /// Begins the next job of the remainder, and answers its number.
     pub fn rest(&mut self, party: u32) -> Result<u32, Why>
         requires reached { IsReached (shown self.old) }
         requires tidy { IsTidy self.old }
@@ -105,6 +108,7 @@ impl Registers {
         Ok(number)
     }
 
+    /// Finishes the job that the party runs.
     pub fn finish(&mut self, party: u32) -> Result<(), Why>
         requires reached { IsReached (shown self.old) }
         requires tidy { IsTidy self.old }
@@ -119,6 +123,7 @@ impl Registers {
         Ok(())
     }
 
+    /// A party that runs a job stops a round that may stop, and has seen that.
     pub fn stop(&mut self, party: u32) -> Result<(), Why>
         requires tidy { IsTidy self.old }
         ensures served { Serves (shown self.old) true (Step.Stop party) (shown self.new) result }
@@ -135,6 +140,7 @@ impl Registers {
         Ok(())
     }
 
+    /// A member that is in sees that the round was stopped.
     pub fn see(&mut self, party: u32) -> Result<(), Why>
         requires tidy { IsTidy self.old }
         ensures served { Serves (shown self.old) true (Step.See party) (shown self.new) result }

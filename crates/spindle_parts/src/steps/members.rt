@@ -12,6 +12,7 @@ use crate::steps::registers::Registers;
 pub const MOST_MEMBERS: u32 = 32767;
 
 impl Registers {
+    /// Makes the party a member that is in, while there is no closer. The only step that takes memory.
     pub fn join(&mut self, party: u32) -> Result<(), Why>
         requires tidy { IsTidy self.old }
         ensures served { let granted = granted_by result in
@@ -35,6 +36,7 @@ impl Registers {
         Ok(())
     }
 
+    /// A member that is in leaves. The last of those who are in becomes the closer; a sole member ends the round.
     pub fn exit(&mut self, party: u32) -> Result<(), Why>
         requires reached { IsReached (shown self.old) }
         requires tidy { IsTidy self.old }

@@ -25,25 +25,36 @@ pub struct Entry {
 /// mark counts only where the list of those that saw the stop has the party at it.
 #[derive(Drop)]
 pub struct Registers {
+    /// What is kept of each party that ever came.
     pub entries: BTreeMap<u32, Entry>,
     /// The parties that have seen the round's stop, each once.
     pub saw: Vec<u32>,
+    /// How many of its own jobs each thread has left.
     pub counters: Vec<u32>,
+    /// How many of the jobs that no thread owns are left.
     pub remainder: u32,
     /// The sum of the counters and the remainder.
     pub left: u32,
+    /// How many jobs of the round have finished.
     pub finished: u32,
+    /// The number of jobs published, until the closer takes it back.
     pub published: Option<u32>,
+    /// Whether the published round may stop.
     pub stoppable: bool,
+    /// Whether the round was stopped.
     pub stopped: bool,
     /// The members that haven't arrived.
     pub inside: u32,
+    /// All members, those that have arrived among them.
     pub members: u32,
+    /// Whether the number of ended rounds is odd.
     pub sense: bool,
+    /// The party that has to end the round.
     pub closer: Option<u32>,
 }
 
 impl Registers {
+    /// The registers of a fresh machine with so many counters: no party, no job, round 0.
     pub fn new(alloc: Global, threads: usize) -> Result<Registers, AllocError>
         ensures fresh { IfOk result (λ r. shown r ≡ initial threads) }
         ensures tidy { IfOk result IsTidy }
@@ -76,6 +87,7 @@ impl Registers {
         self.inside + 0x1_0000 * self.members + sense
     }
 
+    /// What is kept of a party, if it ever came.
     pub fn entry(&self, party: u32) -> Option<Entry>
         ensures { result ≡ get nat_cmp self.now.entries party }
     {
@@ -92,12 +104,14 @@ impl Registers {
         }
     }
 
+    /// Whether the party is no member.
     pub fn is_out(&self, party: u32) -> bool
         ensures { result ≡ is_out (status (shown self.now) party) }
     {
         self.sense_of(party).is_none()
     }
 
+    /// Whether the party is a member that hasn't arrived.
     pub fn is_inside(&self, party: u32) -> bool
         ensures { result ≡ is_inside (status (shown self.now) party) }
     {
@@ -107,6 +121,7 @@ impl Registers {
         }
     }
 
+    /// Whether the party is a member that has arrived.
     pub fn is_waiting(&self, party: u32) -> bool
         ensures { result ≡ is_waiting (status (shown self.now) party) }
     {
@@ -116,6 +131,7 @@ impl Registers {
         }
     }
 
+    /// The job that the party runs.
     pub fn running(&self, party: u32) -> Option<u32>
         ensures { result ≡ ((shown self.now).seat party).running }
     {
@@ -125,6 +141,7 @@ impl Registers {
         }
     }
 
+    /// Whether the party is the closer.
     pub fn is_closer(&self, party: u32) -> bool
         ensures { result ≡ is_party self.now.closer party }
     {
