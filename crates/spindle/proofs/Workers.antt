@@ -1,17 +1,17 @@
 -- How a thread's work in a round goes on, from one claim to the next.
-use Rattle.std.proofs.Common.{◌≡◌, ℕ, ◌+◌, ◌∷◌, Bool, true, false, None, sym, ap, ◌∙◌, arith}
+use Rattle.std.proofs.Common.{◌≡◌, ◌⊎◌, inl, inr, ℕ, ◌+◌, ◌∷◌, Bool, true, false, None, sym, ap, ◌∙◌, arith}
 use Rattle.atomic_table.specs.Table.{Me}
 use Rattle.spindle.specs.declared.round_table.view.Known.{Known}
 use Rattle.spindle.specs.declared.round_table.view.Standing.{Standing}
 use Rattle.spindle.specs.declared.round_table.view.Standing.TheVariants.{Inside}
 use Rattle.spindle.specs.declared.round_table.view.View.{View}
-use Rattle.spindle.specs.RoundConditions.{MayClaim, IsFreeInside}
-use Rattle.spindle.specs.RoundRule.{Showed}
+use Rattle.spindle.specs.RoundConditions.{MayClaim, IsFreeInside, IsDone}
+use Rattle.spindle.specs.RoundRule.{Showed, IsListed}
 use Rattle.spindle.specs.RoundSteps.{unknown, round_of}
 use Rattle.spindle.specs.RoundViews.{Onward, SeesAsBefore, SharesAsBefore, shown_of, published_of}
 use Rattle.spindle.specs.Passing.{InNext}
 use Rattle.spindle.specs.Working.{OnTask, IsIdle, Worked, HasSearched, HasPassed, PlayedRound}
-use Rattle.spindle.proofs.RoundClients.{onward_same, onward_then, still_at_work, may_claim}
+use Rattle.spindle.proofs.RoundClients.{onward_same, onward_then, still_at_work, may_claim, all_empty}
 use Rattle.spindle.proofs.BarrierClients.{moved_standing, moved_known, moved_claim, moved_leader, moved_deeds}
 
 module _ {N : Type 0} (n : ℕ) (b : Bool) where
@@ -52,6 +52,11 @@ module _ {N : Type 0} (n : ℕ) (b : Bool) where
 -- what was read as empty stays so
 pub still_searched : {N : Type 0} (v w : View N) → HasSearched v → Onward v w → HasSearched w
 still_searched v w searched step i lt = step.emptied i (searched i (let e = step.threads in omega arith))
+
+-- so who then stops at the remainder, empty or stopped, is done
+pub done_after : {N : Type 0} (n : ℕ) (b : Bool) (v w : View N) → HasSearched v → Worked n b v w → (w.known.seen_stop ≡ true) ⊎ IsListed w.threads w.known.emptied → IsDone w
+done_after n b v w searched worked (inl seen) = inr (inl seen)
+done_after n b v w searched worked (inr rest) = all_empty n b w worked.1.0 (still_searched v w searched worked.0) rest
 
 -- the round's end, after work in the round
 pub passed_after : {S N : Type 0} (v : View N) (u w : Me S (View N)) → Onward v u.0 → IsIdle u.0 → InNext u w → HasPassed v w.0

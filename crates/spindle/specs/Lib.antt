@@ -18,6 +18,7 @@ pub mod Seats
 pub mod Holding
 pub mod Passing
 pub mod Working
+pub mod Sources
 pub mod Opening
 pub mod Alone
 pub mod Parties

@@ -27,6 +27,7 @@ mod root;
 mod runner;
 mod shared;
 mod sleep;
+mod source;
 mod starting;
 mod tables;
 mod task;

@@ -6,9 +6,9 @@ ghost use Rattle.std.specs.Prelude.{◌≡◌, ◌+◌, ◌<◌, ◌≤◌, None
 ghost use Rattle.std.specs.List.{AllZip};
 ghost use Rattle.spindle.specs.Alone.{HasAnswered};
 ghost use Rattle.spindle.specs.RoundConditions.{MayClaim, MayFinish};
-ghost use Rattle.spindle.specs.RoundRule.{IsListed};
 ghost use Rattle.spindle.specs.Rounds.{items_of};
 ghost use Rattle.spindle.specs.RoundViews.{Onward, SeesAsBefore, SharesAsBefore};
+ghost use Rattle.spindle.specs.Sources.{IsIn, HasEmptied};
 ghost use Rattle.spindle.specs.Working.{PlayedRound};
 
 use crate::lock::finished::Finished;
@@ -17,6 +17,7 @@ use crate::lock::job::Job;
 use crate::lock::leader_post::LeaderPost;
 use crate::lock::phases::{end_round, publish};
 use crate::lock::runner::Runner;
+use crate::lock::source::Source;
 use crate::round::Round;
 use crate::round::claim::{Claim, Claimed};
 use crate::round_table::Seat;
@@ -65,8 +66,9 @@ impl<'a> LeaderPost<'a> {
             next: 0,
             outputs: mem::replace(outputs, Vec::new(alloc)),
         };
-        worker.run_own(rt, alloc, runner, &mut post.barrier.seat);
-        worker.run_rest(rt, alloc, runner, &mut post.barrier.seat);
+        let seat = &mut post.barrier.seat;
+        worker.run_from(rt, alloc, runner, seat, Source::Range(0));
+        worker.run_from(rt, alloc, runner, seat, Source::Remainder);
         worker.run_left(rt, alloc, runner);
         *outputs = worker.outputs;
         end_round(rt, tables, &mut post.barrier);
@@ -74,16 +76,17 @@ impl<'a> LeaderPost<'a> {
 }
 
 impl<'r, 'p, J: Job> LoneWorker<'r, 'p, J> {
-    // The jobs of the only range, until it is empty.
-    fn run_own<G: Gate, H: Threads + Wait + Sync>(
+    // The jobs of a source, until it is empty.
+    fn run_from<G: Gate, H: Threads + Wait + Sync>(
         &mut self,
         rt: &H,
         alloc: Global,
         runner: &mut Runner<'_, J, G>,
         seat: &mut Seat<Bare>,
+        source: Source,
     )
         requires seated { seat.old.table_id ≡ self.old.round.now.init.table.shared.table_id }
-        requires ranges { 0 < self.old.round.now.init.threads }
+        requires there { IsIn self.old.round.now.init.threads source }
         requires free { MayClaim seat.old.me.0 }
         requires answered { HasAnswered J.meets self.old.pieces.now self.old.next self.old.outputs }
         ensures seat { (seat.new.table_id ≡ seat.old.table_id) × (seat.new.id ≡ seat.old.id) }
@@ -91,38 +94,10 @@ impl<'r, 'p, J: Job> LoneWorker<'r, 'p, J> {
         ensures answered { HasAnswered J.meets self.new.pieces.now self.new.next self.new.outputs }
         ensures crew { runner.new.tables ≡ runner.old.tables }
         ensures worked { Onward seat.old.me.0 seat.new.me.0 × MayClaim seat.new.me.0 }
-        ensures listed { IsListed 0 seat.new.me.0.known.emptied }
+        ensures emptied { HasEmptied source seat.new.me.0 }
     {
         for _ in rt.forever() {
-            match self.round.try_claim_own(seat, 0) {
-                Claim::Job(claimed) => self.run(rt, alloc, runner, seat, claimed),
-                Claim::Nothing => return,
-                Claim::Again => {}
-            }
-        }
-        unreachable!()
-    }
-
-    // The jobs of the remainder, until it is empty.
-    fn run_rest<G: Gate, H: Threads + Wait + Sync>(
-        &mut self,
-        rt: &H,
-        alloc: Global,
-        runner: &mut Runner<'_, J, G>,
-        seat: &mut Seat<Bare>,
-    )
-        requires seated { seat.old.table_id ≡ self.old.round.now.init.table.shared.table_id }
-        requires free { MayClaim seat.old.me.0 }
-        requires answered { HasAnswered J.meets self.old.pieces.now self.old.next self.old.outputs }
-        ensures seat { (seat.new.table_id ≡ seat.old.table_id) × (seat.new.id ≡ seat.old.id) }
-        ensures worker { (self.new.round ≡ self.old.round) × (self.new.pieces ≡ self.old.pieces) }
-        ensures answered { HasAnswered J.meets self.new.pieces.now self.new.next self.new.outputs }
-        ensures crew { runner.new.tables ≡ runner.old.tables }
-        ensures worked { Onward seat.old.me.0 seat.new.me.0 × MayClaim seat.new.me.0 }
-        ensures listed { IsListed seat.new.me.0.threads seat.new.me.0.known.emptied }
-    {
-        for _ in rt.forever() {
-            match self.round.try_claim_rest(seat) {
+            match source.try_claim(self.round, seat) {
                 Claim::Job(claimed) => self.run(rt, alloc, runner, seat, claimed),
                 Claim::Nothing => return,
                 Claim::Again => {}

@@ -2,15 +2,17 @@
 //!
 //! A thread begins with its own range, then steals from the longest, a share at a time, and at last takes from the
 //! remainder. In a round that may stop it looks before each claim whether the round was stopped.
-ghost use Rattle.std.specs.Prelude.{◌≡◌, ◌<◌, None, true, false};
+ghost use Rattle.std.specs.Prelude.{◌≡◌, ◌⊎◌, ◌<◌, None, true, false};
 ghost use Rattle.spindle.specs.RoundConditions.{MayFinish, MayPutBack, IsItsShare, IsDone};
 ghost use Rattle.spindle.specs.RoundViews.{Onward, SeesAsBefore, SharesAsBefore};
+ghost use Rattle.spindle.specs.Sources.{IsIn, HasEmptied};
 ghost use Rattle.spindle.specs.Working.{OnTask, IsIdle, Worked, HasSearched};
 
 use crate::lock::finished::Finished;
 use crate::lock::gate::Gate;
 use crate::lock::job::Job;
 use crate::lock::runner::Runner;
+use crate::lock::source::Source;
 use crate::lock::task::Task;
 use crate::lock::trays::Trays;
 use crate::round::Round;
@@ -52,11 +54,11 @@ impl<'r, 't, J: Job> Worker<'r, 't, J> {
         ensures worked { Worked task.jobs task.may_stop seat.old.me.0 seat.new.me.0 }
         ensures done { IsDone seat.new.me.0 }
     {
-        self.run_own(rt, alloc, runner, seat, task);
+        self.run_from(rt, alloc, runner, seat, Source::Range(self.thread), task);
         if self.run_stolen(rt, alloc, runner, seat, task) {
             return;
         }
-        self.run_rest(rt, alloc, runner, seat, task);
+        self.run_from(rt, alloc, runner, seat, Source::Remainder, task);
     }
 
     // Whether the round was stopped.
@@ -71,30 +73,31 @@ impl<'r, 't, J: Job> Worker<'r, 't, J> {
         task.may_stop && self.round.stopped(seat)
     }
 
-    // The jobs of the thread's own range, until it is empty.
-    fn run_own<G: Gate, H: Threads + Wait + Sync>(
+    // The jobs of a source, until it is empty or the round is stopped.
+    fn run_from<G: Gate, H: Threads + Wait + Sync>(
         &self,
         rt: &H,
         alloc: Global,
         runner: &mut Runner<'_, J, G>,
         seat: &mut Seat<Bare>,
+        source: Source,
         task: Task,
     )
         requires seated { seat.old.table_id ≡ self.now.round.now.init.table.shared.table_id }
-        requires sized { seat.old.me.0.threads ≡ self.now.round.now.init.threads }
-        requires thread { self.now.thread < self.now.round.now.init.threads }
+        requires there { IsIn self.now.round.now.init.threads source }
         requires crew { self.now.thread < runner.old.tables.now.crew.threads }
         requires task { OnTask task.jobs task.may_stop seat.old.me.0 }
         requires idle { IsIdle seat.old.me.0 }
         ensures seat { (seat.new.table_id ≡ seat.old.table_id) × (seat.new.id ≡ seat.old.id) }
         ensures crew { runner.new.tables ≡ runner.old.tables }
         ensures worked { Worked task.jobs task.may_stop seat.old.me.0 seat.new.me.0 }
+        ensures emptied { (seat.new.me.0.known.seen_stop ≡ true) ⊎ HasEmptied source seat.new.me.0 }
     {
         for _ in rt.forever() {
             if self.sees_stop(seat, task) {
                 return;
             }
-            match self.round.try_claim_own(seat, self.thread) {
+            match source.try_claim(self.round, seat) {
                 Claim::Job(claimed) => self.run(rt, alloc, runner, seat, claimed, task),
                 Claim::Nothing => return,
                 Claim::Again => {}
@@ -188,40 +191,6 @@ impl<'r, 't, J: Job> Worker<'r, 't, J> {
                 return share.done();
             }
             thread::yield_now();
-        }
-        unreachable!()
-    }
-
-    // The jobs of the remainder, until it is empty.
-    fn run_rest<G: Gate, H: Threads + Wait + Sync>(
-        &self,
-        rt: &H,
-        alloc: Global,
-        runner: &mut Runner<'_, J, G>,
-        seat: &mut Seat<Bare>,
-        task: Task,
-    )
-        requires seated { seat.old.table_id ≡ self.now.round.now.init.table.shared.table_id }
-        requires sized { seat.old.me.0.threads ≡ self.now.round.now.init.threads }
-        requires thread { self.now.thread < self.now.round.now.init.threads }
-        requires crew { self.now.thread < runner.old.tables.now.crew.threads }
-        requires task { OnTask task.jobs task.may_stop seat.old.me.0 }
-        requires idle { IsIdle seat.old.me.0 }
-        requires searched { HasSearched seat.old.me.0 }
-        ensures seat { (seat.new.table_id ≡ seat.old.table_id) × (seat.new.id ≡ seat.old.id) }
-        ensures crew { runner.new.tables ≡ runner.old.tables }
-        ensures worked { Worked task.jobs task.may_stop seat.old.me.0 seat.new.me.0 }
-        ensures done { IsDone seat.new.me.0 }
-    {
-        for _ in rt.forever() {
-            if self.sees_stop(seat, task) {
-                return;
-            }
-            match self.round.try_claim_rest(seat) {
-                Claim::Job(claimed) => self.run(rt, alloc, runner, seat, claimed, task),
-                Claim::Nothing => return,
-                Claim::Again => {}
-            }
         }
         unreachable!()
     }

@@ -6,12 +6,12 @@ use Rattle.spindle.proofs.Workers.{played_after}
 use Rattle.spindle.proofs.lock.leader_post.LeaderPost.play_alone.Goals as goal
 
 pub end_round-requires-clause-done : goal.end_round-requires-clause-done
-end_round-requires-clause-done g c = let v = c.publish.new.barrier.seat.me.0 in let o = c.run_own.new.seat.me.0 in let u = c.run_rest.new.seat.me.0 in
-    let a = c.run_own.ensures in let b = c.run_rest.ensures in let n : ℕ = length c.args.pieces.now in
+end_round-requires-clause-done g c = let v = c.publish.new.barrier.seat.me.0 in let o = c.run_from.new.seat.me.0 in let u = c.run_from-2.new.seat.me.0 in
+    let a = c.run_from.ensures in let b = c.run_from-2.ensures in let n : ℕ = length c.args.pieces.now in
     let at_work = still_at_work n false v u c.publish.ensures.task.0 (onward_then v o u a.worked.0 b.worked.0) in
     all_empty n false u at_work (λ i lt. let threads = b.worked.0.threads in let before = a.worked.0.threads in let sized = c.publish.ensures.at.0.2 in let one = c.requires.one in
-    let first : 0 ≡ i = omega arith in subst (λ (j : ℕ). IsListed j u.known.emptied) first (b.worked.0.emptied 0 a.listed)) b.listed
+    let first : 0 ≡ i = omega arith in subst (λ (j : ℕ). IsListed j u.known.emptied) first (b.worked.0.emptied 0 a.emptied)) b.emptied
 
 pub returns-clause-played : goal.returns-clause-played
-returns-clause-played g c = let v = c.publish.new.barrier.seat.me.0 in let o = c.run_own.new.seat.me.0 in let u = c.run_rest.new.seat.me in let b = c.run_rest.ensures.worked in
-    played_after (length c.args.pieces.now) c.args.self.now.post.barrier.seat.me.0 v u c.end_round.new.barrier.seat.me c.publish.ensures.published (onward_then v o u.0 c.run_own.ensures.worked.0 b.0) (b.1.0.2, b.1.0.3) c.end_round.ensures.next
+returns-clause-played g c = let v = c.publish.new.barrier.seat.me.0 in let o = c.run_from.new.seat.me.0 in let u = c.run_from-2.new.seat.me in let b = c.run_from-2.ensures.worked in
+    played_after (length c.args.pieces.now) c.args.self.now.post.barrier.seat.me.0 v u c.end_round.new.barrier.seat.me c.publish.ensures.published (onward_then v o u.0 c.run_from.ensures.worked.0 b.0) (b.1.0.2, b.1.0.3) c.end_round.ensures.next

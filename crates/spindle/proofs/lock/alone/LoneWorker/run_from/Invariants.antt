@@ -3,7 +3,7 @@ use Rattle.std.proofs.Common.{◌≡◌}
 use Rattle.spindle.specs.Alone.{HasAnswered}
 use Rattle.spindle.specs.RoundConditions.{MayClaim}
 use Rattle.spindle.specs.RoundViews.{Onward}
-use Rattle.spindle.proofs.lock.alone.LoneWorker.run_rest.Given as goal
+use Rattle.spindle.proofs.lock.alone.LoneWorker.run_from.Given as goal
 
 abbrev pub invariant-loop : goal.invariant-loop
 invariant-loop g l = record {

@@ -1,7 +1,7 @@
 -- The thread has worked on.
 use Rattle.std.proofs.Common.{◌≡◌}
 use Rattle.spindle.specs.Working.{Worked}
-use Rattle.spindle.proofs.lock.work.Worker.run_own.Given as goal
+use Rattle.spindle.proofs.lock.work.Worker.run_from.Given as goal
 
 abbrev pub invariant-loop : goal.invariant-loop
 invariant-loop g l = record {
