@@ -54,12 +54,7 @@ impl<'a> Recruit<'a> {
         } = self;
         let thread = take_number(rt, &tables.numbers, &mut numbers);
         let post = Post::join(rt, tables, round, thread);
-        let runner = Runner::<'a, J, G> {
-            slots: J::slots(lock),
-            gate,
-            tables,
-            notices,
-        };
+        let runner = Runner::<'a, J, G>::new(J::slots(lock), gate, tables, notices);
         live(rt, alloc, post, runner, J::trays(lock));
         tables.numbers.give(&mut numbers, thread);
     }

@@ -23,6 +23,23 @@ pub(crate) struct Runner<'a, J: Job, G: Gate> {
 }
 
 impl<'a, J: Job, G: Gate> Runner<'a, J, G> {
+    /// What a thread at these tables runs jobs with.
+    pub(crate) fn new(
+        slots: &'a <J::Inner as Nest>::Slots,
+        gate: &'a G,
+        tables: &'a Tables,
+        notices: Notices<'a>,
+    ) -> Runner<'a, J, G>
+        ensures { result.tables.now ≡ tables.now }
+    {
+        Runner {
+            slots,
+            gate,
+            tables,
+            notices,
+        }
+    }
+
     /// Runs the items, and puts their outputs at the end of the list.
     pub(crate) fn run<H: Threads + Wait + Sync>(
         &mut self,

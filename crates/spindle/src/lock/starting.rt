@@ -64,6 +64,53 @@ impl Tables {
     }
 }
 
+impl Seats {
+    // A helper's seats, split from the leader's.
+    fn recruit<'a>(&mut self, tables: &'a Tables) -> Recruit<'a>
+        requires { AreSeatsAt tables.now self.old }
+        ensures { AreSeatsAt tables.now self.new }
+    {
+        Recruit {
+            tables,
+            round: tables.round.init().new_seat(&mut self.round),
+            numbers: tables.numbers.new_seat(&mut self.numbers),
+            notices: Notices::new(&tables.ledger, tables.ledger.new_seat(&mut self.ledger)),
+        }
+    }
+}
+
+// Starts so many helpers, but no more than the lock has threads beside its leader.
+fn start<
+    's,
+    E,
+    J: Opens<L> + Send + 's,
+    G: Gate + Sync,
+    L: Send + Sync,
+    H: Threads + Wait + Sync + 's,
+>(
+    scope: &Scope<'s, E>,
+    rt: &'s H,
+    alloc: Global,
+    tables: &'s Tables,
+    lock: &'s L,
+    gate: &'s G,
+    seats: &mut Seats,
+    starts: usize,
+)
+where
+    J::In: Send + Sync,
+    J::Out: Send,
+    J::Inner: Send,
+    <J::Inner as Nest>::Slots: Send + Sync,
+    requires { AreSeatsAt tables.now seats.old }
+    ensures { AreSeatsAt tables.now seats.new }
+{
+    for _ in 0..starts.min(tables.crew.threads() - 1) {
+        let recruit = seats.recruit(tables);
+        drop(scope.spawn(move || recruit.help::<J, L, G, H>(rt, alloc, lock, gate)));
+    }
+}
+
 /// Starts the helpers, runs f, and dismisses them.
 pub(crate) fn lead<
     's,
@@ -94,23 +141,10 @@ where
     requires seats { AreSeatsAt tables.now seats }
     ensures { (old : _) × (new : _) × (threads_of old ≡ tables.now.crew.threads) × FnOnceReturnsAtMut F.FnOnce f old result new }
 {
+    start::<_, J, G, L, H>(scope, rt, alloc, tables, lock, gate, &mut seats, starts);
     let mut notices = Notices::new(&tables.ledger, seats.ledger);
-    for _ in 0..starts.min(tables.crew.threads() - 1) {
-        let recruit = Recruit {
-            tables,
-            round: tables.round.init().new_seat(&mut seats.round),
-            numbers: tables.numbers.new_seat(&mut seats.numbers),
-            notices: notices.another(),
-        };
-        drop(scope.spawn(move || recruit.help::<J, L, G, H>(rt, alloc, lock, gate)));
-    }
     let post = LeaderPost::new(Post::join(rt, tables, seats.round, 0));
-    let runner = Runner {
-        slots: J::slots(lock),
-        gate,
-        tables,
-        notices,
-    };
+    let runner = Runner::new(J::slots(lock), gate, tables, notices);
     let mut leader = Leader::new(lock, runner, post);
     let answer = f(&mut leader);
     leader.dismiss(rt);
