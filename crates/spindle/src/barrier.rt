@@ -62,7 +62,9 @@ impl BarrierInit<Bare> {
     /// # Errors
     /// `Memory`.
     pub fn new(alloc: Global) -> Result<(BarrierInit<Bare>, Seat<Bare>), Fault>
-        ensures opened { IfOk result (λ t. (t.0.threads ≡ 0) × (t.1.table_id ≡ t.0.table.shared.table_id) × (t.1.id ≡ 0) × (t.1.me ≡ (outsider 0 true, []))) }
+        ensures opened { IfOk result (λ t. (t.0.threads ≡ 0)
+            × (t.1.table_id ≡ t.0.table.shared.table_id) × (t.1.id ≡ 0)
+            × (t.1.me ≡ (outsider 0 true, []))) }
         ensures memory { OnErr result (IsErrOf result Fault.Memory) }
     {
         BarrierInit::open(alloc, 0, 0)
@@ -76,7 +78,9 @@ impl<D: Slots> BarrierInit<D> {
         slots: usize,
     ) -> Result<(BarrierInit<D>, Seat<D>), Fault>
         requires few { threads ≤ 32767 }
-        ensures opened { IfOk result (λ t. (t.0.threads ≡ threads) × (t.1.table_id ≡ t.0.table.shared.table_id) × (t.1.id ≡ 0) × (t.1.me ≡ (outsider threads true, []))) }
+        ensures opened { IfOk result (λ t. (t.0.threads ≡ threads)
+            × (t.1.table_id ≡ t.0.table.shared.table_id) × (t.1.id ≡ 0)
+            × (t.1.me ≡ (outsider threads true, []))) }
         ensures memory { OnErr result (IsErrOf result Fault.Memory) }
     {
         let words = Vec::from_elem(alloc, 0u64, RANGES + 2 * APART * threads)?;
@@ -90,8 +94,10 @@ impl<D: Slots> BarrierInit<D> {
     /// A seat for another party, which is out. It may be handed to another thread.
     pub fn new_seat(&self, seat: &mut Seat<D>) -> Seat<D>
         requires seated { seat.old.table_id ≡ self.now.table.shared.table_id }
-        ensures old { (seat.new.table_id ≡ seat.old.table_id) × (seat.new.id ≡ seat.old.id) × (seat.new.me ≡ seat.old.me) }
-        ensures new { (result.table_id ≡ seat.old.table_id) × (result.me ≡ (new_view seat.old.me.0, [])) }
+        ensures old { (seat.new.table_id ≡ seat.old.table_id) × (seat.new.id ≡ seat.old.id)
+            × (seat.new.me ≡ seat.old.me) }
+        ensures new { (result.table_id ≡ seat.old.table_id)
+            × (result.me ≡ (new_view seat.old.me.0, [])) }
     {
         self.table.shared.split_seat::<NewSeat>(seat)
     }

@@ -34,7 +34,9 @@ impl Round<Bare> {
     /// `Memory`.
     pub fn new(alloc: Global, threads: usize) -> Result<(Round<Bare>, Seat<Bare>), Fault>
         requires threads { (1 ≤ threads) × (threads ≤ 32767) }
-        ensures opened { IfOk result (λ t. (t.0.init.threads ≡ threads) × (t.1.table_id ≡ t.0.init.table.shared.table_id) × (t.1.id ≡ 0) × (t.1.me ≡ (outsider threads true, []))) }
+        ensures opened { IfOk result (λ t. (t.0.init.threads ≡ threads)
+            × (t.1.table_id ≡ t.0.init.table.shared.table_id) × (t.1.id ≡ 0)
+            × (t.1.me ≡ (outsider threads true, []))) }
         ensures memory { OnErr result (IsErrOf result Fault.Memory) }
     {
         let (init, seat) = BarrierInit::open(alloc, threads, 0)?;

@@ -119,6 +119,7 @@ pub struct Calls {
 }
 
 impl Calls {
+    /// No call yet.
     pub fn new() -> Calls {
         Calls {
             begun: zeros(),

@@ -44,7 +44,8 @@ impl<D: Slots> BarrierInit<D> {
     ) -> Result<Barrier<'_, D>, JoinRefused<Seat<D>>>
         requires seated { seat.table_id ≡ self.now.table.shared.table_id }
         requires away { seat.me.0.standing ≡ Away }
-        ensures joined { IfOk result (λ b. JoinedBy (Joined b.sense) seat.me b.seat.me × (b.seat.id ≡ seat.id) × (b.thread_id ≡ thread_id)) }
+        ensures joined { IfOk result (λ b. JoinedBy (Joined b.sense) seat.me b.seat.me
+            × (b.seat.id ≡ seat.id) × (b.thread_id ≡ thread_id)) }
         ensures held { IfOk result (λ b. IsHeld b × (b.init.now ≡ self.now)) }
         ensures refused { IfErr result (λ e. JoinRefusedBy seat e) }
     {

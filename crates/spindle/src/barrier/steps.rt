@@ -67,7 +67,8 @@ pub enum ExitStep {
 impl<'a, D: Slots> Barrier<'a, D> {
     /// The party's seat, for the calls of `Round`.
     pub fn seat(&mut self) -> &mut Seat<D>
-        ensures* writes_back { sem 𝓛 (LendsSeat D.row D.Slot.row D.Note.row D.Slots self.entry result) }
+        ensures* writes_back { sem 𝓛
+            (LendsSeat D.row D.Slot.row D.Note.row D.Slots self.entry result) }
         ensures value { result.now ≡ self.old.seat }
     {
         &mut self.seat

@@ -55,7 +55,8 @@ pub struct Full<P> {
 impl<P> JoinRefused<P> {
     // The seat, to try again with.
     fn unless_full(self) -> Result<P, Full<P>>
-        ensures again { IfOk result (λ s. (self ≡ JoinRefused.Closing s) ⊎ (self ≡ JoinRefused.Again s)) }
+        ensures again { IfOk result (λ s. (self ≡ JoinRefused.Closing s)
+            ⊎ (self ≡ JoinRefused.Again s)) }
         ensures full { IfErr result (λ f. self ≡ JoinRefused.Full f.seat) }
     {
         match self {
@@ -88,9 +89,11 @@ impl<D: Slots> BarrierInit<D> {
     ) -> Result<Barrier<'_, D>, Full<Seat<D>>>
         requires seated { seat.table_id ≡ self.now.table.shared.table_id }
         requires away { seat.me.0.standing ≡ Away }
-        ensures joined { IfOk result (λ b. JoinedAtLast b.sense seat.me b.seat.me × (b.seat.id ≡ seat.id) × (b.thread_id ≡ thread_id)) }
+        ensures joined { IfOk result (λ b. JoinedAtLast b.sense seat.me b.seat.me
+            × (b.seat.id ≡ seat.id) × (b.thread_id ≡ thread_id)) }
         ensures held { IfOk result (λ b. IsHeld b × (b.init.now ≡ self.now)) }
-        ensures full { IfErr result (λ e. (e.seat.table_id ≡ seat.table_id) × (e.seat.id ≡ seat.id) × FullAtLast seat.me e.seat.me) }
+        ensures full { IfErr result (λ e. (e.seat.table_id ≡ seat.table_id) × (e.seat.id ≡ seat.id)
+            × FullAtLast seat.me e.seat.me) }
     {
         let mut pauses = Pauses::new();
         let mut seat = seat;
@@ -201,7 +204,8 @@ impl<'a, D: Slots> Barrier<'a, D> {
     fn take_turn(mut self, asked: u64) -> Result<Barrier<'a, D>, ExitStatus<'a, D>>
         requires held { IsHeld self }
         requires waiting { MayLeave self.seat.me.0 }
-        ensures stays { IfOk result (λ b. Keeps self.entry b × Stayed self.entry.seat.me b.seat.me) }
+        ensures stays { IfOk result (λ b. Keeps self.entry b
+            × Stayed self.entry.seat.me b.seat.me) }
         ensures ends { IfErr result (λ e. AwaitTold (0 < asked) self.entry e) }
     {
         if asked > 0 {
@@ -238,7 +242,8 @@ impl<'a, D: Slots> Barrier<'a, D> {
     // The closer's two stores, by a member.
     pub(crate) fn close(&mut self)
         requires held { IsHeld self.old }
-        requires closer { (q : ℕ) × (was : Bool) × (read : Option ℕ) × (self.old.seat.me.0.standing ≡ Closing q true was read) }
+        requires closer { (q : ℕ) × (was : Bool) × (read : Option ℕ)
+            × (self.old.seat.me.0.standing ≡ Closing q true was read) }
         ensures held { Keeps self.old self.new }
         ensures next { InNext self.old.seat.me self.new.seat.me }
     {
@@ -249,7 +254,8 @@ impl<'a, D: Slots> Barrier<'a, D> {
     // The closer's two stores, by one that has exited.
     fn close_out(mut self) -> Seat<D>
         requires held { IsHeld self }
-        requires closer { (q : ℕ) × (was : Bool) × (read : Option ℕ) × (self.seat.me.0.standing ≡ Closing q false was read) }
+        requires closer { (q : ℕ) × (was : Bool) × (read : Option ℕ)
+            × (self.seat.me.0.standing ≡ Closing q false was read) }
         ensures seat { IsSeatOf self.entry result }
         ensures out { WentOut self.entry.seat.me result.me }
     {

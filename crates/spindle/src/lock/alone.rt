@@ -52,7 +52,8 @@ impl<'a> LeaderPost<'a> {
         requires empty { vec_len outputs.old ≡ 0 }
         requires room { length (items_of pieces.now) ≤ vec_capacity outputs.old }
         ensures answered { AllZip J.meets (items_of pieces.now) outputs.new.items }
-        ensures played { PlayedRound (length pieces.now) self.old.post.barrier.seat.me.0 self.new.post.barrier.seat.me.0 }
+        ensures played { PlayedRound (length pieces.now)
+            self.old.post.barrier.seat.me.0 self.new.post.barrier.seat.me.0 }
         ensures tables { self.new.post.tables ≡ self.old.post.tables }
         ensures crew { runner.new.tables ≡ runner.old.tables }
     {
@@ -122,8 +123,10 @@ impl<'r, 'p, J: Job> LoneWorker<'r, 'p, J> {
         ensures worker { (self.new.round ≡ self.old.round) × (self.new.pieces ≡ self.old.pieces) }
         ensures answered { HasAnswered J.meets self.new.pieces.now self.new.next self.new.outputs }
         ensures crew { runner.new.tables ≡ runner.old.tables }
-        ensures onward { Onward seat.old.me.0 seat.new.me.0 × SeesAsBefore seat.old.me.0 seat.new.me.0 }
-        ensures finished { SharesAsBefore seat.old.me.0 seat.new.me.0 × (seat.new.me.0.claim ≡ None) }
+        ensures onward { Onward seat.old.me.0 seat.new.me.0
+            × SeesAsBefore seat.old.me.0 seat.new.me.0 }
+        ensures finished { SharesAsBefore seat.old.me.0 seat.new.me.0
+            × (seat.new.me.0.claim ≡ None) }
     {
         let number = claimed.number() as usize;
         if number == self.next && number < self.pieces.len() {

@@ -99,7 +99,8 @@ fn live<'a, J: Job, G: Gate, H: Threads + Wait + Sync>(
 
 // Waits for a round, or for the announcement of exit: then it answers none.
 fn await_task<'a, H: Wait>(rt: &H, post: &mut Post<'a>, notices: &mut Notices<'a>) -> Option<Task>
-    ensures task { IfSome result (λ task. OnTask task.jobs task.may_stop post.new.barrier.seat.me.0) }
+    ensures task { IfSome result (λ task.
+        OnTask task.jobs task.may_stop post.new.barrier.seat.me.0) }
     ensures post { (post.new.tables ≡ post.old.tables) × (post.new.thread ≡ post.old.thread) }
     ensures leader { post.new.barrier.seat.me.0.leader ≡ post.old.barrier.seat.me.0.leader }
 {

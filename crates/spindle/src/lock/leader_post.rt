@@ -42,7 +42,8 @@ impl<'a> LeaderPost<'a> {
         jobs: u64,
     )
         requires counted { (2 ≤ jobs) × (jobs ≤ 4294967295) }
-        ensures played { PlayedRound jobs self.old.post.barrier.seat.me.0 self.new.post.barrier.seat.me.0 }
+        ensures played { PlayedRound jobs
+            self.old.post.barrier.seat.me.0 self.new.post.barrier.seat.me.0 }
         ensures tables { self.new.post.tables ≡ self.old.post.tables }
         ensures crew { runner.new.tables ≡ runner.old.tables }
     {

@@ -71,7 +71,8 @@ impl<T> Pieces<T> {
         requires { number < self.now.count }
         ensures next { piece_start (length self.now.items) self.now.count (number + 1)
             ≡ piece_start (length self.now.items) self.now.count number + result }
-        ensures within { piece_start (length self.now.items) self.now.count (number + 1) ≤ length self.now.items }
+        ensures within { piece_start (length self.now.items) self.now.count (number + 1)
+            ≤ length self.now.items }
         ensures length { result
             ≡ get_or (cut_lengths (length self.now.items) self.now.count) number 0 }
     {

@@ -85,7 +85,8 @@ impl<J: Job> Place<J> {
 
     /// Brings the piece back, run. A place that holds one refuses another, and so does it one of another number.
     pub(crate) fn put(&mut self, finished: Finished<J>) -> Result<(), Finished<J>>
-        ensures free { IsOk result ↔ ((self.old.finished ≡ None) × (finished.number ≡ self.old.number)) }
+        ensures free { IsOk result
+            ↔ ((self.old.finished ≡ None) × (finished.number ≡ self.old.number)) }
         ensures held { OnOk result (self.new.finished ≡ Some finished) }
         ensures returned { IfErr result (λ back. back ≡ finished) }
         ensures kept { OnErr result (self.new ≡ self.old) }

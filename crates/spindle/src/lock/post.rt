@@ -84,7 +84,8 @@ impl<'a> Post<'a> {
 
     /// The task of the published round, where there is one.
     pub(crate) fn task(&mut self) -> Option<Task>
-        ensures task { IfSome result (λ task. OnTask task.jobs task.may_stop self.new.barrier.seat.me.0) }
+        ensures task { IfSome result (λ task.
+            OnTask task.jobs task.may_stop self.new.barrier.seat.me.0) }
         ensures post { (self.new.tables ≡ self.old.tables) × (self.new.thread ≡ self.old.thread) }
         ensures leader { self.new.barrier.seat.me.0.leader ≡ self.old.barrier.seat.me.0.leader }
     {

@@ -66,7 +66,8 @@ where
     <J::Inner as Nest>::Slots: Send + Sync,
     requires callable { F.IsAlwaysCallable f }
     requires seats { AreSeatsAt tables.now seats }
-    ensures { (old : _) × (new : _) × (threads_of old ≡ tables.now.crew.threads) × FnOnceReturnsAtMut F.FnOnce f old result new }
+    ensures { (old : _) × (new : _) × (threads_of old ≡ tables.now.crew.threads)
+        × FnOnceReturnsAtMut F.FnOnce f old result new }
 {
     let gate = pool.gate();
     let starts = pool.starts();
@@ -77,7 +78,8 @@ where
             requires callable { F.IsAlwaysCallable f }
             requires seats { AreSeatsAt tables.now seats }
             requires sync { IsSync H.row }
-            ensures { (old : _) × (new : _) × (threads_of old ≡ tables.entry.now.crew.threads) × FnOnceReturnsAtMut F.FnOnce f old result new }
+            ensures { (old : _) × (new : _) × (threads_of old ≡ tables.entry.now.crew.threads)
+                × FnOnceReturnsAtMut F.FnOnce f old result new }
         { lead::<_, J, G, R, F, L, H>(scope, rt, alloc, tables, lock, gate, seats, starts, f) },
     )
 }

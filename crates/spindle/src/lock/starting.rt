@@ -139,7 +139,8 @@ where
     <J::Inner as Nest>::Slots: Send + Sync,
     requires callable { F.IsAlwaysCallable f }
     requires seats { AreSeatsAt tables.now seats }
-    ensures { (old : _) × (new : _) × (threads_of old ≡ tables.now.crew.threads) × FnOnceReturnsAtMut F.FnOnce f old result new }
+    ensures { (old : _) × (new : _) × (threads_of old ≡ tables.now.crew.threads)
+        × FnOnceReturnsAtMut F.FnOnce f old result new }
 {
     start::<_, J, G, L, H>(scope, rt, alloc, tables, lock, gate, &mut seats, starts);
     let mut notices = Notices::new(&tables.ledger, seats.ledger);

@@ -138,7 +138,8 @@ impl<J: Job> Tray<J> {
         ensures answers { result ≡ true
             → AddsAnswers J.meets items.now outputs.old.items outputs.new.items }
         ensures room { vec_capacity outputs.old ≤ vec_capacity outputs.new }
-        ensures held { IsTrue result ↔ IsRunOf number items.now (finished_at self.old.places.items at) }
+        ensures held { IsTrue result
+            ↔ IsRunOf number items.now (finished_at self.old.places.items at) }
     {
         if at >= self.places.len() {
             return false;

@@ -66,8 +66,10 @@ impl<'r, 't, J: Job> Worker<'r, 't, J> {
         requires seated { seat.old.table_id ≡ self.now.round.now.init.table.shared.table_id }
         requires task { OnTask task.jobs task.may_stop seat.old.me.0 }
         ensures seat { (seat.new.table_id ≡ seat.old.table_id) × (seat.new.id ≡ seat.old.id) }
-        ensures onward { Onward seat.old.me.0 seat.new.me.0 × OnTask task.jobs task.may_stop seat.new.me.0 }
-        ensures same { SharesAsBefore seat.old.me.0 seat.new.me.0 × (seat.new.me.0.claim ≡ seat.old.me.0.claim) }
+        ensures onward { Onward seat.old.me.0 seat.new.me.0
+            × OnTask task.jobs task.may_stop seat.new.me.0 }
+        ensures same { SharesAsBefore seat.old.me.0 seat.new.me.0
+            × (seat.new.me.0.claim ≡ seat.old.me.0.claim) }
         ensures seen { seat.new.me.0.known.seen_stop ≡ result }
     {
         task.may_stop && self.round.stopped(seat)
@@ -184,7 +186,8 @@ impl<'r, 't, J: Job> Worker<'r, 't, J> {
         requires free { MayPutBack seat.old.me.0 }
         requires share { IsItsShare share seat.old.me.0 }
         ensures seat { (seat.new.table_id ≡ seat.old.table_id) × (seat.new.id ≡ seat.old.id) }
-        ensures worked { Onward seat.old.me.0 seat.new.me.0 × MayPutBack seat.new.me.0 × IsIdle seat.new.me.0 }
+        ensures worked { Onward seat.old.me.0 seat.new.me.0 × MayPutBack seat.new.me.0
+            × IsIdle seat.new.me.0 }
     {
         for _ in rt.forever() {
             if let PutBack::Put = self.round.put_back(seat, self.thread, &mut share) {
@@ -210,8 +213,10 @@ impl<'r, 't, J: Job> Worker<'r, 't, J> {
         requires own { MayFinish claimed seat.old.me.0 }
         ensures seat { (seat.new.table_id ≡ seat.old.table_id) × (seat.new.id ≡ seat.old.id) }
         ensures crew { runner.new.tables ≡ runner.old.tables }
-        ensures onward { Onward seat.old.me.0 seat.new.me.0 × SeesAsBefore seat.old.me.0 seat.new.me.0 }
-        ensures finished { SharesAsBefore seat.old.me.0 seat.new.me.0 × (seat.new.me.0.claim ≡ None) }
+        ensures onward { Onward seat.old.me.0 seat.new.me.0
+            × SeesAsBefore seat.old.me.0 seat.new.me.0 }
+        ensures finished { SharesAsBefore seat.old.me.0 seat.new.me.0
+            × (seat.new.me.0.claim ≡ None) }
     {
         let finished = self.run_piece(rt, alloc, runner, claimed.number() as usize, task);
         self.round.finish(seat, claimed, &finished);

@@ -38,7 +38,8 @@ impl<D: Slots> Round<D> {
         requires seated { seat.old.table_id ≡ self.now.init.table.shared.table_id }
         requires free { MayClaim seat.old.me.0 }
         ensures seat { (seat.new.table_id ≡ seat.old.table_id) × (seat.new.id ≡ seat.old.id) }
-        ensures step { RestClaimed D.discipline (number_or seat.old.me.0.known.number) result seat.old.me seat.new.me }
+        ensures step { RestClaimed D.discipline (number_or seat.old.me.0.known.number)
+            result seat.old.me seat.new.me }
     {
         let words = &self.init.table.shared;
         let rest = words.load::<ReadsRest>(seat, REST);

@@ -35,7 +35,8 @@ impl Round<Bare> {
         requires own { MayFinish claimed seat.old.me.0 }
         requires piece { finished.now.number ≡ claimed }
         ensures seat { (seat.new.table_id ≡ seat.old.table_id) × (seat.new.id ≡ seat.old.id) }
-        ensures step { (found : ℕ) × (seat.new.me ≡ (finishing found seat.old.me.0, seat.old.me.1)) }
+        ensures step { (found : ℕ)
+            × (seat.new.me ≡ (finishing found seat.old.me.0, seat.old.me.1)) }
     {
         let _piece = finished;
         self.count_finished(seat, claimed);

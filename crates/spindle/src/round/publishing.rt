@@ -25,7 +25,8 @@ impl<D: Slots> Round<D> {
         requires leads { MayFill seat.old.me.0 }
         requires counted { (2 ≤ jobs) × (jobs ≤ 4294967295) }
         requires ranges { 0 < self.now.init.threads }
-        ensures seat { (seat.new.table_id ≡ seat.old.table_id) × (seat.new.id ≡ seat.old.id) × (seat.new.me.1 ≡ seat.old.me.1) }
+        ensures seat { (seat.new.table_id ≡ seat.old.table_id) × (seat.new.id ≡ seat.old.id)
+            × (seat.new.me.1 ≡ seat.old.me.1) }
         ensures filled { FilledBy self.now.init.threads jobs seat.old.me.0 seat.new.me.0 }
     {
         let words = &self.init.table.shared;

@@ -84,7 +84,8 @@ impl<D: Slots> Round<D> {
         requires free { MayBegin seat.old.me.0 }
         requires own { IsItsShare share.old seat.old.me.0 }
         ensures seat { (seat.new.table_id ≡ seat.old.table_id) × (seat.new.id ≡ seat.old.id) }
-        ensures step { SharedBy D.discipline (self.now.init.threads + t) share.old result share.new seat.old.me seat.new.me }
+        ensures step { SharedBy D.discipline (self.now.init.threads + t)
+            share.old result share.new seat.old.me seat.new.me }
     {
         let (first, end) = share.bounds();
         if first == end {

@@ -44,7 +44,8 @@ struct Desk<'a> {
 
 impl<'a> Desk<'a> {
     fn new_seat(&mut self) -> Seat
-        ensures { IsSeatOf self.new.numbers.now result × (result.me.0.holding ≡ Nothing) × (self.new.numbers ≡ self.old.numbers) }
+        ensures { IsSeatOf self.new.numbers.now result × (result.me.0.holding ≡ Nothing)
+            × (self.new.numbers ≡ self.old.numbers) }
     {
         self.numbers.new_seat(&mut self.leader)
     }

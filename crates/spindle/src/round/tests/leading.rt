@@ -23,8 +23,11 @@ impl<'a> Player<'a> {
         requires leads { MayFill seat.old.me.0 }
         requires counted { (2 ≤ jobs) × (jobs ≤ 4294967295) }
         ensures seat { (seat.new.table_id ≡ seat.old.table_id) × (seat.new.id ≡ seat.old.id) }
-        ensures party { (seat.new.me.0.standing ≡ seat.old.me.0.standing) × (seat.new.me.0.leader ≡ seat.old.me.0.leader) × (seat.new.me.0.threads ≡ seat.old.me.0.threads) }
-        ensures same { SharesAsBefore seat.old.me.0 seat.new.me.0 × (seat.new.me.0.claim ≡ seat.old.me.0.claim) }
+        ensures party { (seat.new.me.0.standing ≡ seat.old.me.0.standing)
+            × (seat.new.me.0.leader ≡ seat.old.me.0.leader)
+            × (seat.new.me.0.threads ≡ seat.old.me.0.threads) }
+        ensures same { SharesAsBefore seat.old.me.0 seat.new.me.0
+            × (seat.new.me.0.claim ≡ seat.old.me.0.claim) }
         ensures knows { MaySee seat.new.me.0 }
         ensures may { seat.new.me.0.known.may_stop ≡ may_stop }
     {
@@ -41,7 +44,8 @@ impl<'a> Player<'a> {
         requires seated { seat.old.table_id ≡ self.now.round.now.init.table.shared.table_id }
         ensures seat { (seat.new.table_id ≡ seat.old.table_id) × (seat.new.id ≡ seat.old.id) }
         ensures goes_on { Onward seat.old.me.0 seat.new.me.0 }
-        ensures same { SharesAsBefore seat.old.me.0 seat.new.me.0 × (seat.new.me.0.claim ≡ seat.old.me.0.claim) }
+        ensures same { SharesAsBefore seat.old.me.0 seat.new.me.0
+            × (seat.new.me.0.claim ≡ seat.old.me.0.claim) }
     {
         let threads = self.round.init().threads;
         for i in 0..threads {
@@ -58,7 +62,8 @@ impl<'a> Player<'a> {
         requires seated { seat.old.table_id ≡ self.now.round.now.init.table.shared.table_id }
         ensures seat { (seat.new.table_id ≡ seat.old.table_id) × (seat.new.id ≡ seat.old.id) }
         ensures goes_on { Onward seat.old.me.0 seat.new.me.0 }
-        ensures same { SharesAsBefore seat.old.me.0 seat.new.me.0 × (seat.new.me.0.claim ≡ seat.old.me.0.claim) }
+        ensures same { SharesAsBefore seat.old.me.0 seat.new.me.0
+            × (seat.new.me.0.claim ≡ seat.old.me.0.claim) }
     {
         let begun = self.counts.total();
         let finished = word(self.round, FINISHED);

@@ -43,7 +43,8 @@ pub fn finish(alloc: Global, round: &Round<Bare>, seat: &mut Seat<Bare>, claimed
     requires seated { seat.old.table_id ≡ round.now.init.table.shared.table_id }
     requires own { MayFinish claimed seat.old.me.0 }
     ensures seat { (seat.new.table_id ≡ seat.old.table_id) × (seat.new.id ≡ seat.old.id) }
-    ensures goes_on { Onward seat.old.me.0 seat.new.me.0 × SeesAsBefore seat.old.me.0 seat.new.me.0 }
+    ensures goes_on { Onward seat.old.me.0 seat.new.me.0
+        × SeesAsBefore seat.old.me.0 seat.new.me.0 }
     ensures share { SharesAsBefore seat.old.me.0 seat.new.me.0 × (seat.new.me.0.claim ≡ None) }
 {
     let number = claimed.number();
@@ -132,7 +133,8 @@ pub fn spend(alloc: Global, round: &Round<Bare>, seat: &mut Seat<Bare>, mut shar
     requires free { MayBegin seat.old.me.0 }
     requires own { IsItsShare share seat.old.me.0 }
     ensures seat { (seat.new.table_id ≡ seat.old.table_id) × (seat.new.id ≡ seat.old.id) }
-    ensures goes_on { Onward seat.old.me.0 seat.new.me.0 × SeesAsBefore seat.old.me.0 seat.new.me.0 }
+    ensures goes_on { Onward seat.old.me.0 seat.new.me.0
+        × SeesAsBefore seat.old.me.0 seat.new.me.0 }
     ensures free { (seat.new.me.0.to ≤ seat.new.me.0.from) × (seat.new.me.0.claim ≡ None) }
 {
     let (from, to) = share.bounds();

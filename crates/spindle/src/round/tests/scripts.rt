@@ -21,7 +21,8 @@ pub fn publish_two(round: &Round<Bare>, leader: &mut Barrier<Bare>)
     requires free { IsFreeInside leader.old.seat.me.0 }
     ensures held { IsHeld leader.new }
     ensures seated { leader.new.seat.table_id ≡ round.now.init.table.shared.table_id }
-    ensures same { (leader.new.seat.me.0.leader ≡ leader.old.seat.me.0.leader) × (leader.new.seat.me.0.threads ≡ leader.old.seat.me.0.threads) }
+    ensures same { (leader.new.seat.me.0.leader ≡ leader.old.seat.me.0.leader)
+        × (leader.new.seat.me.0.threads ≡ leader.old.seat.me.0.threads) }
     ensures free { MayClaim leader.new.seat.me.0 }
 {
     round.fill(leader.seat(), 2);
@@ -35,7 +36,8 @@ pub fn learn(round: &Round<Bare>, member: &mut Barrier<Bare>) -> bool
     requires free { IsFreeInside member.old.seat.me.0 }
     ensures held { IsHeld member.new }
     ensures seated { member.new.seat.table_id ≡ round.now.init.table.shared.table_id }
-    ensures same { (member.new.seat.me.0.leader ≡ member.old.seat.me.0.leader) × (member.new.seat.me.0.threads ≡ member.old.seat.me.0.threads) }
+    ensures same { (member.new.seat.me.0.leader ≡ member.old.seat.me.0.leader)
+        × (member.new.seat.me.0.threads ≡ member.old.seat.me.0.threads) }
     ensures free { IsTrue result → MayClaim member.new.seat.me.0 }
 {
     round.published(member.seat()) == 2
@@ -48,10 +50,12 @@ pub fn begin(round: &Round<Bare>, member: &mut Barrier<Bare>) -> Option<Claimed>
     requires free { MayClaim member.old.seat.me.0 }
     ensures held { IsHeld member.new }
     ensures seated { member.new.seat.table_id ≡ round.now.init.table.shared.table_id }
-    ensures same { (member.new.seat.me.0.leader ≡ member.old.seat.me.0.leader) × (member.new.seat.me.0.threads ≡ member.old.seat.me.0.threads) }
+    ensures same { (member.new.seat.me.0.leader ≡ member.old.seat.me.0.leader)
+        × (member.new.seat.me.0.threads ≡ member.old.seat.me.0.threads) }
     ensures own { IfSome result (λ k. MayFinish k member.new.seat.me.0) }
     ensures share { member.new.seat.me.0.to ≤ member.new.seat.me.0.from }
-    ensures knows { ((n : ℕ) × (member.new.seat.me.0.known.number ≡ Some n)) × (member.new.seat.me.0.known.seen_stop ≡ false) }
+    ensures knows { ((n : ℕ) × (member.new.seat.me.0.known.number ≡ Some n))
+        × (member.new.seat.me.0.known.seen_stop ≡ false) }
 {
     match round.try_claim_rest(member.seat()) {
         Claim::Job(claimed) => Some(claimed),
@@ -71,10 +75,12 @@ pub fn finish(
     requires seated { member.old.seat.table_id ≡ round.now.init.table.shared.table_id }
     requires own { MayFinish claimed member.old.seat.me.0 }
     requires share { member.old.seat.me.0.to ≤ member.old.seat.me.0.from }
-    requires knows { ((n : ℕ) × (member.old.seat.me.0.known.number ≡ Some n)) × (member.old.seat.me.0.known.seen_stop ≡ false) }
+    requires knows { ((n : ℕ) × (member.old.seat.me.0.known.number ≡ Some n))
+        × (member.old.seat.me.0.known.seen_stop ≡ false) }
     ensures held { IsHeld member.new }
     ensures seated { member.new.seat.table_id ≡ round.now.init.table.shared.table_id }
-    ensures same { (member.new.seat.me.0.leader ≡ member.old.seat.me.0.leader) × (member.new.seat.me.0.threads ≡ member.old.seat.me.0.threads) }
+    ensures same { (member.new.seat.me.0.leader ≡ member.old.seat.me.0.leader)
+        × (member.new.seat.me.0.threads ≡ member.old.seat.me.0.threads) }
     ensures free { MayClaim member.new.seat.me.0 }
 {
     play::finish(alloc, round, member.seat(), claimed)
@@ -117,7 +123,8 @@ pub fn is_done(round: &Round<Bare>, member: &mut Barrier<Bare>) -> bool
     requires free { MayClaim member.old.seat.me.0 }
     ensures held { IsHeld member.new }
     ensures seated { member.new.seat.table_id ≡ round.now.init.table.shared.table_id }
-    ensures same { (member.new.seat.me.0.leader ≡ member.old.seat.me.0.leader) × (member.new.seat.me.0.threads ≡ member.old.seat.me.0.threads) }
+    ensures same { (member.new.seat.me.0.leader ≡ member.old.seat.me.0.leader)
+        × (member.new.seat.me.0.threads ≡ member.old.seat.me.0.threads) }
     ensures done { IsTrue result → MayArrive member.new.seat.me.0 }
 {
     finds_nothing(round, member.seat())

@@ -33,7 +33,8 @@ impl<'a> Player<'a> {
         requires may { IsTrue may_stop → seat.old.me.0.known.may_stop ≡ true }
         ensures seat { (seat.new.table_id ≡ seat.old.table_id) × (seat.new.id ≡ seat.old.id) }
         ensures goes_on { Onward seat.old.me.0 seat.new.me.0 }
-        ensures same { SharesAsBefore seat.old.me.0 seat.new.me.0 × (seat.new.me.0.claim ≡ seat.old.me.0.claim) }
+        ensures same { SharesAsBefore seat.old.me.0 seat.new.me.0
+            × (seat.new.me.0.claim ≡ seat.old.me.0.claim) }
     {
         if !may_stop || claimed.number() % 32 != 17 {
             return;
@@ -125,7 +126,9 @@ impl<'a> Player<'a> {
         ensures seat { (seat.new.table_id ≡ seat.old.table_id) × (seat.new.id ≡ seat.old.id) }
         ensures goes_on { Onward seat.old.me.0 seat.new.me.0 }
         ensures idle { IsIdleSeat seat.new.me.0 }
-        ensures nothing { result ≡ false → MayClaim seat.new.me.0 × ((i : ℕ) → i < self.now.round.now.init.threads → IsListed i seat.new.me.0.known.emptied) }
+        ensures nothing { result ≡ false → MayClaim seat.new.me.0
+            × ((i : ℕ) → i < self.now.round.now.init.threads
+            → IsListed i seat.new.me.0.known.emptied) }
     {
         match self.round.try_steal(seat) {
             Steal::Job(claimed, share) => {
@@ -146,7 +149,8 @@ impl<'a> Player<'a> {
         ensures seat { (seat.new.table_id ≡ seat.old.table_id) × (seat.new.id ≡ seat.old.id) }
         ensures goes_on { Onward seat.old.me.0 seat.new.me.0 }
         ensures idle { IsIdleSeat seat.new.me.0 }
-        ensures nothing { result ≡ false → IsListed seat.new.me.0.threads seat.new.me.0.known.emptied }
+        ensures nothing { result ≡ false
+            → IsListed seat.new.me.0.threads seat.new.me.0.known.emptied }
     {
         match self.round.try_claim_rest(seat) {
             Claim::Job(claimed) => {
