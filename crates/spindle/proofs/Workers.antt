@@ -5,7 +5,7 @@ use Rattle.spindle.specs.declared.round_table.view.Known.{Known}
 use Rattle.spindle.specs.declared.round_table.view.Standing.{Standing}
 use Rattle.spindle.specs.declared.round_table.view.Standing.TheVariants.{Inside}
 use Rattle.spindle.specs.declared.round_table.view.View.{View}
-use Rattle.spindle.specs.RoundConditions.{MayClaim, IsFreeInside, IsDone}
+use Rattle.spindle.specs.RoundConditions.{MayClaim, IsDone}
 use Rattle.spindle.specs.RoundRule.{Showed, IsListed}
 use Rattle.spindle.specs.RoundSteps.{unknown, round_of}
 use Rattle.spindle.specs.RoundViews.{Onward, SeesAsBefore, SharesAsBefore, shown_of, published_of}
