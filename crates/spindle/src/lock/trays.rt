@@ -60,12 +60,10 @@ impl<J: Job> Trays<J> {
         ensures { IfSome result (λ piece. piece.number ≡ number) }
     {
         let address = Address::new(number, pieces, self.trays.len());
-        let piece = self.trays[address.thread].lock(rt).take(address.place)?;
-        if piece.number() == number {
-            Some(piece)
-        } else {
-            None
-        }
+        of_number(
+            self.trays[address.thread].lock(rt).take(address.place),
+            number,
+        )
     }
 
     /// Brings a piece of a round of so many back, run, to the tray where it was dealt. A tray may refuse it.
@@ -82,6 +80,37 @@ impl<J: Job> Trays<J> {
         self.trays[address.thread]
             .lock(rt)
             .put(address.place, finished)
+    }
+
+    /// Brings a piece of a round of so many back, run, and takes the piece of a number, if it waits in its tray: under one
+    /// lock where both were dealt to one thread.
+    pub(crate) fn exchange<H: Wait>(
+        &self,
+        rt: &H,
+        pieces: usize,
+        finished: Option<Finished<J>>,
+        number: usize,
+    ) -> Option<Ready<J>>
+        ensures { IfSome result (λ piece. piece.number ≡ number) }
+    {
+        if let Some(finished) = finished
+            && finished.number() < pieces
+        {
+            let back = Address::new(finished.number(), pieces, self.trays.len());
+            let mut tray = self.trays[back.thread].lock(rt);
+            drop(tray.put(back.place, finished));
+            if number < pieces {
+                let next = Address::new(number, pieces, self.trays.len());
+                if next.thread == back.thread {
+                    return of_number(tray.take(next.place), number);
+                }
+            }
+        }
+        if number < pieces {
+            self.take(rt, pieces, number)
+        } else {
+            None
+        }
     }
 
     /// Moves the outputs of the pieces to the end of the list, in order. Answers the first number whose place is empty or
@@ -110,5 +139,17 @@ impl<J: Job> Trays<J> {
                 .gather(each, pieces, each * threads + thread, 1, outputs)?;
         }
         Ok(())
+    }
+}
+
+// The piece, if it is the one of that number.
+fn of_number<J: Job>(piece: Option<Ready<J>>, number: usize) -> Option<Ready<J>>
+    ensures { IfSome result (λ piece. piece.number ≡ number) }
+{
+    let piece = piece?;
+    if piece.number() == number {
+        Some(piece)
+    } else {
+        None
     }
 }

@@ -54,11 +54,14 @@ impl<'r, 't, J: Job> Worker<'r, 't, J> {
         ensures worked { Worked task.jobs task.may_stop seat.old.me.0 seat.new.me.0 }
         ensures done { IsDone seat.new.me.0 }
     {
-        self.run_from(rt, alloc, runner, seat, Source::Range(self.thread), task);
-        if self.run_stolen(rt, alloc, runner, seat, task) {
-            return;
+        let own = Source::Range(self.thread);
+        let mut held = None;
+        self.run_from(rt, alloc, runner, seat, own, task, &mut held);
+        if self.run_stolen(rt, alloc, runner, seat, task, &mut held) {
+            return self.bring_back(rt, held, task);
         }
-        self.run_from(rt, alloc, runner, seat, Source::Remainder, task);
+        self.run_from(rt, alloc, runner, seat, Source::Remainder, task, &mut held);
+        self.bring_back(rt, held, task);
     }
 
     // Whether the round was stopped.
@@ -84,6 +87,7 @@ impl<'r, 't, J: Job> Worker<'r, 't, J> {
         seat: &mut Seat<Bare>,
         source: Source,
         task: Task,
+        held: &mut Option<Finished<J>>,
     )
         requires seated { seat.old.table_id ≡ self.now.round.now.init.table.shared.table_id }
         requires there { IsIn self.now.round.now.init.threads source }
@@ -100,7 +104,7 @@ impl<'r, 't, J: Job> Worker<'r, 't, J> {
                 return;
             }
             match source.try_claim(self.round, seat) {
-                Claim::Job(claimed) => self.run(rt, alloc, runner, seat, claimed, task),
+                Claim::Job(claimed) => self.run(rt, alloc, runner, seat, claimed, task, held),
                 Claim::Nothing => return,
                 Claim::Again => {}
             }
@@ -116,6 +120,7 @@ impl<'r, 't, J: Job> Worker<'r, 't, J> {
         runner: &mut Runner<'_, J, G>,
         seat: &mut Seat<Bare>,
         task: Task,
+        held: &mut Option<Finished<J>>,
     ) -> bool
         requires seated { seat.old.table_id ≡ self.now.round.now.init.table.shared.table_id }
         requires sized { seat.old.me.0.threads ≡ self.now.round.now.init.threads }
@@ -135,8 +140,8 @@ impl<'r, 't, J: Job> Worker<'r, 't, J> {
             }
             match self.round.try_steal(seat) {
                 Steal::Job(claimed, share) => {
-                    self.run(rt, alloc, runner, seat, claimed, task);
-                    self.run_share(rt, alloc, runner, seat, share, task);
+                    self.run(rt, alloc, runner, seat, claimed, task, held);
+                    self.run_share(rt, alloc, runner, seat, share, task, held);
                 }
                 Steal::Nothing => return false,
                 Steal::Again => {}
@@ -154,6 +159,7 @@ impl<'r, 't, J: Job> Worker<'r, 't, J> {
         seat: &mut Seat<Bare>,
         mut share: Share,
         task: Task,
+        held: &mut Option<Finished<J>>,
     )
         requires seated { seat.old.table_id ≡ self.now.round.now.init.table.shared.table_id }
         requires sized { seat.old.me.0.threads ≡ self.now.round.now.init.threads }
@@ -171,7 +177,7 @@ impl<'r, 't, J: Job> Worker<'r, 't, J> {
                 return self.put_back(rt, seat, share);
             }
             match self.round.next_of_share(seat, self.thread, &mut share) {
-                Some(claimed) => self.run(rt, alloc, runner, seat, claimed, task),
+                Some(claimed) => self.run(rt, alloc, runner, seat, claimed, task, held),
                 None => return share.done(),
             }
         }
@@ -198,7 +204,7 @@ impl<'r, 't, J: Job> Worker<'r, 't, J> {
         unreachable!()
     }
 
-    // Runs a claimed job, and counts it.
+    // Runs a claimed job, and counts it. Its piece is held until the next is taken, and the one held before goes back.
     fn run<G: Gate, H: Threads + Wait + Sync>(
         &self,
         rt: &H,
@@ -207,6 +213,7 @@ impl<'r, 't, J: Job> Worker<'r, 't, J> {
         seat: &mut Seat<Bare>,
         claimed: Claimed,
         task: Task,
+        held: &mut Option<Finished<J>>,
     )
         requires seated { seat.old.table_id ≡ self.now.round.now.init.table.shared.table_id }
         requires crew { self.now.thread < runner.old.tables.now.crew.threads }
@@ -218,10 +225,19 @@ impl<'r, 't, J: Job> Worker<'r, 't, J> {
         ensures finished { SharesAsBefore seat.old.me.0 seat.new.me.0
             × (seat.new.me.0.claim ≡ None) }
     {
-        let finished = self.run_piece(rt, alloc, runner, claimed.number() as usize, task);
+        let number = claimed.number() as usize;
+        let finished = self.run_piece(rt, alloc, runner, held.take(), number, task);
         self.round.finish(seat, claimed, &finished);
-        if finished.number() < task.jobs as usize {
-            drop(self.trays.put(rt, task.jobs as usize, finished));
+        *held = Some(finished);
+    }
+
+    // Brings the last piece back.
+    fn bring_back<H: Wait>(&self, rt: &H, held: Option<Finished<J>>, task: Task) {
+        let pieces = task.jobs as usize;
+        if let Some(finished) = held
+            && finished.number() < pieces
+        {
+            drop(self.trays.put(rt, pieces, finished));
         }
     }
 
@@ -231,6 +247,7 @@ impl<'r, 't, J: Job> Worker<'r, 't, J> {
         rt: &H,
         alloc: Global,
         runner: &mut Runner<'_, J, G>,
+        held: Option<Finished<J>>,
         number: usize,
         task: Task,
     ) -> Finished<J>
@@ -239,9 +256,7 @@ impl<'r, 't, J: Job> Worker<'r, 't, J> {
         ensures crew { runner.new.tables ≡ runner.old.tables }
     {
         let pieces = task.jobs as usize;
-        if number < pieces
-            && let Some(piece) = self.trays.take(rt, pieces, number)
-        {
+        if let Some(piece) = self.trays.exchange(rt, pieces, held, number) {
             let (inputs, mut outputs) = piece.into_parts();
             runner.run(
                 rt,
