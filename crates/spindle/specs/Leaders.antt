@@ -5,9 +5,9 @@ use Rattle.spindle_parts.specs.declared.fault.Fault.TheVariants.{Memory, Lost}
 use Rattle.spindle_parts.specs.declared.requests.plays.Account.{Account}
 use Rattle.spindle_parts.specs.LedgerSteps.{announcing}
 use Rattle.spindle.specs.declared.lock.leader.Leader.{Leader}
-use Rattle.spindle.specs.declared.round_table.view.View.{View}
-use Rattle.spindle.specs.RoundConditions.{MayFill}
-use Rattle.spindle.specs.Working.{PlayedRound}
+use Rattle.spindle_rounds.specs.declared.round_table.view.View.{View}
+use Rattle.spindle_rounds.specs.RoundConditions.{MayFill}
+use Rattle.spindle_rounds.specs.Working.{PlayedRound}
 
 -- the threads of its lock
 abbrev pub threads_of : {J G L I O N S : Type 0} → Leader J G L I O N S → ℕ

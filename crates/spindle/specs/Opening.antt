@@ -1,9 +1,9 @@
 -- What the opening of a lock gives its leader.
 use Rattle.std.specs.Prelude.{◌≡◌, true, []}
 use Rattle.spindle_parts.specs.ThreadNumbers.{IsSeatOf}
-use Rattle.spindle.specs.declared.lock.starting.Seats.{Seats}
-use Rattle.spindle.specs.declared.lock.tables.Tables.{Tables}
-use Rattle.spindle.specs.RoundSteps.{outsider}
+use Rattle.spindle.specs.declared.crew.seats.Seats.{Seats}
+use Rattle.spindle.specs.declared.crew.tables.Tables.{Tables}
+use Rattle.spindle_rounds.specs.RoundSteps.{outsider}
 
 -- the leader's seats at the tables of its lock, from which the helpers' are split: it is in no round yet
 pub record AreSeatsAt (tables : Tables) (seats : Seats) : Type 0 where

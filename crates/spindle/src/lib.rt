@@ -2,13 +2,12 @@
 //! in the order of the items.
 #![tactic(auto)]
 
-pub mod barrier;
+mod crew;
+mod job;
 pub mod lists;
 pub mod lock;
-pub mod round;
-pub mod round_table;
-#[cfg(test)]
-mod tests;
+mod pieces;
+mod work;
 
 pub use lists::SharedList;
 pub use lists::run::ListRun;
@@ -16,6 +15,7 @@ pub use lists::same::EqualIsSame;
 pub use lock::with_lock;
 pub use spindle_parts::fault::Fault;
 pub use spindle_parts::{aarc_imp, cut, numbers, requests, steps};
+pub use spindle_rounds::{barrier, round, round_table};
 
 /// How many pauses an idle party makes before it sleeps, where a user has no wish of his own.
 pub const DEFAULT_SPIN_LIMIT: u32 = 65536;

@@ -4,9 +4,9 @@ use Rattle.std.specs.declared.alloc.AllocError.{AllocError}
 use Rattle.std.specs.declared.alloc.Global.{Global}
 use Rattle.spindle.specs.declared.lock.leader.Leader.{Leader}
 use Rattle.spindle.specs.Leaders.{view_of}
-use Rattle.spindle.specs.RoundRule.{Showed}
-use Rattle.spindle.specs.RoundSteps.{round_of}
-use Rattle.spindle.specs.RoundViews.{published_of}
+use Rattle.spindle_rounds.specs.RoundRule.{Showed}
+use Rattle.spindle_rounds.specs.RoundSteps.{round_of}
+use Rattle.spindle_rounds.specs.RoundViews.{published_of}
 use Rattle.spindle_parts.specs.Pieces.{joined}
 
 -- each input has one output at most

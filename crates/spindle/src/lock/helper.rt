@@ -2,27 +2,28 @@
 ghost use Rattle.std.specs.Prelude.{◌≡◌, ◌<◌, ◌≤◌, IfSome, false};
 ghost use Rattle.spindle_parts.specs.ThreadNumbers.{IsSeatOf};
 ghost use Rattle.spindle_parts.specs.declared.numbers.plays.Holding.TheVariants.{Nothing, Has};
-ghost use Rattle.spindle.specs.RoundSteps.{outsider};
-ghost use Rattle.spindle.specs.Working.{OnTask, IsIdle};
+ghost use Rattle.spindle_rounds.specs.RoundSteps.{outsider};
+ghost use Rattle.spindle_rounds.specs.Working.{OnTask, IsIdle};
+ghost use Rattle.spindle_rounds.specs.Seating.{IsSeatAt};
 
-use crate::lock::gate::Gate;
-use crate::lock::job::Job;
-use crate::lock::nest::Nest;
-use crate::lock::notices::Notices;
-use crate::lock::post::Post;
-use crate::lock::runner::Runner;
+use crate::crew::notices::Notices;
+use crate::crew::post::Post;
+use crate::crew::tables::Tables;
+use crate::job::Job;
+use crate::job::gate::Gate;
+use crate::job::nest::Nest;
 use crate::lock::shared::Opens;
-use crate::lock::tables::Tables;
-use crate::lock::task::Task;
-use crate::lock::trays::Trays;
-use crate::round_table;
-use crate::round_table::slots::Bare;
-use spindle_parts::numbers;
+use crate::pieces::trays::Trays;
+use crate::work::runner::Runner;
 use spindle_parts::numbers::{Numbers, Take};
+use spindle_parts::numbers;
+use spindle_rounds::round::task::Task;
+use spindle_rounds::round_table::slots::Bare;
+use spindle_rounds::round_table;
 use std::alloc::Global;
 use std::sync::Wait;
-use std::thread;
 use std::thread::Threads;
+use std::thread;
 
 /// A thread that isn't in the lock yet: its seats at the lock's tables.
 #[derive(Drop)]
@@ -31,7 +32,7 @@ pub(crate) struct Recruit<'a> {
     pub(crate) round: round_table::Seat<Bare>,
     pub(crate) numbers: numbers::Seat,
     pub(crate) notices: Notices<'a>,
-    ghost seated: { round.table_id ≡ tables.now.round.init.table.shared.table_id },
+    ghost seated: { IsSeatAt tables.now.round.init round },
     ghost outside: { round.me.0 ≡ outsider tables.now.round.init.threads false },
     ghost registered: { numbers.table_id ≡ tables.now.numbers.table },
     ghost unnumbered: { numbers.me.0.holding ≡ Nothing },

@@ -8,13 +8,13 @@ ghost use Rattle.spindle_parts.specs.Pieces.{counted};
 ghost use Rattle.spindle.specs.Leaders.{threads_of, AnnouncedRest, IsBetweenRounds, MadeNoStep, PlayedOnce, LeftByRefusal};
 ghost use Rattle.spindle.specs.Rounds.{job_count, IsRefusal};
 
+use crate::crew::leader_post::LeaderPost;
+use crate::job::Job;
+use crate::job::gate::Gate;
 use crate::lists::SharedList;
-use crate::lock::gate::Gate;
-use crate::lock::job::Job;
-use crate::lock::leader_post::LeaderPost;
-use crate::lock::pieces::Pieces;
-use crate::lock::runner::Runner;
 use crate::lock::shared::{Lock, Opens};
+use crate::pieces::runs::Pieces;
+use crate::work::runner::Runner;
 use spindle_parts::cut::cut;
 use spindle_parts::fault::Fault;
 use std::alloc::Global;

@@ -1,8 +1,8 @@
 //! A pool: how many threads its locks may have, how they idle, and whom they tell of their jobs.
 ghost use Rattle.std.specs.Prelude.{◌≡◌, ◌<◌, IsNone};
 
-use crate::lock::gate::Gate;
-use crate::lock::limits::Limits;
+use crate::crew::limits::Limits;
+use crate::job::gate::Gate;
 use std::marker::Model;
 
 /// What a root lock is opened with. It holds no threads: each lock starts its own, and joins them when it closes. It

@@ -6,19 +6,20 @@ ghost use Rattle.spindle.specs.Leaders.{threads_of};
 ghost use Rattle.spindle.specs.Locks.{lock_threads};
 ghost use Rattle.spindle.specs.Opening.{AreSeatsAt};
 
-use crate::lock::crew::Crew;
-use crate::lock::gate::Gate;
+use crate::crew::Crew;
+use crate::crew::seats::Seats;
+use crate::crew::tables::Tables;
+use crate::job::gate::Gate;
+use crate::job::nest::Nest;
 use crate::lock::leader::Leader;
-use crate::lock::nest::Nest;
+use crate::lock::opening::lead;
 use crate::lock::pool::Pool;
 use crate::lock::shared::Opens;
-use crate::lock::starting::{Seats, lead};
-use crate::lock::tables::Tables;
 use spindle_parts::fault::Fault;
 use std::alloc::Global;
 use std::sync::Wait;
-use std::thread;
 use std::thread::Threads;
+use std::thread;
 
 /// Opens a lock over jobs of kind J, runs f with its leader, and closes the lock.
 ///

@@ -4,9 +4,9 @@
 //! keep such facts. So a leader knows its lock as a type L of which only the calls of `Opens<L>` are known.
 ghost use Rattle.std.specs.Prelude.{◌<◌, OnErr, IsErrOf};
 
-use crate::lock::job::Job;
-use crate::lock::nest::Nest;
-use crate::lock::trays::Trays;
+use crate::job::Job;
+use crate::job::nest::Nest;
+use crate::pieces::trays::Trays;
 use spindle_parts::fault::Fault;
 use std::alloc::Global;
 

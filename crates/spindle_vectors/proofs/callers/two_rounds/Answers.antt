@@ -1,8 +1,8 @@
 -- The second round begins where the first has ended.
 use Rattle.std.proofs.Common.{ℕ, ◌∙◌, ◌∷◌, false, arith, vec_len}
 use Rattle.spindle.specs.Rounds.{job_count}
-use Rattle.spindle.specs.RoundRule.{Showed}
-use Rattle.spindle.specs.RoundSteps.{round_of}
+use Rattle.spindle_rounds.specs.RoundRule.{Showed}
+use Rattle.spindle_rounds.specs.RoundSteps.{round_of}
 use Rattle.spindle_vectors.proofs.callers.two_rounds.Goals as goal
 
 pub returns-clause-rounds : goal.returns-clause-rounds

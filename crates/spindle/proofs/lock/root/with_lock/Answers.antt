@@ -1,6 +1,6 @@
 -- The closure was called with a leader of this lock.
 use Rattle.std.proofs.Common.{◌≡◌, ap, ◌∙◌}
-use Rattle.spindle.specs.declared.lock.crew.Crew.{Crew}
+use Rattle.spindle.specs.declared.crew.Crew.{Crew}
 use Rattle.spindle.specs.Locks.{lock_threads}
 use Rattle.spindle.proofs.lock.root.with_lock.Goals as goal
 

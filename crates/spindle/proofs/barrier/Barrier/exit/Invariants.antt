@@ -1,7 +1,0 @@
--- Other steps came between all attempts so far.
-use Rattle.spindle.specs.Holding.{Keeps}
-use Rattle.spindle.specs.Passing.{Stayed}
-use Rattle.spindle.proofs.barrier.Barrier.exit.Given as goal
-
-abbrev pub invariant-loop : goal.invariant-loop
-invariant-loop g l = Keeps l.fn.self l.barrier × Stayed l.fn.self.seat.me l.barrier.seat.me

@@ -1,7 +1,0 @@
--- A new seat keeps the table's rule.
-use Rattle.std.proofs.Common.{rules, arith}
-use Rattle.spindle.proofs.RoundOpening.{splits}
-use Rattle.spindle.proofs.barrier.BarrierInit.new_seat.Goals as goal
-
-pub split_seat-requires : goal.split_seat-requires
-split_seat-requires g c = (search rules, omega arith, splits g.D.Slots.discipline g.met.D.Slots.lawful _ _ _)

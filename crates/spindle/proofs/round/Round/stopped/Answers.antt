@@ -1,7 +1,0 @@
--- The load of the word `stopped` keeps the table's rule.
-use Rattle.std.proofs.Common.{rules, arith}
-use Rattle.spindle.proofs.KeptStops.{sees}
-use Rattle.spindle.proofs.round.Round.stopped.Goals as goal
-
-pub load-requires : goal.load-requires
-load-requires g c = (search rules, omega arith, sees g.D.Slots.discipline g.met.D.Slots.lawful _ _ _ _ c.requires.inside)

@@ -1,0 +1,12 @@
+-- The pieces before the next one are answered.
+use Rattle.std.proofs.Common.{◌≡◌}
+use Rattle.spindle.specs.Alone.{HasAnswered}
+use Rattle.spindle.proofs.work.alone.LoneWorker.run_left.Given as goal
+
+abbrev pub invariant-loop : goal.invariant-loop
+invariant-loop g l = record {
+  next : l.self.next ≡ l.counter;
+  pieces : l.self.pieces ≡ l.fn.self.pieces;
+  answered : HasAnswered g.J.Job.meets l.self.pieces.now l.self.next l.self.outputs;
+  crew : l.runner.tables ≡ l.fn.runner.tables;
+}

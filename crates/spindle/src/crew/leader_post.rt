@@ -1,0 +1,23 @@
+//! The leader's post: it publishes rounds, and works in them.
+ghost use Rattle.std.specs.Prelude.{◌≡◌, true};
+
+use crate::crew::post::Post;
+
+/// The post of a lock's leader, whose thread number is 0.
+#[derive(Drop)]
+pub struct LeaderPost<'a> {
+    pub(crate) post: Post<'a>,
+    ghost leads: { post.barrier.seat.me.0.leader ≡ true },
+    ghost first: { post.thread ≡ 0 },
+}
+
+impl<'a> LeaderPost<'a> {
+    /// The post of a party whose seat is the leader's.
+    pub(crate) fn new(post: Post<'a>) -> LeaderPost<'a>
+        requires leader { post.barrier.seat.me.0.leader ≡ true }
+        requires thread { post.thread ≡ 0 }
+        ensures { result.post ≡ post.entry }
+    {
+        LeaderPost { post }
+    }
+}

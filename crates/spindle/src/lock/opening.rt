@@ -1,0 +1,108 @@
+//! Starting the helpers of a lock, and running its closure beside them.
+ghost use Rattle.std.specs.Prelude.{◌≡◌};
+ghost use Rattle.std.specs.Fn.{FnOnceReturnsAtMut};
+ghost use Rattle.spindle.specs.Leaders.{threads_of};
+ghost use Rattle.spindle.specs.Opening.{AreSeatsAt};
+
+use crate::crew::leader_post::LeaderPost;
+use crate::crew::notices::Notices;
+use crate::crew::post::Post;
+use crate::crew::seats::Seats;
+use crate::crew::tables::Tables;
+use crate::job::gate::Gate;
+use crate::job::nest::Nest;
+use crate::lock::helper::Recruit;
+use crate::lock::leader::Leader;
+use crate::lock::shared::Opens;
+use crate::work::runner::Runner;
+use std::alloc::Global;
+use std::sync::Wait;
+use std::thread::{Scope, Threads};
+
+impl Seats {
+    // A helper's seats, split from the leader's.
+    fn recruit<'a>(&mut self, tables: &'a Tables) -> Recruit<'a>
+        requires { AreSeatsAt tables.now self.old }
+        ensures { AreSeatsAt tables.now self.new }
+    {
+        Recruit {
+            tables,
+            round: tables.round.init().new_seat(&mut self.round),
+            numbers: tables.numbers.new_seat(&mut self.numbers),
+            notices: Notices::new(&tables.ledger, tables.ledger.new_seat(&mut self.ledger)),
+        }
+    }
+}
+
+// Starts so many helpers, but no more than the lock has threads beside its leader.
+fn start<
+    's,
+    E,
+    J: Opens<L> + Send + 's,
+    G: Gate + Sync,
+    L: Send + Sync,
+    H: Threads + Wait + Sync + 's,
+>(
+    scope: &Scope<'s, E>,
+    rt: &'s H,
+    alloc: Global,
+    tables: &'s Tables,
+    lock: &'s L,
+    gate: &'s G,
+    seats: &mut Seats,
+    starts: usize,
+)
+where
+    J::In: Send + Sync,
+    J::Out: Send,
+    J::Inner: Send,
+    <J::Inner as Nest>::Slots: Send + Sync,
+    requires { AreSeatsAt tables.now seats.old }
+    ensures { AreSeatsAt tables.now seats.new }
+{
+    for _ in 0..starts.min(tables.crew.threads() - 1) {
+        let recruit = seats.recruit(tables);
+        drop(scope.spawn(move || recruit.help::<J, L, G, H>(rt, alloc, lock, gate)));
+    }
+}
+
+/// Starts the helpers, runs f, and dismisses them.
+pub(crate) fn lead<
+    's,
+    E,
+    J: Opens<L> + Send + 's,
+    G: Gate + Sync,
+    R,
+    F: FnOnce(&mut Leader<J, G, L>) -> R,
+    L: Send + Sync,
+    H: Threads + Wait + Sync + 's,
+>(
+    scope: &Scope<'s, E>,
+    rt: &'s H,
+    alloc: Global,
+    tables: &'s Tables,
+    lock: &'s L,
+    gate: &'s G,
+    mut seats: Seats,
+    starts: usize,
+    f: F,
+) -> R
+where
+    J::In: Send + Sync,
+    J::Out: Send,
+    J::Inner: Send,
+    <J::Inner as Nest>::Slots: Send + Sync,
+    requires callable { F.IsAlwaysCallable f }
+    requires seats { AreSeatsAt tables.now seats }
+    ensures { (old : _) × (new : _) × (threads_of old ≡ tables.now.crew.threads)
+        × FnOnceReturnsAtMut F.FnOnce f old result new }
+{
+    start::<_, J, G, L, H>(scope, rt, alloc, tables, lock, gate, &mut seats, starts);
+    let mut notices = Notices::new(&tables.ledger, seats.ledger);
+    let post = LeaderPost::new(Post::join(rt, tables, seats.round, 0));
+    let runner = Runner::new(J::slots(lock), gate, tables, notices);
+    let mut leader = Leader::new(lock, runner, post);
+    let answer = f(&mut leader);
+    leader.dismiss(rt);
+    answer
+}

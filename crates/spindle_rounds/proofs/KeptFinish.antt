@@ -1,0 +1,142 @@
+-- The fetch_add with which a number finishes.
+use Rattle.std.proofs.Common.{◌≡◌, ◌≢◌, ◌⊎◌, inl, inr, ⊎_elim, ℕ, zero, suc, ◌+◌, ◌*◌, ◌%◌, ◌^◌, ◌<◌, ◌≤◌, Bool, true, eq-eqb, List, [], ◌∷◌, ◌++◌, length, length-append, get_or, set, get_or-set_same, get_or-set_other, sym, refl, ap, ◌∙◌, subst, arith, Option, Some, None, if◌then◌else◌}
+use mathlib.Core.Logic.{dite}
+use mathlib.Core.Option.{none, some}
+use native.Mathlib.Decide.{ℕ_discrete}
+use lib.ListN.{get_elem?}
+use Rattle.atomic_table.specs.Table.{step, Allows}
+use Rattle.spindle_parts.specs.State.{State, Party, Round, now, party, times, Free, weight_in, weight_member, is_in, is_member}
+use Rattle.spindle_parts.specs.Steps.{Finish, after, ended_by}
+use Rattle.spindle_parts.specs.Runs.{state}
+use Rattle.spindle_parts.proofs.Fates.{Fate, Open, Held, Ran, Done, over}
+use Rattle.spindle_parts.proofs.Parties.{put_here, put_all, look_here, look_else, times_same, times_else, tick, tick_same, tick_else}
+use Rattle.spindle_parts.proofs.Soundness.{Sound, sound}
+use Rattle.spindle_rounds.specs.declared.round_table.view.View.{View}
+use Rattle.spindle_rounds.specs.RoundSlots.{Discipline, Lawful, Finishes}
+use Rattle.spindle_rounds.specs.RoundRule.{Ended, ended_in, deeds, Stands, Words, home_of}
+use Rattle.spindle_rounds.specs.RoundSteps.{finished, finishing, round_of, number_or}
+use Rattle.spindle_rounds.specs.RoundConditions.{MayFinish}
+use Rattle.spindle_rounds.proofs.RoundMoves.{Rule, SeatOf, moves_with, still_laid}
+use Rattle.spindle_rounds.proofs.RoundWords.{counts_stay, word_stays, counters_stay}
+use Rattle.spindle_rounds.proofs.RoundChanges.{changed_words, some_published}
+
+-- the party id finishes k
+module _ (S : State) (id k : ℕ) (runs : (party S id).running ≡ Some k) where
+  abbrev pub idle : Party
+  idle = record (party S id) { running = None }
+
+  abbrev pub counted : Round
+  counted = record (now S) { finished = (now S).finished ++ ended_by (party S id).running }
+
+  abbrev pub done : State
+  done = after S (Finish id)
+
+  pub its_round : now done ≡ record (now S) { finished = (now S).finished ++ k ∷ [] }
+  its_round = put_here S.rounds S.round counted ∙ ap (λ (o : Option ℕ). let z : Round = record (now S) { finished = (now S).finished ++ ended_by o } in z) runs
+
+  pub taken_same : (a j : ℕ) → (party done a).taken j ≡ (party S a).taken j
+  taken_same a j = dite (ℕ_discrete a id) (λ e. subst (λ (z : ℕ). (party done z).taken j ≡ (party S z).taken j) (sym e) (ap (λ (z : Party). z.taken j) (look_here S.parties id idle)))
+      (λ n. ap (λ (z : Party). z.taken j) (look_else S.parties id idle a n))
+
+  free_on : (j : ℕ) → Free S j → Free done j
+  free_on j f = (subst (λ (z : Round). j < z.jobs) (sym its_round) f.0, ap (λ (z : Round). times j z.begun) its_round ∙ f.1, λ a. taken_same a j ∙ f.2 a)
+
+  pub free_back : (j : ℕ) → Free done j → Free S j
+  free_back j f = (subst (λ (z : Round). j < z.jobs) its_round f.0, sym (ap (λ (z : Round). times j z.begun) its_round) ∙ f.1, λ a. sym (taken_same a j) ∙ f.2 a)
+
+  -- to the slots, k finishes
+  pub finishes_here : Finishes S done k
+  finishes_here = let snoc : counted.finished ≡ (now S).finished ++ k ∷ [] = ap (λ (o : Option ℕ). (now S).finished ++ ended_by o) runs in record {
+    round = refl;
+    published = refl;
+    begun = λ q j. put_all (λ a z. times j z.begun ≡ times j (S.rounds a).begun) S.rounds S.round counted refl (λ a z. refl) q;
+    finished = λ q j o. put_all (λ a z. (a ≢ S.round) ⊎ (j ≢ k) → times j z.finished ≡ times j (S.rounds a).finished) S.rounds S.round counted (λ o. ⊎_elim (λ (z : S.round ≢ S.round). absurd (z refl)) (λ (z : j ≢ k). ap (times j) snoc ∙ times_else j (now S).finished k z) o) (λ a z o. refl) q o;
+    after = (let a = ap (λ (z : Round). times k z.finished) its_round in let b = times_same k (now S).finished in omega arith);
+  }
+
+  pub words_after : (t : ℕ) (ws : List ℕ) (x : ℕ) → Words t S ws → S.published ≢ None → x ≡ length (now S).finished + 1 → Words t done (set ws 16 x)
+  words_after t ws x w shown is = let wide = w.wide in let other : (j : ℕ) → j ≢ 16 → get_or (set ws 16 x) j 0 ≡ get_or ws j 0 = (λ j n. get_or-set_other ws 16 j x 0 n) in
+      changed_words t S done ws 16 x (omega arith) w refl (ap (λ (z : Round). z.stoppable) its_round)
+      (word_stays S done refl (counts_stay weight_in refl (λ x y e. ap is_in e) S.parties id idle refl) (counts_stay weight_member refl (λ x y e. ap is_member e) S.parties id idle refl))
+      (λ _. get_or-set_same ws 16 x 0 (omega arith) ∙ (is ∙ (sym (length-append (now S).finished (k ∷ [])) ∙ sym (ap (λ (z : Round). length z.finished) its_round))))
+      (λ on. let e = ap (λ (z : Round). z.stopped) its_round in ((λ yes. other 24 (λ z. omega arith) ∙ (w.stopped on).0 (sym e ∙ yes)), (λ no. other 24 (λ z. omega arith) ∙ (w.stopped on).1 (sym e ∙ no))))
+      (λ n e. counters_stay t S done ws (set ws 16 x) n (other 32 (λ z. omega arith)) (λ i lt. other (40 + 8 * i) (λ z. omega arith)) free_on free_back (λ on. sym (ap (λ (z : Round). z.stopped) its_round) ∙ on) (w.counters n e))
+
+-- how often the numbers below n stand in a list
+abbrev spread : ℕ → List ℕ → ℕ
+spread zero l = 0
+spread (suc n) l = spread n l + times n l
+
+spread_past : (n x : ℕ) (xs : List ℕ) → n ≤ x → spread n (x ∷ xs) ≡ spread n xs
+spread_past zero x xs le = refl
+spread_past (suc n) x xs le = let a = spread_past n x xs (omega arith) in let b = tick_else x n (λ e. omega arith) in omega arith
+
+spread_cons : (n x : ℕ) (xs : List ℕ) → x < n → spread n (x ∷ xs) ≡ suc (spread n xs)
+spread_cons zero x xs lt = absurd (omega arith)
+spread_cons (suc n) x xs lt = dite (ℕ_discrete x n) (λ e. let a = spread_past n x xs (omega arith) in let b : tick x n ≡ 1 = subst (λ (z : ℕ). tick z n ≡ 1) (sym e) (tick_same n) in omega arith)
+    (λ other. let a = spread_cons n x xs (omega arith) in let b = tick_else x n other in omega arith)
+
+spread_none : (n : ℕ) → 0 ≡ spread n []
+spread_none zero = refl
+spread_none (suc n) = let a = spread_none n in omega arith
+
+spread_all : (n : ℕ) (l : List ℕ) → ((k : ℕ) → 0 < times k l → k < n) → length l ≡ spread n l
+spread_all n [] below = spread_none n
+spread_all n (x ∷ xs) below = let b = tick_same x in let a = spread_all n xs (λ k lt. below k (omega arith)) in let c = spread_cons n x xs (below x (omega arith)) in omega arith
+
+spread_few : (n : ℕ) (l : List ℕ) → ((k : ℕ) → times k l ≤ 1) → spread n l ≤ n
+spread_few zero l once = omega arith
+spread_few (suc n) l once = let a = spread_few n l once in let b = once n in omega arith
+
+-- no more numbers have finished than there are jobs
+few_finished : (S : State) → Sound S → (now S).jobs ≤ 4294967295 → length (now S).finished < 18446744073709551615
+few_finished S h few = let l : List ℕ = (now S).finished in let n : ℕ = (now S).jobs in let a = spread_all n l (λ k lt. below k lt) in let b = spread_few n l (λ k. let e = h.work.finished k in let c = over_le (h.fate k) in omega arith) in omega arith
+  where
+    over_le : (f : Fate) → over f ≤ 1
+    over_le Open = omega arith
+    over_le (Held p) = omega arith
+    over_le (Ran p) = omega arith
+    over_le Done = omega arith
+
+    below : (k : ℕ) → 0 < times k (now S).finished → k < (now S).jobs
+    below k lt = h.work.below k (λ e. let a = h.work.finished k in let c = ap over e in omega arith)
+
+-- and no round has more jobs than a published one may have
+few_jobs : (S : State) → Sound S → S.published ≢ None → (now S).jobs ≤ 4294967295
+few_jobs S h shown = go S.published shown (λ m e. let g = h.gate.shown m e in let g₀ = g.0 in let g₂ = g.2 in omega arith)
+  where
+    go : (o : Option ℕ) → o ≢ None → ((m : ℕ) → o ≡ Some m → (now S).jobs ≤ 4294967295) → (now S).jobs ≤ 4294967295
+    go None n f = absurd (n refl)
+    go (Some m) n f = f m refl
+
+module _ {X N : Type 0} (D : Discipline X N) (law : Lawful D) (t : ℕ) where
+  pub finishes : (slots id : ℕ) (me : SeatOf D t) (k : ℕ) → MayFinish k me.0 → D.may_give k me.0.note me.1 → Allows (Rule D t) slots id me 16 (λ n. (n + 1) % 2 ^ 64) (finished D (step slots 16 1 0 none) me)
+  finishes slots id me k may give s r _ at small = let x : ℕ = get_or s.words 16 0 in let S : State = state r.run in let h = sound r.run r.is_run in let shows = (r.seats id me.0 at).0 in let st = subst (Stands S id) may.0.1 shows.stands in let knows = shows.inside may.0.0 may.0.1 in
+      let runs : (party S id).running ≡ Some k = shows.claim ∙ may.1 in let S' : State = done S id k runs in let w : View N = finishing x me.0 in let ran = (h.work.fits id).ran k runs in
+      let below : k < (now S).jobs = h.work.below k (λ e. cc) in let shown : S.published ≢ None = some_published S h id st.0 (omega arith) in
+      let few = few_finished S h (few_jobs S h shown) in let is = r.words.finished shown in let new : (x + 1) % 18446744073709551616 ≡ length (now S).finished + 1 = omega arith in
+      let alone : (p : ℕ) (u : View N) → p ≢ id → get_elem? s.views p ≡ some u → u.claim ≢ Some k = (λ p u n e c. let a = (h.work.fits p).ran k ((r.seats p u e).0.claim ∙ c) in let b : Ran p ≡ Ran id = sym a ∙ ran in let d : p ≡ id = cc in n d) in
+      let g = law.finishes S S' s.homes s.views id me.0 w me.1 k r.slots (finishes_here S id k runs) at may.1 alone (refl, refl) give in let look = look_here S.parties id (idle S id k runs) in let round = its_round S id k runs in
+      let own : S.round ≡ round_of me.0.standing = st.1 ∙ sym (ap round_of may.0.1) in (
+        w,
+        D.gives,
+        g.0,
+        moves_with D t s r 16 ((x + 1) % 18446744073709551616) id me w D.gives (Finish id ∷ []) at (refl, tt) ((k, runs), r.is_run) (words_after S id k runs t s.words ((x + 1) % 18446744073709551616) r.words shown new)
+            record {
+              stands = subst (Stands S' id) (sym may.0.1) (ap (λ (z : Party). z.status) look ∙ st.0, st.1);
+              leads = shows.leads;
+              claim = ap (λ (z : Party). z.running) look;
+              share = λ j. subst (λ (z : Bool). ((z ≡ true) → (me.0.from ≤ j) × (j < me.0.to)) × ((me.0.from ≤ j) × (j < me.0.to) → z ≡ true)) (sym (taken_same S id k runs id j)) (shows.share j);
+              inside = λ a e. record {
+                number = λ m e. let old = knows.number m e in (old.0, ap (λ (z : Round). z.stoppable) round ∙ old.1);
+                unpublished = knows.unpublished;
+                seen = ap (λ (z : Round). z.seen id) round ∙ knows.seen;
+                emptied = λ m j e l. ⊎_elim (λ (u : (a : ℕ) → Free S a → home_of me.0.threads m a ≡ j → ⊥). inl (λ a f. u a (free_back S id k runs a f))) (λ u. inr (ap (λ (z : Round). z.stopped) round ∙ u)) (knows.emptied m j e l);
+                unread = knows.unread;
+              };
+            }
+            ((λ z. Ended (sym own z) (number_or (may.1 z)) ∷ (r.seats id me.0 at).1 z) ∙ sym (ap (λ (b : Bool). (if b then ended_in S.round (party S id).running else []) ++ deeds id r.run) (eq-eqb id id refl) ∙ ap (λ (o : Option ℕ). ended_in S.round o ++ deeds id r.run) runs)) refl
+            (still_laid D t s r 16 ((x + 1) % 18446744073709551616) id me w (Finish id ∷ []) at (inr refl) refl refl (λ _. refl) (inr shown))
+            g.1,
+        (refl, refl),
+      )

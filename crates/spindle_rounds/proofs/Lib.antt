@@ -1,0 +1,21 @@
+-- The lemmas of this crate.
+pub mod RoundQuiet
+pub mod RoundMoves
+pub mod RoundWords
+pub mod KeptLoads
+pub mod KeptBarrier
+pub mod KeptFill
+pub mod RoundNumbers
+pub mod KeptClaims
+pub mod RoundOpening
+pub mod KeptSteals
+pub mod RoundSearch
+pub mod RoundChanges
+pub mod KeptShares
+pub mod KeptFinish
+pub mod KeptStops
+pub mod RoundClients
+pub mod KeptLeaving
+pub mod KeptEnding
+pub mod BarrierClients
+pub mod Workers

@@ -1,0 +1,246 @@
+-- What every kind of step on a round table shares: the other seats show what they showed, and the leader's stores stand.
+use Rattle.std.proofs.Common.{◌≡◌, ◌≢◌, ◌⊎◌, inl, inr, ⊎_elim, ℕ, zero, suc, ◌+◌, ◌*◌, ◌/◌, ◌%◌, ◌<◌, ◌≤◌, Bool, true, false, eqb, eq-eqb, ne_eqb, List, [], ◌∷◌, ◌++◌, length, get_or, set, length-set, get_or-set_other, sym, refl, ap, ◌∙◌, subst, arith, Option, Some, None, if◌then◌else◌}
+use mathlib.Core.Logic.{dite}
+use mathlib.Core.Option.{none, some, some-ne-none}
+use native.Mathlib.Decide.{ℕ_discrete}
+use lib.ListN.{get_elem?}
+use lib.Seq.{set-get_or}
+use Rattle.atomic_table.specs.Table as table
+use Rattle.atomic_table.specs.Table.{Me, Act, Step, step, keeps, stepped, Allows, Valid, homes_after, carried_after}
+use Rattle.atomic_table.proofs.Lists.{at_set}
+use Rattle.spindle_parts.specs.State.{State, Status, Out, In, Arrived, Party, Round, waking, now, party, times, Free, absent}
+use Rattle.spindle_parts.specs.Steps.{Event, Allowed, by, after, with_status}
+use Rattle.spindle_parts.specs.Runs.{state, IsRun}
+use Rattle.spindle_parts.proofs.Soundness.{Sound, sound}
+use Rattle.spindle_parts.proofs.Frames.{Steady, Turned, Frees, frame, closer_alone}
+use Rattle.spindle_parts.specs.declared.trail.Trace.{Trace}
+use Rattle.spindle_rounds.specs.declared.round_table.view.Standing.{Standing}
+use Rattle.spindle_rounds.specs.declared.round_table.view.Standing.TheVariants.{Away, Inside, Waiting, Closing}
+use Rattle.spindle_rounds.specs.declared.round_table.view.Kind.{Kind}
+use Rattle.spindle_rounds.specs.declared.round_table.view.View.{View}
+use prog.Atomic.{either}
+use Rattle.spindle_rounds.specs.RoundSteps.{noted, missing, Turns, Exchanges, Begun}
+use Rattle.spindle_rounds.specs.RoundSlots.{Discipline, Lawful, SameSlots}
+use Rattle.spindle_rounds.specs.RoundRule.{deed, deeds, deeds_of, Stands, Knows, Shows, IsShare, InRange, InRest, IsLeft, Words, Shown, home_of, Laid, StandsFor, stored_at}
+use Rattle.spindle_rounds.proofs.RoundQuiet.{AllQuiet, quiet_run}
+
+pub untrue : (b : Bool) → (b ≡ true → ⊥) → b ≡ false
+untrue true n = absurd (n refl)
+untrue false n = refl
+
+pub some_of : (o : Option ℕ) → o ≢ None → (n : ℕ) × (o ≡ Some n)
+some_of None n = absurd (n refl)
+some_of (Some k) n = (k, refl)
+
+module _ {N : Type 0} (s s' : State) (q : ℕ) (v : View N) (w : Shows s q v) (alone : s.closer ≡ Some q → ⊥) where
+  inside_in : (r : ℕ) → v.standing ≡ Inside r → (party s q).status ≡ In
+  inside_in r e = (subst (Stands s q) e w.stands).0
+
+  same_share : (y : Party) (t : Status) → y ≡ with_status t (party s q) → IsShare y.taken v.from v.to
+  same_share y t e k = subst (λ (x : Party). ((x.taken k ≡ true) → (v.from ≤ k) × (k < v.to)) × ((v.from ≤ k) × (k < v.to) → x.taken k ≡ true)) (sym e) (w.share k)
+
+  -- what it knows stays, while the round goes on
+  still_knows : Steady s s' q → (party s q).status ≡ In → Knows v.threads s q v.known → Knows v.threads s' q v.known
+  still_knows f at_in k = record {
+    number = λ n e. let old = k.number n e in (f.published n at_in old.0, f.may_stop (λ z. cc) ∙ old.1);
+    unpublished = λ e. let old = k.unpublished e in (old.0, f.hidden (inl old.0) old.1);
+    seen = f.seen ∙ k.seen;
+    emptied = λ n i e l. ⊎_elim (λ (none_left : (j : ℕ) → Free s j → home_of v.threads n j ≡ i → ⊥). ⊎_elim (λ (fr : s.published ≢ None → Frees s s'). inl (λ j g. none_left j (fr (let a = (k.number n e).0 in (λ z. cc)) j g))) inr f.frees)
+        (λ st. inr (f.stops st)) (k.emptied n i e l);
+    unread = k.unread;
+  }
+
+  steady : Steady s s' q → Shows s' q v
+  steady f = record {
+    stands = go v.standing w.stands;
+    leads = w.leads;
+    claim = ap (λ (x : Party). x.running) f.same ∙ w.claim;
+    share = λ k. subst (λ (x : Party). ((x.taken k ≡ true) → (v.from ≤ k) × (k < v.to)) × ((v.from ≤ k) × (k < v.to) → x.taken k ≡ true)) (sym f.same) (w.share k);
+    inside = λ r e. still_knows f (inside_in r e) (w.inside r e);
+  }
+    where
+      go : (st : Standing) → Stands s q st → Stands s' q st
+      go Away h = (ap (λ (x : Party). x.status) f.same ∙ h.0, f.closer.1 h.1)
+      go (Inside r) h = (ap (λ (x : Party). x.status) f.same ∙ h.0, f.round ∙ h.1)
+      go (Waiting r quiet) h = ⊎_elim (λ (t : ((party s q).status ≡ Arrived) × (s.round ≡ r) × (s.closer ≢ Some q) × (quiet ≡ true → (q ≡ 0) × (s.published ≡ None))).
+          inl (ap (λ (x : Party). x.status) f.same ∙ t.0, f.round ∙ t.1, f.closer.1 t.2, λ e. ((t.3 e).0, f.hidden (inl (t.3 e).0) (t.3 e).1)))
+          (λ (t : ((party s q).status ≡ In) × (s.round ≡ suc r) × (q ≡ 0 → s.published ≡ None) × ((now s).seen q ≡ false)). inr (ap (λ (x : Party). x.status) f.same ∙ t.0, f.round ∙ t.1, (λ e. f.hidden (inl e) (t.2 e)), f.seen ∙ t.3)) h
+      go (Closing r member cleared at) h = absurd (alone h.0)
+
+  turned : Turned s s' q → Shows s' q v
+  turned f = record {
+    stands = go v.standing w.stands;
+    leads = w.leads;
+    claim = ap (λ (x : Party). x.running) f.same ∙ w.claim;
+    share = λ k. subst (λ (x : Party). ((x.taken k ≡ true) → (v.from ≤ k) × (k < v.to)) × ((v.from ≤ k) × (k < v.to) → x.taken k ≡ true)) (sym f.same) (w.share k);
+    inside = λ r e. absurd (f.out (inside_in r e));
+  }
+    where
+      woke : (t : Status) → (party s q).status ≡ t → (party s' q).status ≡ waking t
+      woke t e = ap (λ (x : Party). x.status) f.same ∙ ap waking e
+
+      go : (st : Standing) → Stands s q st → Stands s' q st
+      go Away h = (woke Out h.0, f.closer)
+      go (Inside r) h = absurd (f.out h.0)
+      go (Waiting r quiet) h = ⊎_elim (λ (t : ((party s q).status ≡ Arrived) × (s.round ≡ r) × (s.closer ≢ Some q) × (quiet ≡ true → (q ≡ 0) × (s.published ≡ None))). inr (woke Arrived t.0, f.round ∙ ap suc t.1, (λ _. f.hidden), f.seen))
+          (λ (t : ((party s q).status ≡ In) × (s.round ≡ suc r) × (q ≡ 0 → s.published ≡ None) × ((now s).seen q ≡ false)). absurd (f.out t.0)) h
+      go (Closing r member cleared at) h = absurd (f.before h.0)
+
+pub others_shown : {N : Type 0} (s : State) → Sound s → (e : Event) (q : ℕ) → Allowed s e → q ≢ by e → (v : View N) → Shows s q v → Shows (after s e) q v
+others_shown s h e q ok other v w = let alone : s.closer ≡ Some q → ⊥ = (λ c. other (sym (closer_alone s h e q ok c))) in ⊎_elim (steady s (after s e) q v w alone) (turned s (after s e) q v w alone) (frame s h e q ok other)
+
+-- events of the party p alone
+abbrev pub AllBy : ℕ → List Event → Type 0
+AllBy p [] = Unit {0}
+AllBy p (e ∷ es) = (by e ≡ p) × AllBy p es
+
+-- the same over the few events of one step
+pub others_run : {N : Type 0} (p q : ℕ) (v : View N) → q ≢ p → (new run : List Event) → AllBy p new → IsRun (new ++ run) → Shows (state run) q v × (deeds_of v.trail ≡ deeds q run) → Shows (state (new ++ run)) q v × (deeds_of v.trail ≡ deeds q (new ++ run))
+others_run p q v other [] run all ok h = h
+others_run p q v other (e ∷ es) run all ok h = let r = others_run p q v other es run all.1 ok.1 h in let mine = all.0 in (
+  others_shown (state (es ++ run)) (sound (es ++ run) ok.1) e q ok.0 (λ z. other (z ∙ mine)) v r.0,
+  r.1 ∙ sym (ap (λ (b : Bool). (if b then deed (state (es ++ run)) e else []) ++ deeds q (es ++ run)) (ne_eqb (by e) q (λ z. other (sym z ∙ mine)))),
+)
+
+-- nobody there stays nobody
+pub nobody_run : (p q : ℕ) → q ≢ p → (new run : List Event) → AllBy p new → IsRun (new ++ run) → (party (state run) q ≡ absent) × ((state run).closer ≢ Some q) × (deeds q run ≡ [])
+    → (party (state (new ++ run)) q ≡ absent) × ((state (new ++ run)).closer ≢ Some q) × (deeds q (new ++ run) ≡ [])
+nobody_run p q other [] run all ok h = h
+nobody_run p q other (e ∷ es) run all ok h = let r = nobody_run p q other es run all.1 ok.1 h in let mine = all.0 in let s : State = state (es ++ run) in let none_here = ne_eqb (by e) q (λ z. other (sym z ∙ mine)) in
+    let same : (party (after s e) q ≡ absent) × ((after s e).closer ≢ Some q) = ⊎_elim (λ (f : Steady s (after s e) q). (f.same ∙ r.0, f.closer.1 r.1))
+    (λ (f : Turned s (after s e) q). (f.same ∙ ap (λ (x : Party). with_status (waking x.status) x) r.0, f.closer)) (frame s (sound (es ++ run) ok.1) e q ok.0 (λ z. other (z ∙ mine))) in
+    (same.0, same.1, ap (λ (b : Bool). (if b then deed s e else []) ++ deeds q (es ++ run)) none_here ∙ r.2)
+
+-- the numbers of a round that were not begun, where its numbers stay and the words do
+pub stands_on : (t : ℕ) (r r' : Round) (ws ws' : List ℕ) → r'.jobs ≡ r.jobs → ((k : ℕ) → times k r'.begun ≡ times k r.begun) → ((i : ℕ) → 32 ≤ i → get_or ws' i 0 ≡ get_or ws i 0) → StandsFor t r ws → StandsFor t r' ws'
+stands_on t r r' ws ws' jobs begun same h k = let b = begun k in subst (λ (n : ℕ). (((k < n) × (times k r'.begun ≡ 0)) → IsLeft t ws' n k) × (IsLeft t ws' n k → (k < n) × (times k r'.begun ≡ 0))) (sym jobs)
+    ((λ e. moved ws ws' (λ i le. sym (same i le)) ((h k).0 (e.0, sym b ∙ e.1))), (λ l. let e = (h k).1 (moved ws' ws same l) in (e.0, b ∙ e.1)))
+  where
+    moved : (xs ys : List ℕ) → ((i : ℕ) → 32 ≤ i → get_or xs i 0 ≡ get_or ys i 0) → IsLeft t xs r.jobs k → IsLeft t ys r.jobs k
+    moved xs ys e = ⊎_elim (λ (z : (i : ℕ) × (i < t) × InRange xs i k). inl (z.0, z.1, subst (λ (x : ℕ). (x % 4294967296 ≤ k) × (k < x / 4294967296)) (e (40 + 8 * z.0) (omega arith)) z.2))
+        (λ (z : InRest xs r.jobs k). inr (subst (λ (x : ℕ). (r.jobs ≤ k + x) × (k < r.jobs)) (e 32 (omega arith)) z))
+
+module _ {X N : Type 0} (D : Discipline X N) (t : ℕ) where
+  abbrev pub Rule : table.State X (View N) → Type 0
+  Rule = Shown D t
+
+  abbrev pub SeatOf : Type 0
+  SeatOf = Me X (View N)
+
+  -- the seat's few new events, the word i changed to x, and the view w
+  pub moves_with : (s : table.State X (View N)) (r : Rule s) (i x id : ℕ) (me : SeatOf) (w : View N) (a : Act X) (new : List Event) → get_elem? s.views id ≡ some me.0 → AllBy id new → IsRun (new ++ r.run)
+      → Words t (state (new ++ r.run)) (set s.words i x) → Shows (state (new ++ r.run)) id w → deeds_of w.trail ≡ deeds id (new ++ r.run) → w.threads ≡ me.0.threads
+      → ((v : View N) → get_elem? (set s.views id w) 0 ≡ some v → Laid t (state (new ++ r.run)) (set s.words i x) v)
+      → D.clause (state (new ++ r.run)) (homes_after s.homes me.1 a) (set s.views id w) → Rule (stepped s i x id me.1 w a)
+  moves_with s r i x id me w a new at all ok words mine worked same_threads lays slots = record {
+    slots = slots;
+    run = new ++ r.run;
+    is_run = ok;
+    words = words;
+    seats = λ q v e. ⊎_elim (λ (h : (q ≡ id) × (w ≡ v)). subst (λ (z : ℕ × View N). Shows (state (new ++ r.run)) z.0 z.1 × (deeds_of z.1.trail ≡ deeds z.0 (new ++ r.run)) × (z.1.threads ≡ t)) (λ j. (sym h.0 j, h.1 j)) (mine, worked, same_threads ∙ (r.seats id me.0 at).2))
+        (λ (h : (q ≢ id) × (get_elem? s.views q ≡ some v)). let old = r.seats q v h.1 in let o = others_run id q v h.0 new r.run all ok (old.0, old.1) in (o.0, o.1, old.2)) (at_set s.views id q w v e);
+    lays = lays;
+    beyond = λ q le. nobody_run id q (λ e. let lt = lt_of_at s.views id me.0 at in let same = length-set s.views id w in absurd (omega arith)) new r.run all ok (r.beyond q (let same = length-set s.views id w in omega arith));
+  }
+    where
+      lt_of_at : (l : List (View N)) (j : ℕ) (v : View N) → get_elem? l j ≡ some v → j < length l
+      lt_of_at [] j v e = absurd (some-ne-none v (sym e))
+      lt_of_at (y ∷ ys) zero v e = omega arith
+      lt_of_at (y ∷ ys) (suc j) v e = let h = lt_of_at ys j v e in omega arith
+
+  -- what the leader has stored stays: at a step on the first two words, or in a published round
+  pub still_laid : (s : table.State X (View N)) (r : Rule s) (i x id : ℕ) (me : SeatOf) (w : View N) (new : List Event) → get_elem? s.views id ≡ some me.0
+      → ((w.known.stored ≡ []) ⊎ (w.known.stored ≡ me.0.known.stored)) → w.laid ≡ me.0.laid → (state (new ++ r.run)).published ≡ (state r.run).published
+      → ((state r.run).published ≢ None → (state (new ++ r.run)).round ≡ (state r.run).round)
+      → ((i < 16) × ((q : ℕ) → ((state (new ++ r.run)).rounds q).jobs ≡ ((state r.run).rounds q).jobs) × ((q k : ℕ) → times k ((state (new ++ r.run)).rounds q).begun ≡ times k ((state r.run).rounds q).begun)) ⊎ ((state r.run).published ≢ None)
+      → (v : View N) → get_elem? (set s.views id w) 0 ≡ some v → Laid t (state (new ++ r.run)) (set s.words i x) v
+  still_laid s r i x id me w new at stored laid published round where_it_is v e = ⊎_elim
+      (λ (h : (0 ≡ id) × (w ≡ v)). let l = r.lays me.0 (subst (λ (z : ℕ). get_elem? s.views z ≡ some me.0) (sym h.0) at) in subst (Laid t (state (new ++ r.run)) (set s.words i x)) h.1 (on me.0 w l stored laid))
+      (λ (h : (0 ≢ id) × (get_elem? s.views 0 ≡ some v)). on v v (r.lays v h.1) (inr refl) refl) (at_set s.views id 0 w v e)
+    where
+      S : State
+      S = state r.run
+
+      S' : State
+      S' = state (new ++ r.run)
+
+      on : (u u' : View N) → Laid t S s.words u → (u'.known.stored ≡ []) ⊎ (u'.known.stored ≡ u.known.stored) → u'.laid ≡ u.laid → Laid t S' (set s.words i x) u'
+      on u u' l st la = record {
+        stored = λ j y e. ⊎_elim (λ (z : u'.known.stored ≡ []). let n = ap (λ (a : List (ℕ × ℕ)). stored_at a j) z in absurd cc) (λ (z : u'.known.stored ≡ u.known.stored). ⊎_elim
+            (λ (low : (i < 16) × ((q : ℕ) → (S'.rounds q).jobs ≡ (S.rounds q).jobs) × ((q k : ℕ) → times k (S'.rounds q).begun ≡ times k (S.rounds q).begun)).
+            let old = l.stored j y (sym (ap (λ (a : List (ℕ × ℕ)). stored_at a j) z) ∙ e) in let lt = low.0 in let le = old.0 in (old.0, get_or-set_other s.words i j x 0 (λ b. omega arith) ∙ old.1))
+            (λ is. let none_stored = z ∙ l.unstored is in let n = ap (λ (a : List (ℕ × ℕ)). stored_at a j) none_stored in absurd cc) where_it_is) st;
+        unstored = λ is. ⊎_elim (λ z. z) (λ z. z ∙ l.unstored (λ n. is (published ∙ n))) st;
+        current = λ is. la ∙ (l.current (λ n. is (published ∙ n)) ∙ ap (λ (z : ℕ). Some z) (sym (round (λ n. is (published ∙ n)))));
+        left = λ q e hid. ⊎_elim
+            (λ (low : (i < 16) × ((q : ℕ) → (S'.rounds q).jobs ≡ (S.rounds q).jobs) × ((q k : ℕ) → times k (S'.rounds q).begun ≡ times k (S.rounds q).begun)). let lt = low.0 in stands_on t (S.rounds q) (S'.rounds q) s.words (set s.words i x) (low.1 q) (low.2 q) (λ j le. get_or-set_other s.words i j x 0 (λ z. omega arith)) (l.left q (sym la ∙ e) (sym published ∙ hid)))
+            (λ is. absurd (is (sym published ∙ hid))) where_it_is;
+      }
+
+module _ {X N : Type 0} (D : Discipline X N) (law : Lawful D) (t : ℕ) where
+  -- a step at which no number begins, finishes or is published, and nothing is cleared
+  pub moves : (s : table.State X (View N)) (r : Rule D t s) (i x id : ℕ) (me : SeatOf D t) (w : View N) (new : List Event) → get_elem? s.views id ≡ some me.0 → AllBy id new → AllQuiet new → SameSlots me.0 w → IsRun (new ++ r.run)
+      → Words t (state (new ++ r.run)) (set s.words i x) → Shows (state (new ++ r.run)) id w → deeds_of w.trail ≡ deeds id (new ++ r.run) → w.threads ≡ me.0.threads
+      → ((w.known.stored ≡ []) ⊎ (w.known.stored ≡ me.0.known.stored)) → w.laid ≡ me.0.laid → (state (new ++ r.run)).published ≡ (state r.run).published → (i < 16) ⊎ ((state r.run).published ≢ None) → Rule D t (stepped s i x id me.1 w keeps)
+  moves s r i x id me w new at all quiets slots ok words mine worked same_threads stored laid published where_it_is = let q = quiet_run new r.run quiets ok in
+      moves_with D t s r i x id me w keeps new at all ok words mine worked same_threads
+      (still_laid D t s r i x id me w new at stored laid published (λ is. let z = some_of (state r.run).published is in (q.published z.0 (published ∙ z.1)).1) (⊎_elim (λ (low : i < 16). inl (low, q.jobs, q.begun)) inr where_it_is))
+      (law.stays (state r.run) (state (new ++ r.run)) s.homes s.views id me.0 w r.slots q at slots)
+
+  -- a step that leaves the word, and no event
+  pub stays : (s : table.State X (View N)) (r : Rule D t s) (i id : ℕ) (me : SeatOf D t) (w : View N) → get_elem? s.views id ≡ some me.0 → SameSlots me.0 w → Shows (state r.run) id w → deeds_of w.trail ≡ deeds_of me.0.trail → w.threads ≡ me.0.threads
+      → ((w.known.stored ≡ []) ⊎ (w.known.stored ≡ me.0.known.stored)) → w.laid ≡ me.0.laid → Rule D t (stepped s i (get_or s.words i 0) id me.1 w keeps)
+  stays s r i id me w at slots mine same same_threads stored laid = let here = set-get_or s.words i 0 in
+      subst (λ (ws : List ℕ). Rule D t record { words = ws; homes = s.homes; views = set s.views id w }) (sym here) (subst (λ (ws : List ℕ). Rule D t record { words = ws; homes = s.homes; views = set s.views id w }) (set-get_or s.words 0 0)
+      (moves s r 0 (get_or s.words 0 0) id me w [] at tt tt slots r.is_run (subst (Words t (state r.run)) (sym (set-get_or s.words 0 0)) r.words) mine (same ∙ (r.seats id me.0 at).1) same_threads stored laid refl (inl (omega arith))))
+
+-- one step more in the trail
+pub noted_shows : {N : Type 0} (s : State) (p : ℕ) (v : View N) (x : Trace Kind) → Shows s p v → Shows s p (noted x v)
+noted_shows s p v x w = record { stands = w.stands; leads = w.leads; claim = w.claim; share = w.share; inside = w.inside }
+
+-- What a step owes, by the shape of what it tells.
+module _ {X N : Type 0} (D : Discipline X N) (law : Lawful D) (t slots id : ℕ) (me : SeatOf D t) (i : ℕ) where
+  -- the table before the step, x being what the word holds
+  pub record Before (s : table.State X (View N)) : Type 0 where
+    pub rule : Rule D t s
+    pub at : get_elem? s.views id ≡ some me.0
+    pub small : get_or s.words i 0 < 18446744073709551616
+
+  -- a load, or a change of any word whatever it holds
+  pub turns : (g : ℕ → ℕ) (f : ℕ → View N → View N) (st : Step X) → ((s : table.State X (View N)) → Before s → Rule D t (stepped s i (g (get_or s.words i 0)) id me.1 (f (get_or s.words i 0) me.0) keeps)) → Allows (Rule D t) slots id me i g (Turns f st me)
+  turns g f st owed s r _ at small = (f (get_or s.words i 0) me.0, keeps, tt, owed s record { rule = r; at = at; small = small }, (refl, refl))
+
+  pub stores : (new : ℕ) (f : ℕ → View N → View N) (st : Step X) → ((s : table.State X (View N)) → Before s → Rule D t (stepped s i new id me.1 (f new me.0) keeps)) → Allows (Rule D t) slots id me i (λ _. new) (λ _. Turns f st me new)
+  stores new f st owed s r _ at small = (f new me.0, keeps, tt, owed s record { rule = r; at = at; small = small }, (refl, refl))
+
+  -- an exchange that finds another value
+  pub misses : (s : table.State X (View N)) (r : Rule D t s) → get_elem? s.views id ≡ some me.0 → (old new : ℕ) → get_or s.words i 0 ≢ old
+      → Rule D t (stepped s i (either (eqb (get_or s.words i 0) old) new (get_or s.words i 0)) id me.1 (missing i (get_or s.words i 0) me.0) keeps)
+  misses s r at old new miss = let x : ℕ = get_or s.words i 0 in subst (λ b. Rule D t (stepped s i (either b new x) id me.1 (missing i x me.0) keeps)) (sym (ne_eqb x old miss))
+      (stays D law t s r i id me (missing i x me.0) at (refl, refl, refl) (noted_shows (state r.run) id me.0 _ (r.seats id me.0 at).0) refl refl (inr refl) refl)
+
+  pub exchanges : (old new : ℕ) (f : ℕ → View N → View N) → ((s : table.State X (View N)) → Before s → get_or s.words i 0 ≡ old → Rule D t (stepped s i new id me.1 (f (get_or s.words i 0) me.0) keeps))
+      → Allows (Rule D t) slots id me i (λ x. either (eqb x old) new x) (Exchanges f (step slots i old new none) me)
+  exchanges old new f owed s r _ at small = let x : ℕ = get_or s.words i 0 in dite (ℕ_discrete x old)
+      (λ hit. (
+        f x me.0,
+        keeps,
+        tt,
+        subst (λ b. Rule D t (stepped s i (either b new x) id me.1 (f x me.0) keeps)) (sym (eq-eqb x old hit)) (owed s record { rule = r; at = at; small = small } hit),
+        (refl, (λ _. refl), λ not. absurd (not hit)),
+      ))
+      (λ miss. (missing i x me.0, keeps, tt, misses s r at old new miss, (refl, (λ hit. absurd (miss hit)), λ _. refl)))
+
+  -- an exchange with which a number begins
+  pub begins_by : (old new : ℕ) (number : ℕ → ℕ) (f : ℕ → Option N → View N → View N)
+      → ((s : table.State X (View N)) → Before s → get_or s.words i 0 ≡ old → (x : Option N) × (a : Act X) × Valid s.homes me.1 a × Rule D t (stepped s i new id me.1 (f old x me.0) a) × D.took (number old) me.1 x (carried_after me.1 a))
+      → Allows (Rule D t) slots id me i (λ x. either (eqb x old) new x) (Begun D number f (step slots i old new none) me)
+  begins_by old new number f owed s r _ at small = let x : ℕ = get_or s.words i 0 in dite (ℕ_discrete x old)
+      (λ hit. let o = owed s record { rule = r; at = at; small = small } hit in (
+        f old o.0 me.0,
+        o.1,
+        o.2,
+        subst (λ b. Rule D t (stepped s i (either b new x) id me.1 (f old o.0 me.0) o.1)) (sym (eq-eqb x old hit)) o.3,
+        ((λ _. (o.0, (λ j. f (sym hit j) o.0 me.0), subst (λ (z : ℕ). D.took (number z) me.1 o.0 (carried_after me.1 o.1)) (sym hit) o.4)), λ not. absurd (not hit)),
+      ))
+      (λ miss. (missing i x me.0, keeps, tt, misses s r at old new miss, ((λ hit. absurd (miss hit)), λ _. (refl, refl))))

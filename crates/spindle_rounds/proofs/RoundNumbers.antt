@@ -1,0 +1,128 @@
+-- A party takes a set of free numbers and begins one of them in the same step: what becomes of the state and of the counters.
+use Rattle.std.proofs.Common.{◌≡◌, ◌≢◌, ◌⊎◌, inl, inr, ⊎_elim, ℕ, ◌+◌, ◌*◌, ◌<◌, ◌≤◌, Bool, true, false, ◌||◌, List, [], ◌∷◌, ◌++◌, length, get_or, set, length-set, get_or-set_same, get_or-set_other, sym, refl, ap, ◌∙◌, subst, arith, Some}
+use mathlib.Core.Logic.{dite}
+use native.Mathlib.Decide.{ℕ_discrete}
+use Rattle.spindle_parts.specs.State.{State, Party, Round, put, now, party, times, Free, weight_in, weight_member, is_in, is_member}
+use Rattle.spindle_parts.specs.Steps.{Event, Take, Begin, after}
+use Rattle.spindle_parts.specs.Runs.{state, IsRun, IsOnce}
+use Rattle.spindle_parts.specs.BarrierWord.{word}
+use Rattle.spindle_parts.proofs.Parties.{put_here, put_else, put_all, look_here, look_else, times_same, times_else}
+use Rattle.spindle_parts.proofs.Soundness.{Sound, sound, run_once}
+use Rattle.spindle_rounds.specs.RoundSlots.{Begins}
+use Rattle.spindle_rounds.specs.RoundRule.{Counters, InRange, InRest, IsWithin, Words, number_of}
+use Rattle.spindle_rounds.proofs.RoundWords.{counts_stay, word_stays}
+
+pub or_false : (a b : Bool) → b ≡ false → (a || b) ≡ a
+or_false true b e = refl
+or_false false b e = e
+
+pub or_right : (a b : Bool) → b ≡ true → (a || b) ≡ true
+or_right true b e = refl
+or_right false b e = e
+
+both_false : (a b : Bool) → (a || b) ≡ false → (a ≡ false) × (b ≡ false)
+both_false true b e = absurd cc
+both_false false b e = (refl, e)
+
+pub true_or : (b : Bool) → (b ≡ true) ⊎ (b ≡ false)
+true_or true = inl refl
+true_or false = inr refl
+
+-- the party id takes the numbers of `some`, and begins k, which is one of them
+module _ (S : State) (id k : ℕ) (some : ℕ → Bool) (mine : some k ≡ true) where
+  abbrev pub with_some : Party
+  with_some = record (party S id) { taken = λ j. (party S id).taken j || some j }
+
+  abbrev pub taken_first : State
+  taken_first = after S (Take id some)
+
+  abbrev pub then_begun : State
+  then_begun = after taken_first (Begin id k)
+
+  pub first_party : party taken_first id ≡ with_some
+  first_party = look_here S.parties id with_some
+
+  pub last_party : party then_begun id ≡ record (party S id) { running = Some k; taken = put with_some.taken k false }
+  last_party = look_here taken_first.parties id (record (party taken_first id) { running = Some k; taken = put (party taken_first id).taken k false }) ∙ ap (λ (z : Party). let y : Party = record z { running = Some k; taken = put z.taken k false } in y) first_party
+
+  pub last_other : (a : ℕ) → a ≢ id → party then_begun a ≡ party S a
+  last_other a n = look_else taken_first.parties id (record (party taken_first id) { running = Some k; taken = put (party taken_first id).taken k false }) a n ∙ look_else S.parties id with_some a n
+
+  pub last_round : now then_begun ≡ record (now S) { begun = (now S).begun ++ k ∷ [] }
+  last_round = put_here S.rounds S.round (record (now S) { begun = (now S).begun ++ k ∷ [] })
+
+  not_k : (j : ℕ) → some j ≡ false → j ≢ k
+  not_k j e z = let a = ap some z in absurd cc
+
+  pub last_taken : (j a : ℕ) → some j ≡ false → (party then_begun a).taken j ≡ (party S a).taken j
+  last_taken j a n = dite (ℕ_discrete a id)
+      (λ e. subst (λ (z : ℕ). (party then_begun z).taken j ≡ (party S z).taken j) (sym e) (ap (λ (z : Party). z.taken j) last_party ∙ (put_else with_some.taken k false j (not_k j n) ∙ or_false ((party S id).taken j) (some j) n)))
+      (λ m. ap (λ (z : Party). z.taken j) (last_other a m))
+
+  pub still_free : (j : ℕ) → some j ≡ false → Free S j → Free then_begun j
+  still_free j n f = (subst (λ (z : Round). j < z.jobs) (sym last_round) f.0, ap (λ (z : Round). times j z.begun) last_round ∙ (times_else j (now S).begun k (not_k j n) ∙ f.1), λ a. last_taken j a n ∙ f.2 a)
+
+  pub was_free : (j : ℕ) → Free then_begun j → (some j ≡ false) × Free S j
+  was_free j f = let c = ap (λ (z : Round). times j z.begun) last_round in let fresh : j ≢ k = (λ e. let a = times_same k (now S).begun in let b = ap (λ (z : ℕ). times z ((now S).begun ++ k ∷ [])) e in let d = f.1 in absurd (omega arith)) in
+      let out : some j ≡ false = (both_false ((party S id).taken j) (some j) (sym (put_else with_some.taken k false j fresh) ∙ (sym (ap (λ (z : Party). z.taken j) last_party) ∙ f.2 id))).1 in
+      (out, (subst (λ (z : Round). j < z.jobs) last_round f.0, sym (times_else j (now S).begun k fresh) ∙ (sym c ∙ f.1), λ a. sym (last_taken j a out) ∙ f.2 a))
+
+  -- its status stays, and so do both counts
+  pub same_word : word S ≡ word then_begun
+  same_word = word_stays S then_begun refl
+      (counts_stay weight_in refl (λ x y e. ap is_in e) taken_first.parties id (record (party taken_first id) { running = Some k; taken = put (party taken_first id).taken k false }) refl ∙ counts_stay weight_in refl (λ x y e. ap is_in e) S.parties id with_some refl)
+      (counts_stay weight_member refl (λ x y e. ap is_member e) taken_first.parties id (record (party taken_first id) { running = Some k; taken = put (party taken_first id).taken k false }) refl ∙ counts_stay weight_member refl (λ x y e. ap is_member e) S.parties id with_some refl)
+
+  -- the word i of the counters becomes x
+  pub last_words : (t : ℕ) (ws : List ℕ) (i x : ℕ) → 32 ≤ i → Words t S ws → ((n : ℕ) → S.published ≡ Some n → Counters t then_begun (set ws i x) n) → Words t then_begun (set ws i x)
+  last_words t ws i x high w counters = let other : (j : ℕ) → j < 32 → get_or (set ws i x) j 0 ≡ get_or ws j 0 = (λ j lt. get_or-set_other ws i j x 0 (λ e. omega arith)) in record {
+    wide = length-set ws i x ∙ w.wide;
+    barrier = other 0 (omega arith) ∙ (w.barrier ∙ same_word);
+    published = other 8 (omega arith) ∙ (w.published ∙ sym (ap (λ (z : Round). number_of S.published z.stoppable) last_round));
+    finished = λ some. other 16 (omega arith) ∙ (w.finished some ∙ sym (ap (λ (z : Round). length z.finished) last_round));
+    stopped = λ some. let e = ap (λ (z : Round). z.stopped) last_round in ((λ on. other 24 (omega arith) ∙ (w.stopped some).0 (sym e ∙ on)), (λ on. other 24 (omega arith) ∙ (w.stopped some).1 (sym e ∙ on)));
+    counters = counters;
+    barren = w.barren;
+  }
+
+  -- the counters lose exactly the numbers taken
+  pub taken_counters : (t n : ℕ) (ws ws' : List ℕ) → Counters t S ws n → ((i j : ℕ) → i < t → InRange ws' i j → InRange ws i j × (some j ≡ false)) → ((j : ℕ) → InRest ws' n j → InRest ws n j × (some j ≡ false))
+      → ((i j : ℕ) → i < t → some j ≡ false → InRange ws i j → InRange ws' i j) → ((j : ℕ) → some j ≡ false → InRest ws n j → InRest ws' n j) → get_or ws' 32 0 ≤ get_or ws 32 0 → Counters t then_begun ws' n
+  taken_counters t n ws ws' c shrinks rest_shrinks grows rest_grows few = record {
+    free = λ j f. let b = was_free j f in ⊎_elim (λ (z : (i : ℕ) × (i < t) × InRange ws i j). inl (z.0, z.1, grows z.0 j z.1 b.0 z.2)) (λ (z : InRest ws n j). inr (rest_grows j b.0 z)) (c.free j b.1);
+    ranges = λ i j lt z. let b = shrinks i j lt z in still_free j b.1 (c.ranges i j lt b.0);
+    rest = λ j z. let b = rest_shrinks j z in still_free j b.1 (c.rest j b.0);
+    few = let a = c.few in omega arith;
+    home = λ st i j lt z. c.home (sym (ap (λ (y : Round). y.stopped) last_round) ∙ st) i j lt (shrinks i j lt z).0;
+    apart = λ a b j x y z w. c.apart a b j x y (shrinks a j x z).0 (shrinks b j y w).0;
+    rest_apart = λ a j x z w. c.rest_apart a j x (shrinks a j x z).0 (rest_shrinks j w).0;
+  }
+
+  -- a range loses them
+  pub range_taken : (t n i old new : ℕ) (ws : List ℕ) → Counters t S ws n → i < t → 40 + 8 * i < length ws → get_or ws (40 + 8 * i) 0 ≡ old → ((j : ℕ) → some j ≡ true → IsWithin old j) → ((j : ℕ) → IsWithin new j → IsWithin old j × (some j ≡ false)) → ((j : ℕ) → some j ≡ false → IsWithin old j → IsWithin new j)
+      → Counters t then_begun (set ws (40 + 8 * i) new) n
+  range_taken t n i old new ws c low deep is all less more = let ws' : List ℕ = set ws (40 + 8 * i) new in let rest_same : get_or ws' 32 0 ≡ get_or ws 32 0 = get_or-set_other ws (40 + 8 * i) 32 new 0 (λ e. omega arith) in
+      let none : (j : ℕ) → (some j ≡ true → ⊥) → some j ≡ false = (λ j n. ⊎_elim (λ e. absurd (n e)) (λ e. e) (true_or (some j))) in
+      taken_counters t n ws ws' c
+      (λ a j lt z. dite (ℕ_discrete a i)
+      (λ e. let now_is = ap (λ (b : ℕ). get_or ws' (40 + 8 * b) 0) e ∙ get_or-set_same ws (40 + 8 * i) new 0 deep in let b = less j (subst (λ (w : ℕ). IsWithin w j) now_is z) in (subst (λ (w : ℕ). IsWithin w j) (sym (ap (λ (b : ℕ). get_or ws (40 + 8 * b) 0) e ∙ is)) b.0, b.1))
+      (λ other. let z' : InRange ws a j = subst (λ (w : ℕ). IsWithin w j) (get_or-set_other ws (40 + 8 * i) (40 + 8 * a) new 0 (λ e. other (omega arith))) z in
+      (z', none j (λ e. other (c.apart a i j lt low z' (subst (λ (w : ℕ). IsWithin w j) (sym is) (all j e)))))))
+      (λ j z. let z₀ = z.0 in let z' : InRest ws n j = (omega arith, z.1) in (z', none j (λ e. c.rest_apart i j low (subst (λ (w : ℕ). IsWithin w j) (sym is) (all j e)) z')))
+      (λ a j lt out z. dite (ℕ_discrete a i)
+      (λ e. subst (λ (w : ℕ). IsWithin w j) (sym (ap (λ (b : ℕ). get_or ws' (40 + 8 * b) 0) e ∙ get_or-set_same ws (40 + 8 * i) new 0 deep)) (more j out (subst (λ (w : ℕ). IsWithin w j) (ap (λ (b : ℕ). get_or ws (40 + 8 * b) 0) e ∙ is) z)))
+      (λ other. subst (λ (w : ℕ). IsWithin w j) (sym (get_or-set_other ws (40 + 8 * i) (40 + 8 * a) new 0 (λ e. other (omega arith)))) z))
+      (λ j out z. let z₀ = z.0 in (omega arith, z.1)) (omega arith)
+
+  -- to the slots, k begins
+  pub begun_here : (run : List Event) → S ≡ state run → IsRun run → (n : ℕ) → Free S k → S.published ≡ Some n → Begins S then_begun k
+  begun_here run is ok n free shown = let R : Round = record (now S) { begun = (now S).begun ++ k ∷ [] } in let once = subst IsOnce (sym is) (run_once run ok) in let h = subst Sound (sym is) (sound run ok) in let at_most = (once S.round k).1 in let none_begun = free.1 in record {
+    round = refl;
+    published = refl;
+    begun = λ q j o. put_all (λ a y. (a ≢ S.round) ⊎ (j ≢ k) → times j y.begun ≡ times j (S.rounds a).begun) S.rounds S.round R (λ o. ⊎_elim (λ (z : S.round ≢ S.round). absurd (z refl)) (λ (z : j ≢ k). times_else j (now S).begun k z) o) (λ a z o. refl) q o;
+    finished = λ q j. put_all (λ a y. times j y.finished ≡ times j (S.rounds a).finished) S.rounds S.round R refl (λ a z. refl) q;
+    before = free.1;
+    after = (let a = ap (λ (z : Round). times k z.begun) last_round in let b = times_same k (now S).begun in omega arith);
+    unfinished = omega arith;
+    shown = (n, shown, (let a = (h.gate.shown n shown).0 in let b = free.0 in omega arith));
+  }

@@ -1,0 +1,66 @@
+-- A fresh table, and a new seat.
+use Rattle.std.proofs.Common.{◌≡◌, ◌≢◌, ◌⊎◌, inl, inr, ⊎_elim, ℕ, zero, suc, ◌+◌, ◌*◌, ◌<◌, Bool, true, false, List, [], ◌∷◌, ◌++◌, length, length-append, get_or, sym, refl, ap, subst, arith, Some, None}
+use mathlib.Core.Option.{some, some-injective, some-ne-none}
+use lib.ListN.{get_elem?}
+use Rattle.atomic_table.specs.Table.{opening, Splits}
+use Rattle.atomic_table.proofs.Lists.{set_again}
+use Rattle.spindle_parts.specs.State.{State, Party, party, absent, fresh}
+use Rattle.spindle_parts.specs.Runs.{state}
+use Rattle.spindle_rounds.specs.declared.round_table.view.View.{View}
+use Rattle.spindle_rounds.specs.RoundSlots.{Discipline, Lawful}
+use Rattle.spindle_rounds.specs.RoundRule.{Shows, Laid, deeds, deeds_of}
+use Rattle.spindle_rounds.specs.RoundSteps.{outsider}
+use Rattle.spindle_rounds.proofs.RoundMoves.{Rule}
+
+module _ {N : Type 0} where
+  at_end : (l : List (View N)) (a b : View N) (j : ℕ) → get_elem? (l ++ a ∷ []) j ≡ some b → (get_elem? l j ≡ some b) ⊎ ((j ≡ length l) × (a ≡ b))
+  at_end [] a b zero e = inr (refl, some-injective a b e)
+  at_end [] a b (suc j) e = absurd (some-ne-none b (sym e))
+  at_end (x ∷ xs) a b zero e = inl e
+  at_end (x ∷ xs) a b (suc j) e = ⊎_elim inl (λ (t : (j ≡ length xs) × (a ≡ b)). inr (ap suc t.0, t.1)) (at_end xs a b j e)
+
+  some_there : (l : List (View N)) (i : ℕ) (v : View N) → get_elem? l i ≡ some v → 0 < length l
+  some_there [] i v e = absurd (some-ne-none v (sym e))
+  some_there (x ∷ xs) i v e = omega arith
+
+  -- who has done nothing shows as an outsider
+  blank_shows : (s : State) (t p : ℕ) (leads : Bool) → (leads ≡ true → p ≡ 0) × (leads ≡ false → p ≢ 0) → party s p ≡ absent → s.closer ≢ Some p → let v : View N = outsider t leads in Shows s p v
+  blank_shows s t p leads first is c = record {
+    stands = (ap (λ (x : Party). x.status) is, c);
+    leads = first;
+    claim = ap (λ (x : Party). x.running) is;
+    share = λ k. ((λ e. let a = ap (λ (x : Party). x.taken k) is in absurd cc), (λ z. let z₁ = z.1 in absurd (omega arith)));
+    inside = λ q e. absurd cc;
+  }
+
+  -- and has stored nothing
+  blank_laid : (t : ℕ) (s : State) (ws : List ℕ) (leads : Bool) → (s.published ≡ None) → let v : View N = outsider t leads in Laid t s ws v
+  blank_laid t s ws leads hidden = record { stored = λ i x e. absurd cc; unstored = λ _. refl; current = λ is. absurd (is hidden); left = λ q e. absurd cc }
+
+module _ {X N : Type 0} (D : Discipline X N) (law : Lawful D) (t : ℕ) where
+  pub opens : (ws : List ℕ) (xs : List X) → length ws ≡ 40 + 16 * t → ((i : ℕ) → get_or ws i 0 ≡ 0) → D.starts xs → Rule D t (opening ws xs (outsider t true))
+  opens ws xs wide zeros starts = record {
+    run = [];
+    is_run = tt;
+    words = record { wide = wide; barrier = zeros 0; published = zeros 8; finished = λ n. absurd (n refl); stopped = λ n. absurd (n refl); counters = λ n e. absurd cc; barren = λ _. refl };
+    seats = go;
+    lays = λ v e. subst (Laid t fresh ws) (some-injective (outsider t true) v e) (blank_laid t fresh ws true refl);
+    beyond = λ p le. (refl, (λ e. cc), refl);
+    slots = law.opens xs (outsider t true) starts (refl, refl, refl);
+  }
+    where
+      go : (p : ℕ) (v : View N) → get_elem? (outsider t true ∷ []) p ≡ some v → Shows fresh p v × (deeds_of v.trail ≡ deeds p []) × (v.threads ≡ t)
+      go zero v e = subst (λ (z : View N). Shows fresh 0 z × (deeds_of z.trail ≡ deeds 0 []) × (z.threads ≡ t)) (some-injective (outsider t true) v e) (blank_shows fresh t 0 true ((λ _. refl), (λ e. absurd cc)) refl (λ c. cc), refl, refl)
+      go (suc p) v e = absurd (some-ne-none v (sym e))
+
+  pub splits : (id : ℕ) (v : View N) → Splits (Rule D t) id v v (outsider v.threads false)
+  splits id v s r at = let same = set_again s.views id v at in let new : View N = outsider v.threads false in subst (λ (l : List (View N)). Rule D t record { words = s.words; homes = s.homes; views = l ++ new ∷ [] }) (sym same) record {
+    run = r.run;
+    is_run = r.is_run;
+    words = r.words;
+    seats = λ p u e. ⊎_elim (r.seats p u) (λ (z : (p ≡ length s.views) × (new ≡ u)). let b = r.beyond p (let z₀ = z.0 in omega arith) in let some_seat = some_there s.views id v at in let z₀ = z.0 in
+        subst (λ (y : View N). Shows (state r.run) p y × (deeds_of y.trail ≡ deeds p r.run) × (y.threads ≡ t)) z.1 (blank_shows (state r.run) v.threads p false ((λ e. absurd cc), (λ _ e. omega arith)) b.0 b.1, sym b.2, (r.seats id v at).2)) (at_end s.views new u p e);
+    lays = λ u e. ⊎_elim (r.lays u) (λ (z : (0 ≡ length s.views) × (new ≡ u)). let some_seat = some_there s.views id v at in let z₀ = z.0 in absurd (omega arith)) (at_end s.views new u 0 e);
+    beyond = λ p le. r.beyond p (let n = length-append s.views (new ∷ []) in omega arith);
+    slots = law.splits (state r.run) s.homes s.views new r.slots (refl, refl, refl);
+  }

@@ -1,0 +1,86 @@
+-- The fields of the barrier word, and what the other words show after a step on one of them.
+use Rattle.std.proofs.Common.{◌≡◌, ◌≢◌, inl, inr, ⊎_elim, ℕ, ◌+◌, ◌*◌, ◌/◌, ◌%◌, ◌<◌, ◌≤◌, Bool, true, false, eq-eqb, ne_eqb, le-ltb, lt-ltb, List, length, get_or, set, length-set, get_or-set_same, get_or-set_other, sym, refl, ap, ◌∙◌, subst, arith, Option, ◌==◌, nat_lt}
+use mathlib.Core.Logic.{dite}
+use native.Mathlib.Decide.{ℕ_discrete, dec_le}
+use Rattle.spindle_parts.specs.State.{State, Status, Party, Round, party_of, put_party, now, party, times, Free, inside, members, total, absent}
+use Rattle.spindle_parts.specs.Steps.{with_status}
+use Rattle.spindle_parts.specs.BarrierWord.{word}
+use Rattle.spindle_parts.proofs.Parties.{look_here, look_else, total_put, inside_le_members}
+use Rattle.spindle_parts.proofs.Soundness.{Sound}
+use Rattle.spindle_rounds.specs.RoundRule.{Counters, InRange, InRest, Words, number_of}
+
+-- where a test of two numbers decides
+pub by_less : (a b : ℕ) (P : Bool → Type 0) → (a < b → P true) → (b ≤ a → P false) → P (nat_lt a b)
+by_less a b P hit miss = dite (dec_le b a) (λ le. subst P (sym (le-ltb a b le)) (miss le)) (λ no. subst P (sym (lt-ltb a b (omega arith))) (hit (omega arith)))
+
+pub by_equal : (a b : ℕ) (P : Bool → Type 0) → (a ≡ b → P true) → (a ≢ b → P false) → P (a == b)
+by_equal a b P hit miss = dite (ℕ_discrete a b) (λ e. subst P (sym (eq-eqb a b e)) (hit e)) (λ n. subst P (sym (ne_eqb a b n)) (miss n))
+
+-- the fields of the word
+pub record Fields (n a b c : ℕ) : Type 0 where
+  pub count : n % 32768 ≡ a
+  pub most : n / 65536 % 32768 ≡ b
+  pub sense : n / 2147483648 ≡ c
+  pub small : n < 4294967296
+
+pub fields : (n a b c : ℕ) → n ≡ a + 65536 * b + 2147483648 * c → a ≤ 32767 → b ≤ 32767 → c ≤ 1 → Fields n a b c
+fields n a b c e x y z = record { count = omega arith; most = omega arith; sense = omega arith; small = omega arith }
+
+-- what a state's word says
+pub word_fields : (s : State) → Sound s → (n : ℕ) → n ≡ word s → Fields n (inside s.parties) (members s.parties) (s.round % 2)
+word_fields s h n e = let few = h.gate.few in let le = inside_le_members s.parties in let p : ℕ = s.round % 2 in let two : p ≤ 1 = omega arith in fields n (inside s.parties) (members s.parties) p e (omega arith) few two
+
+-- a step that leaves the counters' words, and what is free
+pub counters_stay : (t : ℕ) (s s' : State) (ws ws' : List ℕ) (n : ℕ) → get_or ws' 32 0 ≡ get_or ws 32 0 → ((i : ℕ) → i < t → get_or ws' (40 + 8 * i) 0 ≡ get_or ws (40 + 8 * i) 0) → ((k : ℕ) → Free s k → Free s' k) → ((k : ℕ) → Free s' k → Free s k) → ((now s').stopped ≡ false → (now s).stopped ≡ false)
+    → Counters t s ws n → Counters t s' ws' n
+counters_stay t s s' ws ws' n rest same on back stopped c = let e₄ = rest in record {
+  free = λ k f. ⊎_elim (λ (z : (i : ℕ) × (i < t) × InRange ws i k). inl (z.0, z.1, fore z.0 k z.1 z.2)) (λ (z : InRest ws n k). inr ((let a = z.0 in omega arith), z.1)) (c.free k (back k f));
+  ranges = λ i k lt z. on k (c.ranges i k lt (aft i k lt z));
+  rest = λ k z. on k (c.rest k (rest_aft k z));
+  few = let a = c.few in omega arith;
+  home = λ st i k lt z. c.home (stopped st) i k lt (aft i k lt z);
+  apart = λ i j k a b x y. c.apart i j k a b (aft i k a x) (aft j k b y);
+  rest_apart = λ i k a x y. c.rest_apart i k a (aft i k a x) (rest_aft k y);
+}
+  where
+    fore : (i k : ℕ) → i < t → InRange ws i k → InRange ws' i k
+    fore i k lt z = subst (λ (w : ℕ). (w % 4294967296 ≤ k) × (k < w / 4294967296)) (sym (same i lt)) z
+
+    aft : (i k : ℕ) → i < t → InRange ws' i k → InRange ws i k
+    aft i k lt z = subst (λ (w : ℕ). (w % 4294967296 ≤ k) × (k < w / 4294967296)) (same i lt) z
+
+    rest_aft : (k : ℕ) → InRest ws' n k → InRest ws n k
+    rest_aft k z = let e = rest in ((let a = z.0 in omega arith), z.1)
+
+module _ (t : ℕ) where
+  -- a step on the barrier word alone, which leaves the round and what the parties have taken
+  pub barrier_words : (s s' : State) (ws : List ℕ) (x : ℕ) → Words t s ws → now s' ≡ now s → s'.published ≡ s.published → ((a k : ℕ) → (party s' a).taken k ≡ (party s a).taken k) → x ≡ word s' → Words t s' (set ws 0 x)
+  barrier_words s s' ws x w round shown taken is = let wide = w.wide in let other : (i : ℕ) → i ≢ 0 → get_or (set ws 0 x) i 0 ≡ get_or ws i 0 = (λ i n. get_or-set_other ws 0 i x 0 n) in record {
+    wide = length-set ws 0 x ∙ w.wide;
+    barrier = get_or-set_same ws 0 x 0 (omega arith) ∙ is;
+    published = other 8 (λ e. omega arith) ∙ (w.published ∙ (λ i. number_of (sym shown i) (sym round i).stoppable));
+    finished = λ some. other 16 (λ e. omega arith) ∙ (w.finished (λ e. some (shown ∙ e)) ∙ ap (λ (r : Round). length r.finished) (sym round));
+    stopped = λ some. let old = w.stopped (λ e. some (shown ∙ e)) in let same = ap (λ (r : Round). r.stopped) (sym round) in ((λ e. other 24 (λ e. omega arith) ∙ old.0 (same ∙ e)), (λ e. other 24 (λ e. omega arith) ∙ old.1 (same ∙ e)));
+    counters = λ n e. counters_stay t s s' ws (set ws 0 x) n (other 32 (λ z. omega arith)) (λ i lt. other (40 + 8 * i) (λ z. omega arith)) (λ k f. freed s s' (sym round) taken k f) (λ k f. freed s' s round (λ a k. sym (taken a k)) k f)
+        (λ e. sym (ap (λ (r : Round). r.stopped) round) ∙ e) (w.counters n (sym shown ∙ e));
+    barren = λ z. shown ∙ w.barren z;
+  }
+    where
+      freed : (a b : State) → now a ≡ now b → ((q k : ℕ) → (party b q).taken k ≡ (party a q).taken k) → (k : ℕ) → Free a k → Free b k
+      freed a b e same k f = (subst (λ (r : Round). k < r.jobs) e f.0, sym (ap (λ (r : Round). times k r.begun) e) ∙ f.1, λ q. same q k ∙ f.2 q)
+
+  -- a change of one party's status
+  pub status_words : (s : State) (ws : List ℕ) (p x : ℕ) (st : Status) (c : Option ℕ) → Words t s ws → let s' : State = record { round = s.round; parties = put_party s.parties p (with_status st (party s p)); closer = c; published = s.published; rounds = s.rounds } in x ≡ word s' → Words t s' (set ws 0 x)
+  status_words s ws p x st c w is = let s' : State = record { round = s.round; parties = put_party s.parties p (with_status st (party s p)); closer = c; published = s.published; rounds = s.rounds } in barrier_words s s' ws x w refl refl same is
+    where
+      same : (a k : ℕ) → (party_of (put_party s.parties p (with_status st (party s p))) a).taken k ≡ (party s a).taken k
+      same a k = dite (ℕ_discrete a p) (λ e. subst (λ (z : ℕ). (party_of (put_party s.parties p (with_status st (party s p))) z).taken k ≡ (party s z).taken k) (sym e) (ap (λ (z : Party). z.taken k) (look_here s.parties p (with_status st (party s p)))))
+          (λ n. ap (λ (z : Party). z.taken k) (look_else s.parties p (with_status st (party s p)) a n))
+
+-- who keeps its status leaves both counts
+pub counts_stay : (w : Party → ℕ) → w absent ≡ 0 → ((x y : Party) → x.status ≡ y.status → w x ≡ w y) → (l : List Party) (p : ℕ) (y : Party) → y.status ≡ (party_of l p).status → total w (put_party l p y) ≡ total w l
+counts_stay w z by_status l p y e = let a = total_put w z l p y in let b = by_status y (party_of l p) e in omega arith
+
+-- the barrier word is of the round and the two counts
+pub word_stays : (s s' : State) → s'.round ≡ s.round → inside s'.parties ≡ inside s.parties → members s'.parties ≡ members s.parties → word s ≡ word s'
+word_stays s s' r a b i = sym a i + 65536 * sym b i + 2147483648 * (sym r i % 2)

@@ -1,0 +1,15 @@
+-- The attempt that succeeds, after others that didn't.
+use Rattle.spindle_rounds.proofs.BarrierClients.{stayed_on, moved_on, went_on, exit_gone, exit_closer, exit_again, keeps_on}
+use Rattle.spindle_rounds.proofs.barrier.Barrier.exit.Goals as goal
+
+pub returns-in-Gone-clause-out : goal.returns-in-Gone-clause-out
+returns-in-Gone-clause-out g c = went_on _ _ _ c.loop.invariant.1 (exit_gone c.loop.barrier.seat.me c.in-Gone.seat.me c.in-Gone.ensures.1)
+
+pub returns-in-Closer-clause-out : goal.returns-in-Closer-clause-out
+returns-in-Closer-clause-out g c = went_on _ _ _ c.loop.invariant.1 (moved_on _ _ _ _ _ _ _ (exit_closer c.loop.barrier.seat.me c.in-Closer.closer.seat.me c.in-Closer.ensures.1) c.close_out.ensures.out)
+
+pub loop-preserved : goal.loop-preserved
+loop-preserved g c = let i = c.loop.invariant in let e = c.in-Again.ensures in (
+  keeps_on c.args.self c.loop.barrier c.in-Again.again i.0 e.0,
+  stayed_on _ _ _ i.1 (exit_again c.loop.barrier.seat.me c.in-Again.again.seat.me e.1),
+)

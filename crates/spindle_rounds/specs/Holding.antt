@@ -1,0 +1,61 @@
+-- What a barrier's party holds: the seat that it was made with, and what it keeps beside it.
+use Rattle.std.specs.Prelude.{◌≡◌, true, false}
+use Rattle.spindle_rounds.specs.declared.barrier.Barrier.{Barrier}
+use Rattle.spindle_rounds.specs.declared.barrier.leaving.Leave.{Leave}
+use Rattle.spindle_rounds.specs.declared.barrier.leaving.Leave.TheVariants as leave
+use Rattle.spindle_rounds.specs.declared.barrier.leaving.Exit.{Exit}
+use Rattle.spindle_rounds.specs.declared.barrier.leaving.Exit.TheVariants as exit
+use Rattle.spindle_rounds.specs.declared.barrier.ending.AfterEnd.{AfterEnd}
+use Rattle.spindle_rounds.specs.declared.barrier.ending.AfterEnd.TheVariants as end
+use Rattle.spindle_rounds.specs.declared.barrier.steps.LeaveStep.TheVariants as left
+use Rattle.spindle_rounds.specs.declared.barrier.steps.ExitStep.TheVariants as gone
+use Rattle.spindle_rounds.specs.declared.barrier.waiting.ExitStatus.{ExitStatus}
+use Rattle.spindle_rounds.specs.declared.barrier.waiting.ExitStatus.TheVariants as status
+use Rattle.spindle_rounds.specs.Passing.{Stayed, InNext, LeftWaiting}
+use Rattle.atomic_table.specs.Table.{Me}
+use Rattle.atomic_table.specs.declared.shared.Seat.{Seat}
+use Rattle.spindle_rounds.specs.declared.round_table.view.View.{View}
+use Rattle.spindle_rounds.specs.RoundConditions.{HasSense, HasPart}
+use Rattle.spindle_rounds.specs.RoundAnswers.{LeftBy, ExitedBy, EndedBy}
+
+module _ {T S N : Type 0} where
+  -- it holds a seat of its own table, with that seat's sense, and knows whether it is a member
+  abbrev pub IsHeld : Barrier T S N → Type 0
+  IsHeld b = (b.seat.table_id ≡ b.init.now.table.shared.table_id) × HasSense b.seat.me.0.standing b.sense × HasPart b.seat.me.0.standing b.is_member
+
+  -- the same party at the same barrier
+  abbrev pub IsSameParty : Barrier T S N → Barrier T S N → Type 0
+  IsSameParty b c = (c.init ≡ b.init) × (c.thread_id ≡ b.thread_id) × (c.seat.id ≡ b.seat.id)
+
+  -- a party whose step hands its barrier back
+  abbrev pub Keeps : Barrier T S N → Barrier T S N → Type 0
+  Keeps b c = IsHeld c × IsSameParty b c
+
+  -- the seat of a party that has gone
+  abbrev pub IsSeatOf : Barrier T S N → Seat S (View N) → Type 0
+  IsSeatOf b s = (s.table_id ≡ b.seat.table_id) × (s.id ≡ b.seat.id)
+
+  abbrev pub LeaveTold : Barrier T S N → Leave T S N → Type 0
+  LeaveTold b (leave.Left s) = IsSeatOf b s × LeftBy b.sense left.Left b.seat.me s.me
+  LeaveTold b (leave.Ended c) = Keeps b c × LeftBy b.sense left.Ended b.seat.me c.seat.me
+  LeaveTold b (leave.Closing c) = Keeps b c × LeftBy b.sense left.Closing b.seat.me c.seat.me
+  LeaveTold b (leave.Again c) = Keeps b c × LeftBy b.sense left.Again b.seat.me c.seat.me
+
+  abbrev pub ExitTold : Barrier T S N → Exit T S N → Type 0
+  ExitTold b (exit.Gone s) = IsSeatOf b s × ExitedBy gone.Gone b.seat.me s.me
+  ExitTold b (exit.Closer c) = Keeps b c × ExitedBy gone.Closer b.seat.me c.seat.me
+  ExitTold b (exit.Again c) = Keeps b c × ExitedBy gone.Again b.seat.me c.seat.me
+
+  abbrev pub EndTold : Barrier T S N → AfterEnd T S N → Type 0
+  EndTold b (end.Next c) = Keeps b c × (b.is_member ≡ true) × EndedBy b.seat.me c.seat.me
+  EndTold b (end.Gone s) = IsSeatOf b s × (b.is_member ≡ false) × EndedBy b.seat.me s.me
+
+  -- a party that has arrived stayed until its round ended, or left where it was asked to
+  abbrev pub AwaitTold : Type 0 → Barrier T S N → ExitStatus T S N → Type 0
+  AwaitTold asked b (status.Exit s) = IsSeatOf b s × ((u : Me S (View N)) × Stayed b.seat.me u × LeftBy b.sense left.Left u s.me) × asked
+  AwaitTold asked b (status.Remain c) = Keeps b c × InNext b.seat.me c.seat.me
+
+  -- a party arrived, and then its round ended, or it was no closer and left where it was asked to
+  abbrev pub StatusTold : Type 0 → Barrier T S N → ExitStatus T S N → Type 0
+  StatusTold asked b (status.Exit s) = IsSeatOf b s × LeftWaiting b.seat.me s.me × asked
+  StatusTold asked b (status.Remain c) = Keeps b c × InNext b.seat.me c.seat.me

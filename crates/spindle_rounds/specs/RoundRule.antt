@@ -1,0 +1,183 @@
+-- What the words and the seats of a round table show.
+use Rattle.std.specs.Prelude.{◌≡◌, ◌≢◌, ◌⊎◌, ℕ, zero, suc, ◌+◌, ◌*◌, ◌/◌, ◌%◌, ◌<◌, ◌≤◌, Bool, true, false, List, [], ◌∷◌, ◌++◌, length, slice_index, Option, Some, None, if◌then◌else◌, ◌==◌, nat_lt}
+use mathlib.Core.Option.{some}
+use lib.ListN.{get_elem?}
+use Rattle.spindle_parts.specs.State.{State, Round, Out, In, Arrived, absent, now, party, times, Free}
+use Rattle.spindle_parts.specs.Steps.{Event, Publish, PublishTry, Begin, Finish, by}
+use Rattle.spindle_parts.specs.Runs.{state, IsRun}
+use Rattle.spindle_parts.specs.BarrierWord.{word}
+use Rattle.spindle_parts.specs.declared.trail.Trace.{Trace}
+use Rattle.atomic_table.specs.Table as table
+use Rattle.spindle_rounds.specs.declared.round_table.view.Standing.{Standing}
+use Rattle.spindle_rounds.specs.declared.round_table.view.Standing.TheVariants.{Away, Inside, Waiting, Closing}
+use Rattle.spindle_rounds.specs.declared.round_table.view.Kind.{Kind}
+use Rattle.spindle_rounds.specs.declared.round_table.view.Kind.TheVariants as kind
+use Rattle.spindle_rounds.specs.declared.round_table.view.Known.{Known}
+use Rattle.spindle_rounds.specs.declared.round_table.view.View.{View}
+use Rattle.spindle_rounds.specs.RoundSlots.{Discipline}
+
+-- a party's begins, finishes and publishes, each with its round
+pub data Deed : Type 0 where
+  Began : (round k : ℕ) → Deed
+  Ended : (round k : ℕ) → Deed
+  Showed : (round n : ℕ) (may_stop : Bool) → Deed
+
+abbrev pub ended_in : ℕ → Option ℕ → List Deed
+ended_in r None = []
+ended_in r (Some k) = Ended r k ∷ []
+
+abbrev pub deed : State → Event → List Deed
+deed s (Publish p n) = Showed s.round n false ∷ []
+deed s (PublishTry p n) = Showed s.round n true ∷ []
+deed s (Begin p k) = Began s.round k ∷ []
+deed s (Finish p) = ended_in s.round (party s p).running
+deed s _ = []
+
+-- the deeds of the party p in a run, the newest first
+abbrev pub deeds : ℕ → List Event → List Deed
+deeds p [] = []
+deeds p (e ∷ es) = (if by e == p then deed (state es) e else []) ++ deeds p es
+
+abbrev pub deed_of : Kind → List Deed
+deed_of (kind.Begin r k) = Began r k ∷ []
+deed_of (kind.Finish r k) = Ended r k ∷ []
+deed_of (kind.Publish r n b) = Showed r n b ∷ []
+deed_of _ = []
+
+-- the deeds of a trail, the newest first
+abbrev pub deeds_of : List (Trace Kind) → List Deed
+deeds_of [] = []
+deeds_of (x ∷ xs) = deed_of x.kind ++ deeds_of xs
+
+-- the party p stands as its seat says
+abbrev pub Stands : State → ℕ → Standing → Type 0
+Stands s p Away = ((party s p).status ≡ Out) × (s.closer ≢ Some p)
+Stands s p (Inside q) = ((party s p).status ≡ In) × (s.round ≡ q)
+Stands s p (Waiting q quiet) = (((party s p).status ≡ Arrived) × (s.round ≡ q) × (s.closer ≢ Some p) × (quiet ≡ true → (p ≡ 0) × (s.published ≡ None)))
+    ⊎ (((party s p).status ≡ In) × (s.round ≡ suc q) × (p ≡ 0 → s.published ≡ None) × ((now s).seen p ≡ false))
+Stands s p (Closing q member cleared at) = (s.closer ≡ Some p) × (s.round ≡ q) × (cleared ≡ true → s.published ≡ None)
+    × ((party s p).status ≡ (if member then Arrived else Out)) × ((n : ℕ) → at ≡ Some n → word s ≡ n)
+
+-- the range that the number k starts in, for n jobs on t threads, t being the remainder
+abbrev pub home_of : ℕ → ℕ → ℕ → ℕ
+home_of t n k = if nat_lt (k + n % t) n then k / (n / t) else t
+
+abbrev pub IsListed : ℕ → List ℕ → Type 0
+IsListed i [] = ⊥
+IsListed i (x ∷ xs) = (x ≡ i) ⊎ IsListed i xs
+
+-- no number of the i-th range is free, or the round was stopped
+abbrev pub IsEmptied : ℕ → ℕ → State → ℕ → Type 0
+IsEmptied t n s i = ((k : ℕ) → Free s k → home_of t n k ≡ i → ⊥) ⊎ ((now s).stopped ≡ true)
+
+-- what a seat inside the round knows is so
+pub record Knows (t : ℕ) (s : State) (p : ℕ) (k : Known) : Type 0 where
+  pub number : (n : ℕ) → k.number ≡ Some n → (s.published ≡ Some n) × ((now s).stoppable ≡ k.may_stop)
+  pub unpublished : k.unpublished ≡ true → (p ≡ 0) × (s.published ≡ None)
+  pub seen : (now s).seen p ≡ k.seen_stop
+  pub emptied : (n i : ℕ) → k.number ≡ Some n → IsListed i k.emptied → IsEmptied t n s i
+  pub unread : k.number ≡ None → k.emptied ≡ []
+
+abbrev pub IsShare : (ℕ → Bool) → ℕ → ℕ → Type 0
+IsShare taken from to = (k : ℕ) → ((taken k ≡ true) → (from ≤ k) × (k < to)) × ((from ≤ k) × (k < to) → taken k ≡ true)
+
+-- the seat of the party p shows it
+pub record Shows {N : Type 0} (s : State) (p : ℕ) (v : View N) : Type 0 where
+  pub stands : Stands s p v.standing
+  pub leads : (v.leader ≡ true → p ≡ 0) × (v.leader ≡ false → p ≢ 0)
+  pub claim : (party s p).running ≡ v.claim
+  pub share : IsShare (party s p).taken v.from v.to
+  pub inside : (q : ℕ) → v.standing ≡ Inside q → Knows v.threads s p v.known
+
+-- the words by their names
+abbrev pub published_in : List ℕ → ℕ
+published_in ws = slice_index ws 8
+
+abbrev pub finished_in : List ℕ → ℕ
+finished_in ws = slice_index ws 16
+
+abbrev pub stopped_in : List ℕ → ℕ
+stopped_in ws = slice_index ws 24
+
+abbrev pub rest_in : List ℕ → ℕ
+rest_in ws = slice_index ws 32
+
+abbrev pub range_in : List ℕ → ℕ → ℕ
+range_in ws i = slice_index ws (40 + 8 * i)
+
+-- the number k stands in a range: the start in the low half, the end in the high one
+abbrev pub IsWithin : ℕ → ℕ → Type 0
+IsWithin range k = (range % 4294967296 ≤ k) × (k < range / 4294967296)
+
+abbrev pub InRange : List ℕ → ℕ → ℕ → Type 0
+InRange ws i k = IsWithin (range_in ws i) k
+
+-- the number k stands in the remainder
+abbrev pub InRest : List ℕ → ℕ → ℕ → Type 0
+InRest ws n k = (n ≤ k + rest_in ws) × (k < n)
+
+-- the number k stands in a range or in the remainder
+abbrev pub IsLeft : ℕ → List ℕ → ℕ → ℕ → Type 0
+IsLeft t ws n k = ((i : ℕ) × (i < t) × InRange ws i k) ⊎ InRest ws n k
+
+-- while n is published, ranges and remainder stand for the free numbers, each once
+pub record Counters (t : ℕ) (s : State) (ws : List ℕ) (n : ℕ) : Type 0 where
+  pub free : (k : ℕ) → Free s k → IsLeft t ws n k
+  pub ranges : (i k : ℕ) → i < t → InRange ws i k → Free s k
+  pub rest : (k : ℕ) → InRest ws n k → Free s k
+  pub few : rest_in ws ≤ n % t
+  pub home : (now s).stopped ≡ false → (i k : ℕ) → i < t → InRange ws i k → home_of t n k ≡ i
+  pub apart : (i j k : ℕ) → i < t → j < t → InRange ws i k → InRange ws j k → i ≡ j
+  pub rest_apart : (i k : ℕ) → i < t → InRange ws i k → InRest ws n k → ⊥
+
+-- the published word: 0, the number, or the number and a bit where the round may stop
+abbrev pub number_of : Option ℕ → Bool → ℕ
+number_of None b = 0
+number_of (Some n) b = if b then n + 4294967296 else n
+
+-- the words show the state
+pub record Words (t : ℕ) (s : State) (ws : List ℕ) : Type 0 where
+  pub wide : length ws ≡ 40 + 16 * t
+  pub barrier : slice_index ws 0 ≡ word s
+  pub published : published_in ws ≡ number_of s.published (now s).stoppable
+  pub finished : s.published ≢ None → finished_in ws ≡ length (now s).finished
+  pub stopped : s.published ≢ None → ((now s).stopped ≡ true → stopped_in ws ≡ 1) × ((now s).stopped ≡ false → stopped_in ws ≡ 0)
+  pub counters : (n : ℕ) → s.published ≡ Some n → Counters t s ws n
+  pub barren : t ≡ 0 → s.published ≡ None
+
+-- the values that finished, stopped, remainder and ranges get for a round of n jobs
+abbrev pub fill_value : ℕ → ℕ → ℕ → ℕ
+fill_value t n zero = 0
+fill_value t n (suc zero) = 0
+fill_value t n (suc (suc zero)) = n % t
+fill_value t n (suc (suc (suc i))) = n / t * i + 4294967296 * (n / t * i + n / t)
+
+-- ranges and remainder stand for the numbers of a round that were not begun
+abbrev pub StandsFor : ℕ → Round → List ℕ → Type 0
+StandsFor t r ws = (k : ℕ) → (((k < r.jobs) × (times k r.begun ≡ 0)) → IsLeft t ws r.jobs k) × (IsLeft t ws r.jobs k → (k < r.jobs) × (times k r.begun ≡ 0))
+
+-- the value that was stored last in the word i
+abbrev pub stored_at : List (ℕ × ℕ) → ℕ → Option ℕ
+stored_at [] i = None
+stored_at (x ∷ xs) i = if x.0 == i then Some x.1 else stored_at xs i
+
+-- all words of a round of n jobs are stored
+abbrev pub IsFilled : ℕ → ℕ → List (ℕ × ℕ) → Type 0
+IsFilled t n stored = (j : ℕ) → j < 3 + t → stored_at stored (16 + 8 * j) ≡ Some (fill_value t n j)
+
+-- what the leader has stored stands
+pub record Laid {N : Type 0} (t : ℕ) (s : State) (ws : List ℕ) (v : View N) : Type 0 where
+  pub stored : (i x : ℕ) → stored_at v.known.stored i ≡ Some x → (16 ≤ i) × (slice_index ws i ≡ x)
+  pub unstored : s.published ≢ None → v.known.stored ≡ []
+  pub current : s.published ≢ None → v.laid ≡ Some s.round
+  pub left : (q : ℕ) → v.laid ≡ Some q → s.published ≡ None → StandsFor t (s.rounds q) ws
+
+-- there is a run whose last state the words and all seats show
+pub record Shown {S N : Type 0} (D : Discipline S N) (t : ℕ) (s : table.State S (View N)) : Type 0 where
+  pub run : List Event
+  pub is_run : IsRun run
+  pub words : Words t (state run) s.words
+  pub seats : (p : ℕ) (v : View N) → get_elem? s.views p ≡ some v → Shows (state run) p v × (deeds_of v.trail ≡ deeds p run) × (v.threads ≡ t)
+  pub lays : (v : View N) → get_elem? s.views 0 ≡ some v → Laid t (state run) s.words v
+  pub beyond : (p : ℕ) → length s.views ≤ p → (party (state run) p ≡ absent) × ((state run).closer ≢ Some p) × (deeds p run ≡ [])
+  pub slots : D.clause (state run) s.homes s.views

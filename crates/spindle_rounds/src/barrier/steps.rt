@@ -1,0 +1,112 @@
+//! The calls of a party, each one atomic step or a load and a step.
+ghost use Rattle.std.specs.Prelude.{◌≡◌};
+ghost use Rattle.spindle_rounds.specs.RoundAnswers.{ArrivedBy, LookedBy};
+ghost use Rattle.spindle_rounds.specs.Holding.{IsHeld, Keeps};
+ghost use Rattle.spindle_rounds.specs.Seats.{LendsSeat};
+ghost use Rattle.std.specs.Borrow.{sem};
+ghost use Rattle.spindle_rounds.specs.RoundConditions.{IsFreeInside, IsDone, IsWaiting};
+
+use crate::barrier::Barrier;
+use crate::round_table::plays::{Arrives, Looks};
+use crate::round_table::slots::Slots;
+use crate::round_table::{BARRIER, Seat};
+
+/// One party more, and one that hasn't arrived.
+pub(crate) const PARTY: u64 = 65537;
+/// Where the number of members starts, the one past its bits, and the sense.
+pub(crate) const MOST: u64 = 65536;
+
+pub(crate) const FIELD: u64 = 32768;
+
+pub(crate) const SENSE: u64 = 2147483648;
+
+/// What came of one attempt to join.
+pub enum JoinStep {
+    /// With the sense of the word.
+    Joined(u64),
+    Full,
+    Closing,
+    Again,
+}
+
+/// How a party arrived.
+#[derive(Clone, Copy, Debug, PartialEq, Eq)]
+pub enum Arrival {
+    Arrived,
+    /// It was the last, and closes the round.
+    Closer,
+}
+
+/// What a party that has arrived sees of its round.
+#[derive(Clone, Copy, Debug, PartialEq, Eq)]
+pub enum Look {
+    /// Its own sense stands in the word.
+    Ended,
+    /// Some member hasn't arrived.
+    Running,
+    /// All have arrived, and the closer is about to end the round.
+    Closing,
+}
+
+/// What came of one attempt to leave.
+pub enum LeaveStep {
+    Left,
+    Ended,
+    Closing,
+    Again,
+}
+
+/// What came of one attempt to exit.
+pub enum ExitStep {
+    Gone,
+    /// The others have arrived, so the party is the closer, though no member.
+    Closer,
+    Again,
+}
+
+impl<'a, D: Slots> Barrier<'a, D> {
+    /// The party's seat, for the calls of `Round`.
+    pub fn seat(&mut self) -> &mut Seat<D>
+        ensures* writes_back { sem 𝓛
+            (LendsSeat D.row D.Slot.row D.Note.row D.Slots self.entry result) }
+        ensures value { result.now ≡ self.old.seat }
+    {
+        &mut self.seat
+    }
+
+    /// The party has done its part of the round: one fetch_sub of 1 from the count. Who found count 1 is the closer.
+    pub fn arrive(&mut self) -> Arrival
+        requires held { IsHeld self.old }
+        requires free { IsFreeInside self.old.seat.me.0 }
+        requires done { IsDone self.old.seat.me.0 }
+        ensures held { Keeps self.old self.new }
+        ensures step { ArrivedBy result self.old.seat.me self.new.seat.me }
+    {
+        let words = &self.init.table.shared;
+        let found = words.fetch_sub::<Arrives>(&mut self.seat, BARRIER, 1);
+        self.sense = 1 - self.sense;
+        if found % FIELD == 1 {
+            Arrival::Closer
+        } else {
+            Arrival::Arrived
+        }
+    }
+
+    /// What a party that has arrived sees of its round, by one load.
+    pub fn look(&mut self) -> Look
+        requires held { IsHeld self.old }
+        requires waiting { IsWaiting self.old.seat.me.0 }
+        ensures held { Keeps self.old self.new × (self.new.sense ≡ self.old.sense) }
+        ensures step { LookedBy self.old.sense result self.old.seat.me self.new.seat.me }
+    {
+        let words = &self.init.table.shared;
+        let word = words.load::<Looks>(&mut self.seat, BARRIER);
+        if word / SENSE == self.sense {
+            Look::Ended
+        } else if word % FIELD == 0 {
+            Look::Closing
+        } else {
+            Look::Running
+        }
+    }
+}

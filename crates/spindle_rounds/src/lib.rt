@@ -1,0 +1,11 @@
+//! The rounds of a fork-join lock: the table of atomic words that threads change at once, the barrier that parties join and
+//! leave in mid-round, and the calls by which a leader publishes numbered jobs and each party claims and finishes them.
+//!
+//! Nothing here knows what a job is: a piece of a round is whatever has a number.
+#![tactic(auto)]
+
+pub mod barrier;
+pub mod round;
+pub mod round_table;
+#[cfg(test)]
+mod tests;

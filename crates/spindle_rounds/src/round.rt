@@ -1,0 +1,57 @@
+//! The round of a lock: the leader publishes numbered jobs, and every party claims numbers and finishes them.
+ghost use Rattle.std.specs.Prelude.{◌≡◌, ◌≤◌, [], true, IfOk, OnErr, IsErrOf};
+ghost use Rattle.spindle_rounds.specs.RoundSteps.{outsider};
+ghost use Rattle.spindle_rounds.specs.Seating.{IsSeatAt};
+
+use crate::barrier::BarrierInit;
+use crate::round_table::Seat;
+use crate::round_table::slots::{Bare, Slots};
+use spindle_parts::fault::Fault;
+use std::alloc::Global;
+
+pub mod claim;
+pub mod claiming;
+pub mod finishing;
+pub mod publishing;
+pub mod source;
+pub mod stealing;
+pub mod stopping;
+pub mod task;
+#[cfg(test)]
+mod tests;
+
+/// Where the end of a range starts, and the bit of a published word that says that the round may stop.
+pub(crate) const HIGH: u64 = 4294967296;
+
+/// The rounds of a table, with the barrier that ends them.
+#[derive(Drop)]
+pub struct Round<D: Slots> {
+    /// The barrier that parties join.
+    pub init: BarrierInit<D>,
+}
+
+impl Round<Bare> {
+    /// The rounds of up to 32767 threads, and the leader's seat.
+    ///
+    /// # Errors
+    /// `Memory`.
+    pub fn new(alloc: Global, threads: usize) -> Result<(Round<Bare>, Seat<Bare>), Fault>
+        requires threads { (1 ≤ threads) × (threads ≤ 32767) }
+        ensures opened { IfOk result (λ t. (t.0.init.threads ≡ threads)
+            × IsSeatAt t.0.init t.1 × (t.1.id ≡ 0)
+            × (t.1.me ≡ (outsider threads true, []))) }
+        ensures memory { OnErr result (IsErrOf result Fault.Memory) }
+    {
+        let (init, seat) = BarrierInit::open(alloc, threads, 0)?;
+        Ok((Round { init }, seat))
+    }
+}
+
+impl<D: Slots> Round<D> {
+    /// The barrier over the same table.
+    pub fn init(&self) -> &BarrierInit<D>
+        ensures { result.now ≡ self.now.init }
+    {
+        &self.init
+    }
+}

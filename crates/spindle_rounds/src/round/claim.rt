@@ -1,0 +1,118 @@
+//! What a claim gives: a number that has begun, and a share of numbers to begin. Both must be spent.
+ghost use Rattle.std.specs.Prelude.{◌≡◌, ◌+◌, ◌<◌, ◌≤◌, ℕ, Bool, true, IsTrue, ◌↔◌};
+ghost use Rattle.spindle_rounds.specs.Spans.{Span};
+
+use std::marker::Model;
+
+/// A number that a party has begun. It is spent by `Round::finish`.
+pub struct Claimed {
+    number: u64,
+}
+
+/// A claim is its number.
+impl Model for Claimed {
+    ghost Value = { ℕ };
+
+    ghost view = { λ claim. claim.number };
+}
+
+impl Claimed {
+    pub(crate) fn new(number: u64) -> Claimed
+        ensures { result ≡ number }
+    {
+        Claimed { number }
+    }
+
+    /// The number of the job.
+    pub fn number(&self) -> u64
+        ensures { result ≡ self.now }
+    {
+        self.number
+    }
+
+    pub(crate) fn spend(self) {
+        let Claimed { number: _ } = self;
+    }
+}
+
+/// What came of a claim.
+pub enum Claim {
+    Job(Claimed),
+    /// The words that were asked were read as empty in this call.
+    Nothing,
+    /// Another step came between.
+    Again,
+}
+
+/// Numbers that a party has taken and not begun. It is spent by `Share::done` once it is empty.
+pub struct Share {
+    from: u64,
+    to: u64,
+}
+
+/// A share is the numbers left in it.
+impl Model for Share {
+    ghost use Rattle.std.specs.Prelude.{◌≤◌};
+    ghost use Rattle.spindle_rounds.specs.Spans.{Span};
+
+    ghost Value = { Span };
+
+    ghost view = { λ share. record { from = share.from; to = share.to } };
+
+    ghost invariant = { λ share. (share.from ≤ share.to) × (share.to ≤ 4294967295) };
+}
+
+impl Share {
+    pub(crate) fn new(from: u64, to: u64) -> Share
+        requires { (from ≤ to) × (to ≤ 4294967295) }
+        ensures { (result.from ≡ from) × (result.to ≡ to) }
+    {
+        Share { from, to }
+    }
+
+    /// Whether no number is left.
+    pub fn is_empty(&self) -> bool
+        ensures { IsTrue result ↔ (self.now.from ≡ self.now.to) }
+    {
+        self.from == self.to
+    }
+
+    /// Spends an empty share.
+    pub fn done(self)
+        requires { self.from ≡ self.to }
+    {
+        let Share { from: _, to: _ } = self;
+    }
+
+    /// The first number and the end.
+    pub(crate) fn bounds(&self) -> (u64, u64)
+        ensures value { (result.0 ≡ self.now.from) × (result.1 ≡ self.now.to) }
+        ensures ordered { (result.0 ≤ result.1) × (result.1 ≤ 4294967295) }
+    {
+        (self.from, self.to)
+    }
+
+    /// Without its first number.
+    pub(crate) fn drop_first(&mut self)
+        requires { self.old.from < self.old.to }
+        ensures { (self.new.from ≡ self.old.from + 1) × (self.new.to ≡ self.old.to) }
+    {
+        self.from += 1;
+    }
+
+    /// Without any number.
+    pub(crate) fn empty(&mut self)
+        ensures { (self.new.from ≡ self.old.to) × (self.new.to ≡ self.old.to) }
+    {
+        self.from = self.to;
+    }
+}
+
+/// What came of a steal: the first number of the last half of the longest range, and the rest of that half.
+pub enum Steal {
+    Job(Claimed, Share),
+    /// Every range was read as empty in this call.
+    Nothing,
+    /// Another step came between.
+    Again,
+}

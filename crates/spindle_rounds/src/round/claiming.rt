@@ -1,0 +1,58 @@
+//! Claims of a thread from its own range and from the remainder: by one exchange each, a number begins.
+ghost use Rattle.std.specs.Prelude.{◌≡◌, ◌<◌};
+ghost use Rattle.spindle_rounds.specs.RoundAnswers.{OwnClaimed, RestClaimed};
+ghost use Rattle.spindle_rounds.specs.RoundSteps.{number_or};
+ghost use Rattle.spindle_rounds.specs.RoundConditions.{MayClaim};
+ghost use Rattle.spindle_rounds.specs.Seating.{IsSeatAt, IsSameSeat};
+
+use crate::round::claim::{Claim, Claimed};
+use crate::round::{HIGH, Round};
+use crate::round_table::plays::{Claims, ClaimsRest, ReadsRest, Recalls, Searches};
+use crate::round_table::slots::Slots;
+use crate::round_table::{APART, PUBLISHED, RANGES, REST, Seat};
+
+impl<D: Slots> Round<D> {
+    /// Claims the first number of the range of thread t.
+    pub fn try_claim_own(&self, seat: &mut Seat<D>, t: usize) -> Claim
+        requires seated { IsSeatAt self.now.init seat.old }
+        requires thread { t < self.now.init.threads }
+        requires free { MayClaim seat.old.me.0 }
+        ensures seat { IsSameSeat seat.old seat.new }
+        ensures step { OwnClaimed D.discipline t result seat.old.me seat.new.me }
+    {
+        let words = &self.init.table.shared;
+        let word = RANGES + APART * t;
+        let range = words.load::<Searches>(seat, word);
+        if range / HIGH <= range % HIGH {
+            return Claim::Nothing;
+        }
+        let found = words.compare_exchange::<Claims<D>>(seat, word, range, range + 1);
+        if found == range {
+            Claim::Job(Claimed::new(range % HIGH))
+        } else {
+            Claim::Again
+        }
+    }
+
+    /// Claims the last number of the remainder.
+    pub fn try_claim_rest(&self, seat: &mut Seat<D>) -> Claim
+        requires seated { IsSeatAt self.now.init seat.old }
+        requires free { MayClaim seat.old.me.0 }
+        ensures seat { IsSameSeat seat.old seat.new }
+        ensures step { RestClaimed D.discipline (number_or seat.old.me.0.known.number)
+            result seat.old.me seat.new.me }
+    {
+        let words = &self.init.table.shared;
+        let rest = words.load::<ReadsRest>(seat, REST);
+        if rest == 0 {
+            return Claim::Nothing;
+        }
+        let jobs = words.load::<Recalls>(seat, PUBLISHED) % HIGH;
+        let found = words.compare_exchange::<ClaimsRest<D>>(seat, REST, rest, rest - 1);
+        if found == rest {
+            Claim::Job(Claimed::new(jobs - rest))
+        } else {
+            Claim::Again
+        }
+    }
+}

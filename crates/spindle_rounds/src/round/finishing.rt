@@ -1,0 +1,50 @@
+//! The end of a job: its number is counted as finished, and the claim is spent.
+ghost use Rattle.std.specs.Prelude.{◌≡◌, ℕ};
+ghost use Rattle.spindle_rounds.specs.RoundAnswers.{FinishedBy};
+ghost use Rattle.spindle_rounds.specs.RoundSteps.{finishing};
+ghost use Rattle.spindle_rounds.specs.RoundConditions.{MayFinish, MayGive};
+ghost use Rattle.spindle_rounds.specs.Seating.{IsSeatAt, IsSameSeat};
+
+use crate::round::Round;
+use crate::round::claim::Claimed;
+use crate::round_table::plays::Finishes;
+use crate::round_table::slots::{Bare, Slots};
+use crate::round_table::{FINISHED, Seat};
+
+/// A piece of a round, of which the round knows its number alone.
+pub trait Numbered {
+    /// The number of the piece.
+    ghost number: { Self → ℕ };
+}
+
+impl<D: Slots> Round<D> {
+    /// The number of the seat's claim is counted as finished, by one fetch_add. Its slot, if it has one, goes back.
+    pub(crate) fn count_finished(&self, seat: &mut Seat<D>, claimed: Claimed)
+        requires seated { IsSeatAt self.now.init seat.old }
+        requires own { MayFinish claimed seat.old.me.0 }
+        requires slot { MayGive D.discipline claimed seat.old.me }
+        ensures seat { IsSameSeat seat.old seat.new }
+        ensures step { FinishedBy D.discipline seat.old.me seat.new.me }
+    {
+        claimed.spend();
+        self.init
+            .table
+            .shared
+            .fetch_add::<Finishes<D>>(seat, FINISHED, 1);
+    }
+}
+
+impl Round<Bare> {
+    /// Finishes the job that the seat has claimed, whose piece was run.
+    pub fn finish<P: Numbered>(&self, seat: &mut Seat<Bare>, claimed: Claimed, piece: &P)
+        requires seated { IsSeatAt self.now.init seat.old }
+        requires own { MayFinish claimed seat.old.me.0 }
+        requires piece { P.number piece.now ≡ claimed }
+        ensures seat { IsSameSeat seat.old seat.new }
+        ensures step { (found : ℕ)
+            × (seat.new.me ≡ (finishing found seat.old.me.0, seat.old.me.1)) }
+    {
+        let _piece = piece;
+        self.count_finished(seat, claimed);
+    }
+}

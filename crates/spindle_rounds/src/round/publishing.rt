@@ -1,0 +1,74 @@
+//! The leader's part of a round, and the published word.
+ghost use Rattle.std.specs.Prelude.{◌≡◌, ◌<◌, ◌≤◌, true, false};
+ghost use Rattle.spindle_rounds.specs.RoundAnswers.{FilledBy};
+ghost use Rattle.spindle_rounds.specs.RoundSteps.{learning, publishing};
+ghost use Rattle.spindle_rounds.specs.RoundConditions.{MayFill, MayPublish};
+ghost use Rattle.spindle_rounds.specs.Seating.{IsSeatAt, IsSameSeat};
+
+use crate::round::{HIGH, Round};
+use crate::round_table::plays::{Fills, Learns, Publishes, PublishesTry};
+use crate::round_table::slots::Slots;
+use crate::round_table::{APART, FINISHED, PUBLISHED, RANGES, REST, STOPPED, Seat};
+
+impl<D: Slots> Round<D> {
+    /// The published word: 0, or n, or n + 2^32 for a round that may stop.
+    pub fn published(&self, seat: &mut Seat<D>) -> u64
+        requires seated { IsSeatAt self.now.init seat.old }
+        ensures seat { IsSameSeat seat.old seat.new }
+        ensures step { seat.new.me ≡ (learning result seat.old.me.0, seat.old.me.1) }
+    {
+        self.init.table.shared.load::<Learns>(seat, PUBLISHED)
+    }
+
+    /// Stores a round of n jobs: nothing finished, not stopped, the remainder, and each thread's range.
+    pub fn fill(&self, seat: &mut Seat<D>, jobs: u64)
+        requires seated { IsSeatAt self.now.init seat.old }
+        requires leads { MayFill seat.old.me.0 }
+        requires counted { (2 ≤ jobs) × (jobs ≤ 4294967295) }
+        requires ranges { 0 < self.now.init.threads }
+        ensures seat { IsSameSeat seat.old seat.new
+            × (seat.new.me.1 ≡ seat.old.me.1) }
+        ensures filled { FilledBy self.now.init.threads jobs seat.old.me.0 seat.new.me.0 }
+    {
+        let words = &self.init.table.shared;
+        let threads = self.init.threads as u64;
+        words.store::<Fills>(seat, FINISHED, 0);
+        words.store::<Fills>(seat, STOPPED, 0);
+        words.store::<Fills>(seat, REST, jobs % threads);
+        let part = jobs / threads;
+        for i in 0..self.init.threads {
+            let start = part * i as u64;
+            words.store::<Fills>(seat, RANGES + APART * i, start + HIGH * (start + part));
+        }
+    }
+
+    /// Publishes the n jobs that were filled: from now on every member may claim them.
+    pub fn publish(&self, seat: &mut Seat<D>, jobs: u64)
+        requires seated { IsSeatAt self.now.init seat.old }
+        requires leads { MayPublish D.discipline self.now.init.threads jobs seat.old.me.0 }
+        requires counted { (2 ≤ jobs) × (jobs ≤ 4294967295) }
+        requires ranges { 0 < self.now.init.threads }
+        ensures seat { IsSameSeat seat.old seat.new }
+        ensures step { seat.new.me ≡ (publishing false jobs seat.old.me.0, seat.old.me.1) }
+    {
+        self.init
+            .table
+            .shared
+            .store::<Publishes>(seat, PUBLISHED, jobs);
+    }
+
+    /// The same for a round that may stop.
+    pub fn publish_try(&self, seat: &mut Seat<D>, jobs: u64)
+        requires seated { IsSeatAt self.now.init seat.old }
+        requires leads { MayPublish D.discipline self.now.init.threads jobs seat.old.me.0 }
+        requires counted { (2 ≤ jobs) × (jobs ≤ 4294967295) }
+        requires ranges { 0 < self.now.init.threads }
+        ensures seat { IsSameSeat seat.old seat.new }
+        ensures step { seat.new.me ≡ (publishing true jobs seat.old.me.0, seat.old.me.1) }
+    {
+        self.init
+            .table
+            .shared
+            .store::<PublishesTry>(seat, PUBLISHED, jobs + HIGH);
+    }
+}

@@ -1,0 +1,26 @@
+//! The task of a round: how many jobs it has, and whether it may stop.
+ghost use Rattle.std.specs.Prelude.{◌≡◌, ◌%◌, ◌≤◌, ◌↔◌, IsTrue};
+
+use crate::round::HIGH;
+
+/// What a published word says of its round.
+#[derive(Clone, Copy)]
+pub struct Task {
+    /// How many jobs.
+    pub jobs: u64,
+    /// Whether one of them may stop it.
+    pub may_stop: bool,
+}
+
+impl Task {
+    /// The task of a word, which isn't 0.
+    pub fn new(word: u64) -> Task
+        ensures jobs { result.jobs ≡ word % 4294967296 }
+        ensures may_stop { IsTrue result.may_stop ↔ (4294967296 ≤ word) }
+    {
+        Task {
+            jobs: word % HIGH,
+            may_stop: word >= HIGH,
+        }
+    }
+}

@@ -1,0 +1,69 @@
+//! The round table of `t` threads: atomic words that threads change at once, under one rule.
+//!
+//! | word | holds | changed by |
+//! |---|---|---|
+//! | 0 | the barrier word: bits 0 to 14 count the members that haven't arrived, bit 15 is 0, bits 16 to 30 count the members, bit 31 is the sense, the lowest bit of the number of ended rounds; the high half is 0 | join, arrive, leave, exit, end |
+//! | 8 | published: 0 for none, n for a round of n jobs, n + 2^32 for one that may stop | `publish`, `publish_try`; `clear` |
+//! | 16 | finished: how many jobs of the round have finished | `fill`; `finish` |
+//! | 24 | stopped: 1 once the round is stopped | `fill`; `stop` |
+//! | 32 | the remainder: v > 0 stands for job n - v | `fill`; `try_claim_rest` |
+//! | 40 + 8 i | the range of thread i: its start in the low 32 bits, its end, not included, in the high 32 | `fill`; `try_claim_own`, `try_steal`, `put_back` |
+//! | 40 + 8 (t + i) | the share of thread i: what is left of it, in the form of a range; nobody reads it | `next_of_share` |
+//!
+//! Words stand 64 bytes apart, on cache lines of their own. The words between them are unused and stay 0.
+//! A table with t = 0 has no ranges, and nothing can be published on it.
+ghost use Rattle.std.specs.Prelude.{◌≡◌, ◌+◌, ◌*◌, ◌≤◌, true};
+ghost use Rattle.spindle_rounds.specs.RoundRule.{Shown};
+ghost use Rattle.spindle_rounds.specs.RoundSteps.{outsider};
+
+use self::slots::Slots;
+use self::view::View;
+use atomic_table::{Shared, Table, TableRule};
+use std::alloc::Global;
+use std::marker::PhantomData;
+
+pub mod plays;
+pub mod slots;
+pub mod view;
+
+/// The barrier word.
+pub const BARRIER: usize = 0;
+
+/// The number of jobs published.
+pub const PUBLISHED: usize = 8;
+
+/// How many jobs have finished.
+pub const FINISHED: usize = 16;
+
+/// Whether the round was stopped.
+pub const STOPPED: usize = 24;
+
+/// The remainder.
+pub const REST: usize = 32;
+
+/// The first range.
+pub const RANGES: usize = 40;
+
+/// How far one word of a kind is from the next.
+pub const APART: usize = 8;
+
+/// The rule: between any two atomic steps there is a run that ends in a state which words and seats show.
+pub struct RoundRule<D: Slots> {
+    of: PhantomData<D>,
+}
+
+/// The key is the number of threads.
+impl<D: Slots> TableRule<D::Slot, View<D::Note>, u64> for RoundRule<D> {
+    ghost holds = { λ threads s. Shown D.discipline threads s };
+
+    ghost first = { λ threads. outsider threads true };
+}
+
+/// The words as threads share them.
+pub type SharedWords<D: Slots> = Shared<D::Slot, View<D::Note>, u64, RoundRule<D>>;
+
+/// The words with their memory.
+pub type RoundTable<D: Slots> = Table<D::Slot, View<D::Note>, u64, RoundRule<D>, Global>;
+
+/// What one thread steps with.
+pub type Seat<D: Slots> = atomic_table::Seat<D::Slot, View<D::Note>>;
