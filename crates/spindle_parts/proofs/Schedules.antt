@@ -125,7 +125,7 @@ refused_for_memory m (Clear p) = refl
 refused_for_memory m (End p) = refl
 
 -- an accepted step isn't answered by a refusal
-no_refusal : (m : Configuration) (e : Step) (why : Why) → answer m e ≢ Refused why
+pub no_refusal : (m : Configuration) (e : Step) (why : Why) → answer m e ≢ Refused why
 no_refusal m (Join p) why e = cc
 no_refusal m (Publish p n) why e = cc
 no_refusal m (PublishTry p n) why e = cc

@@ -6,7 +6,7 @@
 ghost use Rattle.std.specs.Prelude.{◌≡◌, ◌<◌, ◌≤◌, IfOk, OnErr, IsErrOf};
 ghost use Rattle.spindle_parts.specs.Machine.{initial};
 ghost use Rattle.spindle_parts.specs.Registers.{shown, IsReached, IsTidy};
-ghost use Rattle.spindle_parts.specs.Contents.{configuration};
+ghost use Rattle.spindle_parts.specs.Contents.{configuration, IsFirstJoin, Remembers};
 ghost use Rattle.spindle_parts.specs.Serving.{Replies, IsServed};
 ghost use Rattle.spindle_parts.specs.EveryRun.{EveryRun};
 ghost use Rattle.spindle_parts.specs.EverySchedule.{EverySchedule};
@@ -128,12 +128,16 @@ impl Machine {
         Ok(Machine { registers })
     }
 
-    /// Makes the step, or refuses it and changes nothing. Only a party's first `Join` takes memory.
+    /// Makes the step, or refuses it and changes nothing; a join refused for memory may leave room behind.
+    /// Only the join of a party that never came takes memory.
     ///
     /// Some schedule leads to the configuration before and after it, so what `every_schedule` says holds of both.
     pub fn step(&mut self, step: Step) -> Reply
         ensures served { IsServed (configuration self.old) step (configuration self.new) result }
         ensures reached { IsReached (configuration self.new) }
+        ensures refused { (why : Why) → result ≡ Reply.Refused why → self.new ≡ self.old }
+        ensures memory { result ≡ Reply.Refused Why.Memory → IsFirstJoin self.old step }
+        ensures known { Remembers self.old self.new }
     {
         let registers = &mut self.registers;
         match step {

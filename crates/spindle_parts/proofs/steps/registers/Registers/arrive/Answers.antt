@@ -10,7 +10,7 @@ overflow_sub-self c = let b = (bounds (shown c.args.self.now) c.requires.reached
 
 pub returns-clause-tidy : goal.returns-clause-tidy
 returns-clause-tidy c = let r = c.args.self.now in let t = c.requires.tidy in let le = t.inside in let w = sym c.is_inside.ensures ∙ c.if-not-is_inside.false in subst IsTidy (sym c.close.ensures) record {
-  marks = sense_kept r.entries _ _ _ c.args.party t.marks (known_inside r c.args.party w) _ c.set_sense.ensures;
+  marks = sense_kept r.entries _ _ _ c.args.party t.marks (known_inside r c.args.party w) _ c.set_sense.ensures.written;
   left = t.left;
   inside = omega arith;
   members = t.members;

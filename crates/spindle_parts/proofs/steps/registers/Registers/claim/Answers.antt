@@ -47,7 +47,7 @@ returns-clause-served c = let r = c.args.self.now in let t = c.args.thread in le
       first_past (claim_tests (shown r) p) (own_tests (shown r) t) c.in_ok-count.ensures.tests ∙ own_pass (shown r) t below (λ z. c.if-value-eq0.false (v ∙ z)),
       let x : ℕ = c.in_ok-count.count / c.len-threads.result * t + c.in_ok-count.count / c.len-threads.result - c.index-value.result.now in
           let inn = not_false _ (all_fail (claim_tests (shown r) p) c.in_ok-count.ensures.tests).0 in
-          let seats = runs_shown r.sense r.saw.items r.entries c.set_running.new.entries p (Some x) (known_inside r p inn) c.set_running.ensures in
+          let seats = runs_shown r.sense r.saw.items r.entries c.set_running.new.entries p (Some x) (known_inside r p inn) c.set_running.ensures.written in
           (λ i. record (shown r) { seat = seats i; counters = set r.counters.items t (c.index-value.result.now - 1) })
           ∙ (λ i. record (shown r) { seat = with_running (shown r) p (Some (number i)); counters = set r.counters.items t (v i - 1) }),
     )
@@ -58,7 +58,7 @@ returns-clause-tidy c = let r = c.args.self.now in let t = c.args.thread in let 
     let v = value_is r.counters.items t c.index-value.result.now below c.index-value.ensures in let some = c.if-value-eq0.false in
     let inn = not_false _ (all_fail (claim_tests (shown r) p) c.in_ok-count.ensures.tests).0 in let left = y.left in
     let s = sum_by-set (λ (k : ℕ). k) r.counters.items t (c.index-value.result.now - 1) 0 below in record {
-      marks = running_kept r.entries _ _ _ p y.marks (known_inside r p inn) _ c.set_running.ensures;
+      marks = running_kept r.entries _ _ _ p y.marks (known_inside r p inn) _ c.set_running.ensures.written;
       left = omega arith;
       inside = y.inside;
       members = y.members;

@@ -25,7 +25,7 @@ returns-then-self-eq0-clause-served c = let r = c.args.self.now in let p = c.arg
 
 pub returns-then-self-eq0-clause-tidy : goal.returns-then-self-eq0-clause-tidy
 returns-then-self-eq0-clause-tidy c = let r = c.args.self.now in let t = c.requires.tidy in let le = t.inside in let most = t.members in let w = sym c.is_inside.ensures ∙ c.if-not-is_inside.false in
-    let fits = (sense_kept r.entries c.set_sense.new.entries _ _ c.args.party t.marks (known_inside r c.args.party w) _ c.set_sense.ensures).room in let room = c.turn.ensures.room in subst IsTidy (sym c.turn.ensures.turned) record {
+    let fits = (sense_kept r.entries c.set_sense.new.entries _ _ c.args.party t.marks (known_inside r c.args.party w) _ c.set_sense.ensures.written).room in let room = c.turn.ensures.room in subst IsTidy (sym c.turn.ensures.turned) record {
       marks = no_marks c.set_sense.new.entries c.turn.new.self.saw.items _ c.turn.ensures.saw (omega arith);
       left = t.left;
       inside = omega arith;
@@ -34,7 +34,7 @@ returns-then-self-eq0-clause-tidy c = let r = c.args.self.now in let t = c.requi
 
 pub returns-else-self-eq0-clause-tidy : goal.returns-else-self-eq0-clause-tidy
 returns-else-self-eq0-clause-tidy c = let r = c.args.self.now in let t = c.requires.tidy in let le = t.inside in let most = t.members in let w = sym c.is_inside.ensures ∙ c.if-not-is_inside.false in subst IsTidy (sym c.close.ensures) record {
-  marks = sense_kept r.entries _ _ _ c.args.party t.marks (known_inside r c.args.party w) _ c.set_sense.ensures;
+  marks = sense_kept r.entries _ _ _ c.args.party t.marks (known_inside r c.args.party w) _ c.set_sense.ensures.written;
   left = t.left;
   inside = omega arith;
   members = omega arith;
