@@ -1,5 +1,6 @@
 -- The machine shows the state after a publish and after a claim.
-use Rattle.std.proofs.Common.{◌≡◌, ◌≢◌, ℕ, ◌+◌, ◌*◌, ◌-◌, ◌/◌, ◌%◌, ◌<◌, ◌≤◌, Bool, true, false, ◌||◌, eq-eqb, ne_eqb, List, [], ◌∷◌, ◌++◌, length, get_or, set, replicate, sym, refl, ap, ◌∙◌, subst, arith, Option, Some, None, unwrap_or, get_or-set_same, get_or-set_other}
+use Rattle.std.proofs.Common.{◌≡◌, ◌≢◌, ℕ, ◌+◌, ◌*◌, ◌-◌, ◌/◌, ◌%◌, ◌<◌, ◌≤◌, Bool, true, false, ◌||◌, eq-eqb, ne_eqb, List, [], ◌∷◌, ◌++◌, length, get_or}
+use Rattle.std.proofs.Common.{set, replicate, sym, refl, ap, ◌∙◌, subst, arith, Option, Some, None, unwrap_or, get_or-set_same, get_or-set_other}
 use mathlib.Core.Logic.{dite}
 use native.Mathlib.Decide.{ℕ_discrete}
 use Rattle.std.proofs.lemmas.Nat.{div-add-mod'}
@@ -22,14 +23,21 @@ no_times [] z = refl
 no_times (x ∷ xs) z = let a = z x in let b = tick_same x in absurd (omega arith)
 
 -- at a publish of n jobs
-published_tally : (T n : ℕ) (begun done : List ℕ) → 0 < T → ((k : ℕ) → times k begun ≡ 0) → length done ≡ 0 → Tally (replicate T (n / T)) (n % T) 0 n begun done n
-published_tally T n begun done some fresh none = let cs : List ℕ = replicate T (n / T) in let size : length cs ≡ T = length-replicate T (n / T) in let whole : n ≡ n / T * T + n % T = sym (div-add-mod' n T) in record {
-  own_at_most = λ t lt. let f = ap (λ (z : ℕ). n / z) size in let g = get_or-replicate T t (n / T) 0 (omega arith) in omega arith;
-  rest_at_most = let f = ap (λ (z : ℕ). n % z) size in omega arith;
-  unbegun = λ k lt _. subst (λ (z : ℕ). StandsFor z (n / z) (λ t. get_or cs t 0) (n % T) n k) (sym size) (all_stand T (n / T) n (n % T) whole (λ t. get_or cs t 0) (λ t at. get_or-replicate T t (n / T) 0 at) k lt);
-  left = λ k l. (stands_below T (n / T) n (n % T) whole (λ t. get_or cs t 0) (n % T) k (subst (λ (z : ℕ). StandsFor z (n / z) (λ t. get_or cs t 0) (n % T) n k) size l), fresh k);
-  finished = sym none;
-}
+published_tally : (T n : ℕ) (begun done : List ℕ)
+    → 0 < T → ((k : ℕ) → times k begun ≡ 0) → length done ≡ 0 → Tally (replicate T (n / T)) (n % T) 0 n begun done n
+published_tally T n begun done some fresh none = let cs : List ℕ = replicate T (n / T) in
+    let size : length cs ≡ T = length-replicate T (n / T) in let whole : n ≡ n / T * T + n % T = sym (div-add-mod' n T) in record {
+      own_at_most = λ t lt. let f = ap (λ (z : ℕ). n / z) size in let g = get_or-replicate T t (n / T) 0 (omega arith) in omega arith;
+      rest_at_most = let f = ap (λ (z : ℕ). n % z) size in omega arith;
+      unbegun = λ k lt _. subst (λ (z : ℕ). StandsFor z (n / z) (λ t. get_or cs t 0) (n % T) n k) (sym size)
+          (all_stand T (n / T) n (n % T) whole (λ t. get_or cs t 0) (λ t at. get_or-replicate T t (n / T) 0 at) k lt);
+      left = λ k l. (
+        stands_below T (n / T) n (n % T) whole
+            (λ t. get_or cs t 0) (n % T) k (subst (λ (z : ℕ). StandsFor z (n / z) (λ t. get_or cs t 0) (n % T) n k) size l),
+        fresh k,
+      );
+      finished = sym none;
+    }
 
 module _ (cs : List ℕ) (rem fin jobs : ℕ) (begun done : List ℕ) (n : ℕ) (some : 0 < length cs) (tally : Tally cs rem fin jobs begun done n) where
   abbrev T : ℕ
@@ -46,18 +54,23 @@ module _ (cs : List ℕ) (rem fin jobs : ℕ) (begun done : List ℕ) (n : ℕ) 
 
   -- a number not begun after k was begun
   not_yet : (j k : ℕ) → times j (begun ++ k ∷ []) ≡ 0 → (j ≢ k) × (times j begun ≡ 0)
-  not_yet j k z = dite (ℕ_discrete j k) (λ e. let a = times_same k begun in let b = ap (λ (i : ℕ). times i (begun ++ k ∷ [])) e in absurd (omega arith)) (λ o. (o, sym (times_else j begun k o) ∙ z))
+  not_yet j k z = dite (ℕ_discrete j k) (λ e. let a = times_same k begun in let b = ap (λ (i : ℕ). times i (begun ++ k ∷ [])) e in absurd (omega arith))
+      (λ o. (o, sym (times_else j begun k o) ∙ z))
 
   -- a claim of counter t
-  pub claim_tally : (t k : ℕ) → t < length cs → 0 < get_or cs t 0 → k ≡ n / length cs * t + n / length cs - get_or cs t 0 → Tally (set cs t (get_or cs t 0 - 1)) rem fin jobs (begun ++ k ∷ []) done n
+  pub claim_tally : (t k : ℕ) → t < length cs → 0 < get_or cs t 0
+      → k ≡ n / length cs * t + n / length cs - get_or cs t 0 → Tally (set cs t (get_or cs t 0 - 1)) rem fin jobs (begun ++ k ∷ []) done n
   claim_tally t k lt pos is = let ds : List ℕ = set cs t (get_or cs t 0 - 1) in let size : length ds ≡ length cs = length-set cs t (get_or cs t 0 - 1) in
       let falls : get_or ds t 0 ≡ get_or cs t 0 - 1 = get_or-set_same cs t (get_or cs t 0 - 1) 0 lt in
       let same : (i : ℕ) → i ≢ t → get_or ds i 0 ≡ get_or cs i 0 = λ i o. get_or-set_other cs t i (get_or cs t 0 - 1) 0 o in record {
-        own_at_most = λ i at_i. let f = ap (λ (z : ℕ). n / z) size in let g = tally.own_at_most i (omega arith) in dite (ℕ_discrete i t) (λ e. let a = ap (λ (z : ℕ). get_or ds z 0) e in let b = ap (λ (z : ℕ). get_or cs z 0) e in omega arith) (λ o. let a = same i o in omega arith);
+        own_at_most = λ i at_i. let f = ap (λ (z : ℕ). n / z) size in let g = tally.own_at_most i (omega arith) in dite (ℕ_discrete i t)
+            (λ e. let a = ap (λ (z : ℕ). get_or ds z 0) e in let b = ap (λ (z : ℕ). get_or cs z 0) e in omega arith) (λ o. let a = same i o in omega arith);
         rest_at_most = let f = ap (λ (z : ℕ). n % z) size in let g = tally.rest_at_most in omega arith;
         unbegun = λ j below z. let y = not_yet j k z in subst (λ (w : ℕ). StandsFor w (n / w) (λ i. get_or ds i 0) rem n j) (sym size)
-            (stays_left (length cs) (n / length cs) n (n % length cs) whole (λ i. get_or cs i 0) rem tally.own_at_most tally.rest_at_most (λ i. get_or ds i 0) t lt pos falls same j (λ e. y.0 (e ∙ sym is)) (tally.unbegun j below y.1));
-        left = λ j l. let y = was_left (length cs) (n / length cs) n (n % length cs) whole (λ i. get_or cs i 0) rem tally.own_at_most tally.rest_at_most (λ i. get_or ds i 0) t lt pos falls same j (subst (λ (w : ℕ). StandsFor w (n / w) (λ i. get_or ds i 0) rem n j) size l) in
+            (stays_left (length cs) (n / length cs) n (n % length cs) whole (λ i. get_or cs i 0) rem tally.own_at_most tally.rest_at_most
+            (λ i. get_or ds i 0) t lt pos falls same j (λ e. y.0 (e ∙ sym is)) (tally.unbegun j below y.1));
+        left = λ j l. let y = was_left (length cs) (n / length cs) n (n % length cs) whole (λ i. get_or cs i 0) rem tally.own_at_most tally.rest_at_most
+            (λ i. get_or ds i 0) t lt pos falls same j (subst (λ (w : ℕ). StandsFor w (n / w) (λ i. get_or ds i 0) rem n j) size l) in
             ((tally.left j y.0).0, times_else j begun k (λ e. y.1 (e ∙ is)) ∙ (tally.left j y.0).1);
         finished = tally.finished;
       }
@@ -67,14 +80,19 @@ module _ (cs : List ℕ) (rem fin jobs : ℕ) (begun done : List ℕ) (n : ℕ) 
   rest_tally k pos is = record {
     own_at_most = tally.own_at_most;
     rest_at_most = let g = tally.rest_at_most in omega arith;
-    unbegun = λ j below z. let y = not_yet j k z in stays_rest (length cs) (n / length cs) n (n % length cs) whole (λ i. get_or cs i 0) rem tally.own_at_most tally.rest_at_most pos j (λ e. y.0 (e ∙ sym is)) (tally.unbegun j below y.1);
-    left = λ j l. let y = was_rest (length cs) (n / length cs) n (n % length cs) whole (λ i. get_or cs i 0) rem tally.own_at_most tally.rest_at_most pos j l in ((tally.left j y.0).0, times_else j begun k (λ e. y.1 (e ∙ is)) ∙ (tally.left j y.0).1);
+    unbegun = λ j below z. let y = not_yet j k z in stays_rest (length cs) (n / length cs) n (n % length cs) whole
+        (λ i. get_or cs i 0) rem tally.own_at_most tally.rest_at_most pos j (λ e. y.0 (e ∙ sym is)) (tally.unbegun j below y.1);
+    left = λ j l. let y =
+        was_rest (length cs) (n / length cs) n (n % length cs) whole (λ i. get_or cs i 0) rem tally.own_at_most tally.rest_at_most pos j l in
+        ((tally.left j y.0).0, times_else j begun k (λ e. y.1 (e ∙ is)) ∙ (tally.left j y.0).1);
     finished = tally.finished;
   }
 
   -- what they get is left
-  pub claimed_left : (t : ℕ) → t < length cs → 0 < get_or cs t 0 → (n / length cs * t + n / length cs - get_or cs t 0 < jobs) × (times (n / length cs * t + n / length cs - get_or cs t 0) begun ≡ 0)
-  claimed_left t lt pos = tally.left (n / length cs * t + n / length cs - get_or cs t 0) (first_stands (length cs) (n / length cs) n (n % length cs) whole (λ i. get_or cs i 0) rem t lt (tally.own_at_most t lt) pos)
+  pub claimed_left : (t : ℕ) → t < length cs → 0 < get_or cs t 0
+      → (n / length cs * t + n / length cs - get_or cs t 0 < jobs) × (times (n / length cs * t + n / length cs - get_or cs t 0) begun ≡ 0)
+  claimed_left t lt pos = tally.left (n / length cs * t + n / length cs - get_or cs t 0)
+      (first_stands (length cs) (n / length cs) n (n % length cs) whole (λ i. get_or cs i 0) rem t lt (tally.own_at_most t lt) pos)
 
   pub rested_left : 0 < rem → (n - rem < jobs) × (times (n - rem) begun ≡ 0)
   rested_left pos = tally.left (n - rem) (rest_stands (length cs) (n / length cs) n (n % length cs) whole (λ i. get_or cs i 0) rem tally.rest_at_most pos)
@@ -88,8 +106,10 @@ or_right true b e = refl
 or_right false b e = e
 
 module _ (m : Configuration) (s : State) (a : Agrees m s (now s)) (h : Sound s) (p : ℕ) where
-  pub publishes : (b : Bool) (n : ℕ) → (p ≡ 0) × ((party s p).status ≡ In) × (s.published ≡ None) × (2 ≤ n) × (n ≤ 4294967295) → 0 < length m.counters → Shows (publishing m n b) (publish s b n)
-  publishes b n ok some = let r : Round = record (now s) { jobs = n; stoppable = b } in let none = no_jobs s h p ok.2 (no_closer s h p ok.1) in let unbegun = none_begun h.fate (now s) s.parties h.work none in
+  pub publishes : (b : Bool) (n : ℕ) → (p ≡ 0) × ((party s p).status ≡ In) × (s.published ≡ None) × (2 ≤ n) × (n ≤ 4294967295)
+      → 0 < length m.counters → Shows (publishing m n b) (publish s b n)
+  publishes b n ok some = let r : Round = record (now s) { jobs = n; stoppable = b } in
+      let none = no_jobs s h p ok.2 (no_closer s h p ok.1) in let unbegun = none_begun h.fate (now s) s.parties h.work none in
       shown (publishing m n b) (publish s b n) r (put_here s.rounds s.round r) record {
         seats = a.seats;
         inside = a.inside;
@@ -99,8 +119,10 @@ module _ (m : Configuration) (s : State) (a : Agrees m s (now s)) (h : Sound s) 
         published = refl;
         stoppable = refl;
         stopped = a.stopped;
-        tally = λ k e. let i : n ≡ k = cc in subst (λ (z : ℕ). Tally (replicate (length m.counters) (n / length m.counters)) (n % length m.counters) 0 n (now s).begun (now s).finished z) i
-            (published_tally (length m.counters) n (now s).begun (now s).finished some (λ j. (open_is_free h.fate (now s) s.parties h.work j (unbegun j)).0) (no_times (now s).finished (λ j. h.work.finished j ∙ ap over (unbegun j))));
+        tally = λ k e. let i : n ≡ k = cc in
+            subst (λ (z : ℕ). Tally (replicate (length m.counters) (n / length m.counters)) (n % length m.counters) 0 n (now s).begun (now s).finished z) i
+            (published_tally (length m.counters) n (now s).begun (now s).finished some (λ j. (open_is_free h.fate (now s) s.parties h.work j (unbegun j)).0)
+            (no_times (now s).finished (λ j. h.work.finished j ∙ ap over (unbegun j))));
       }
 
   -- the party as it is once it has taken k
@@ -114,21 +136,32 @@ module _ (m : Configuration) (s : State) (a : Agrees m s (now s)) (h : Sound s) 
   pub may_take : (k : ℕ) → MayBegin s p → Free s k → Allowed s (Take p (only k)) × Allowed (after s (Take p (only k))) (Begin p k)
   may_take k may free = let look = look_here s.parties p (holder k) in (
     (may.published, may.is_in, may.unseen, (k, eq-eqb k k refl), λ j e. subst (Free s) (sym (equal_by j k e)) free),
-    (ap (λ (z : Party). z.status) look ∙ may.is_in, may.unseen, ap (λ (z : Party). z.running) look ∙ may.idle, ap (λ (z : Party). z.taken k) look ∙ or_right ((party s p).taken k) (only k k) (eq-eqb k k refl)),
+    (
+      ap (λ (z : Party). z.status) look ∙ may.is_in,
+      may.unseen,
+      ap (λ (z : Party). z.running) look
+          ∙ may.idle,
+      ap (λ (z : Party). z.taken k) look ∙ or_right ((party s p).taken k) (only k k) (eq-eqb k k refl),
+    ),
   )
 
-  pub begins : (k : ℕ) (cs : List ℕ) (rem : ℕ) → ((n : ℕ) → s.published ≡ Some n → Tally cs rem m.finished (now s).jobs ((now s).begun ++ k ∷ []) (now s).finished n)
-      → Shows (record m { seat = put m.seat p (record (m.seat p) { running = Some k }); counters = cs; remainder = rem }) (after (after s (Take p (only k))) (Begin p k))
-  begins k cs rem tally = let y : Party = record (party (took k) p) { running = Some k; taken = put (party (took k) p).taken k false } in let look = look_here s.parties p (holder k) in
+  pub begins : (k : ℕ) (cs : List ℕ) (rem : ℕ)
+      → ((n : ℕ) → s.published ≡ Some n → Tally cs rem m.finished (now s).jobs ((now s).begun ++ k ∷ []) (now s).finished n)
+      → Shows (record m { seat = put m.seat p (record (m.seat p) { running = Some k }); counters = cs; remainder = rem })
+      (after (after s (Take p (only k))) (Begin p k))
+  begins k cs rem tally = let y : Party = record (party (took k) p) { running = Some k; taken = put (party (took k) p).taken k false } in
+      let look = look_here s.parties p (holder k) in
       let c₀ = same_counts m s a h p s.parties (holder k) refl in let c₁ = same_counts m s a h p (took k).parties y refl in
       works m s a h p (record (m.seat p) { running = Some k }) (took k).parties y (record (now s) { begun = (now s).begun ++ k ∷ [] }) cs rem m.finished
       record {
         status = (a.seats p).status ∙ sym (ap (λ (z : Party). z.status) look);
         running = refl;
         seen = (a.seats p).seen;
-        untaken = put_all (λ j b. b ≡ false) (party (took k) p).taken k false refl (λ j o. ap (λ (z : Party). z.taken j) look ∙ or_false ((party s p).taken j) (only k j) ((a.seats p).untaken j) (ne_eqb j k o));
+        untaken = put_all (λ j b. b ≡ false) (party (took k) p).taken k false refl
+            (λ j o. ap (λ (z : Party). z.taken j) look ∙ or_false ((party s p).taken j) (only k j) ((a.seats p).untaken j) (ne_eqb j k o));
       }
-      (λ q o. subst (λ (z : Party). Fits (m.seat q) z ((now s).seen q)) (sym (look_else s.parties p (holder k) q o)) (a.seats q)) (c₁.0 ∙ c₀.0) (c₁.1 ∙ c₀.1) refl refl tally
+      (λ q o. subst (λ (z : Party). Fits (m.seat q) z ((now s).seen q)) (sym (look_else s.parties p (holder k) q o)) (a.seats q)) (c₁.0
+      ∙ c₀.0) (c₁.1 ∙ c₀.1) refl refl tally
 
   module _ (some : 0 < length m.counters) (may : MayBegin s p) where
     -- what a claim gets, while n are published
@@ -146,14 +179,21 @@ module _ (m : Configuration) (s : State) (a : Agrees m s (now s)) (h : Sound s) 
         go None e = absurd (may.published e)
         go (Some n) e = (n, e)
 
-    pub claims : (t : ℕ) → t < length m.counters → 0 < counter m t → Shows (effect m (Claim p t)) (after (after s (Take p (only (claimed m t)))) (Begin p (claimed m t))) × Free s (claimed m t)
+    pub claims : (t : ℕ) → t < length m.counters
+        → 0 < counter m t → Shows (effect m (Claim p t)) (after (after s (Take p (only (claimed m t)))) (Begin p (claimed m t))) × Free s (claimed m t)
     claims t lt pos = (
-      begins (claimed m t) (set m.counters t (counter m t - 1)) m.remainder (λ n e. claim_tally m.counters m.remainder m.finished (now s).jobs (now s).begun (now s).finished n some (a.tally n e) t (claimed m t) lt pos (claimed_is n t e)),
-      let x = the_published in let f = claimed_left m.counters m.remainder m.finished (now s).jobs (now s).begun (now s).finished x.0 some (a.tally x.0 x.1) t lt pos in subst (Free s) (sym (claimed_is x.0 t x.1)) (f.0, f.1, λ q. (a.seats q).untaken (own m x.0 * t + own m x.0 - counter m t)),
+      begins (claimed m t) (set m.counters t (counter m t - 1)) m.remainder (λ n e. claim_tally m.counters m.remainder m.finished
+          (now s).jobs (now s).begun (now s).finished n some (a.tally n e) t (claimed m t) lt pos (claimed_is n t e)),
+      let x = the_published in
+          let f = claimed_left m.counters m.remainder m.finished (now s).jobs (now s).begun (now s).finished x.0 some (a.tally x.0 x.1) t lt pos in
+          subst (Free s) (sym (claimed_is x.0 t x.1)) (f.0, f.1, λ q. (a.seats q).untaken (own m x.0 * t + own m x.0 - counter m t)),
     )
 
     pub rests : 0 < m.remainder → Shows (effect m (Rest p)) (after (after s (Take p (only (rested m)))) (Begin p (rested m))) × Free s (rested m)
     rests pos = (
-      begins (rested m) m.counters (m.remainder - 1) (λ n e. rest_tally m.counters m.remainder m.finished (now s).jobs (now s).begun (now s).finished n some (a.tally n e) (rested m) pos (rested_is n e)),
-      let x = the_published in let f = rested_left m.counters m.remainder m.finished (now s).jobs (now s).begun (now s).finished x.0 some (a.tally x.0 x.1) pos in subst (Free s) (sym (rested_is x.0 x.1)) (f.0, f.1, λ q. (a.seats q).untaken (x.0 - m.remainder)),
+      begins (rested m) m.counters (m.remainder - 1)
+          (λ n e. rest_tally m.counters m.remainder m.finished (now s).jobs (now s).begun (now s).finished n some (a.tally n e) (rested m) pos (rested_is n e)),
+      let x = the_published in
+          let f = rested_left m.counters m.remainder m.finished (now s).jobs (now s).begun (now s).finished x.0 some (a.tally x.0 x.1) pos in
+          subst (Free s) (sym (rested_is x.0 x.1)) (f.0, f.1, λ q. (a.seats q).untaken (x.0 - m.remainder)),
     )

@@ -1,16 +1,19 @@
 -- The machine's tests of a step all fail exactly where the definitions allow it.
-use Rattle.std.proofs.Common.{◌≡◌, ◌≢◌, ◌⊎◌, inl, inr, ⊎_elim, ℕ, ◌+◌, ◌*◌, ◌-◌, ◌<◌, ◌≤◌, Bool, true, false, not, ◌&&◌, eq-eqb, ne_eqb, ltb as nat_lt, length, sum, sym, refl, ap, ◌∙◌, arith, Option, Some, None, is_some, ◌==◌}
+use Rattle.std.proofs.Common.{◌≡◌, ◌≢◌, ◌⊎◌, inl, inr, ⊎_elim, ℕ, ◌+◌, ◌*◌, ◌-◌, ◌<◌, ◌≤◌, Bool, true, false, not, ◌&&◌, eq-eqb, ne_eqb, ltb as nat_lt}
+use Rattle.std.proofs.Common.{length, sum, sym, refl, ap, ◌∙◌, arith, Option, Some, None, is_some, ◌==◌}
 use mathlib.Core.Logic.{dite}
 use native.Mathlib.Decide.{dec_le}
 use Rattle.std.proofs.lemmas.Bool.{lt-ltb, ltb-true, le-ltb, ltb-false}
 use Rattle.spindle_parts.specs.State.{Status, In, State, now, party, Free}
-use Rattle.spindle_parts.specs.Machine.{Configuration, is_out, is_inside, is_waiting, is_party, status, is_running, counter, own, left, tests, claim_tests, publish_tests}
+use Rattle.spindle_parts.specs.Machine.{Configuration, is_out, is_inside, is_waiting, is_party, status, is_running, counter, own, left, tests, claim_tests}
+use Rattle.spindle_parts.specs.Machine.{publish_tests}
 use Rattle.spindle_parts.specs.EverySchedule.{MayBegin, IsFair, IsInRange}
 use Rattle.spindle_parts.specs.declared.steps.Step.{Step}
 use Rattle.spindle_parts.specs.declared.steps.Step.TheVariants.{Join, Publish, PublishTry, Claim, Rest, Finish, Stop, See, Arrive, Leave, Exit, Clear, End}
 use Rattle.spindle_parts.proofs.Soundness.{Sound, no_closer, no_jobs}
 use Rattle.spindle_parts.proofs.Shares.{none_stands, some_part}
-use Rattle.spindle_parts.proofs.Tests.{AllFail, not_false, not_true, out_by, in_by, waiting_by, none_by, some_by, is_some_of, party_by, is_party_of, equal_by, differ_by, and_left, and_right, unless}
+use Rattle.spindle_parts.proofs.Tests.{AllFail, not_false, not_true, out_by, in_by, waiting_by, none_by, some_by, is_some_of, party_by, is_party_of}
+use Rattle.spindle_parts.proofs.Tests.{equal_by, differ_by, and_left, and_right, unless}
 use Rattle.spindle_parts.proofs.Following.{Agrees}
 use Rattle.spindle_parts.proofs.Claiming.{claimed_left, rested_left}
 
@@ -77,8 +80,11 @@ module _ (m : Configuration) (s : State) (a : Agrees m s (now s)) (h : Sound s) 
   -- where something is left, something is free
   some_free : (n : ℕ) → s.published ≡ Some n → 0 < sum m.counters + m.remainder → (k : ℕ) × Free s k
   some_free n e lt = dite (dec_le 1 m.remainder)
-      (λ pos. let f = rested_left m.counters m.remainder m.finished (now s).jobs (now s).begun (now s).finished n some (a.tally n e) (omega arith) in (n - m.remainder, (f.0, f.1, λ q. (a.seats q).untaken (n - m.remainder))))
-      (λ no. let x = some_part m.counters (omega arith) in let f = claimed_left m.counters m.remainder m.finished (now s).jobs (now s).begun (now s).finished n some (a.tally n e) x.0 x.1 x.2 in (own m n * x.0 + own m n - counter m x.0, (f.0, f.1, λ q. (a.seats q).untaken (own m n * x.0 + own m n - counter m x.0))))
+      (λ pos. let f = rested_left m.counters m.remainder m.finished (now s).jobs (now s).begun (now s).finished n some (a.tally n e) (omega arith) in
+      (n - m.remainder, (f.0, f.1, λ q. (a.seats q).untaken (n - m.remainder))))
+      (λ no. let x = some_part m.counters (omega arith) in
+      let f = claimed_left m.counters m.remainder m.finished (now s).jobs (now s).begun (now s).finished n some (a.tally n e) x.0 x.1 x.2 in
+      (own m n * x.0 + own m n - counter m x.0, (f.0, f.1, λ q. (a.seats q).untaken (own m n * x.0 + own m n - counter m x.0))))
 
   abbrev Used : Type 0
   Used = s.published ≢ None → ((k : ℕ) → Free s k → ⊥) ⊎ ((now s).stopped ≡ true)
@@ -87,22 +93,26 @@ module _ (m : Configuration) (s : State) (a : Agrees m s (now s)) (h : Sound s) 
   used : (b : Bool) → m.stopped ≡ b → (is_some m.published && not b && nat_lt 0 (left m)) ≡ false → Used
   used true st f shown = inr (sym a.stopped ∙ st)
   used false st f shown = let x = some_by m.published (is_some_of m.published (λ e. shown (sym a.published ∙ e))) in
-      inl (nothing_free x.0 (sym a.published ∙ x.1) (let z = ltb-false 0 (left m) (last (is_some m.published) (nat_lt 0 (left m)) f (ap is_some x.1)) in omega arith))
+      inl (nothing_free x.0 (sym a.published ∙ x.1)
+      (let z = ltb-false 0 (left m) (last (is_some m.published) (nat_lt 0 (left m)) f (ap is_some x.1)) in omega arith))
     where
       last : (y z : Bool) → (y && true && z) ≡ false → y ≡ true → z ≡ false
       last true z e t = e
       last false z e t = absurd cc
 
   used_passes : Used → (is_some m.published && not m.stopped && nat_lt 0 (left m)) ≡ false
-  used_passes ok = unless (is_some m.published && not m.stopped) (nat_lt 0 (left m)) (λ t. let shown = and_left (is_some m.published) (not m.stopped) t in let going = and_right (is_some m.published) (not m.stopped) t in let x = some_by m.published shown in
+  used_passes ok = unless (is_some m.published && not m.stopped) (nat_lt 0 (left m)) (λ t. let shown = and_left (is_some m.published) (not m.stopped) t in
+      let going = and_right (is_some m.published) (not m.stopped) t in let x = some_by m.published shown in
       le-ltb 0 (left m) (dite (dec_le (left m) 0) (λ le. le) (λ no. let y = some_free x.0 (sym a.published ∙ x.1) (omega arith) in
-      absurd (⊎_elim (λ (none : (k : ℕ) → Free s k → ⊥). none y.0 y.1) (λ (st : (now s).stopped ≡ true). let z = a.stopped ∙ st in let w = ap not z in cc) (ok (λ e. let z = sym x.1 ∙ (a.published ∙ e) in cc))))))
+      absurd (⊎_elim (λ (none : (k : ℕ) → Free s k → ⊥). none y.0 y.1)
+      (λ (st : (now s).stopped ≡ true). let z = a.stopped ∙ st in let w = ap not z in cc) (ok (λ e. let z = sym x.1 ∙ (a.published ∙ e) in cc))))))
 
   -- a stopped round is published to who is in
   stopped_shown : (party s p).status ≡ In → (now s).stopped ≡ true → s.published ≢ None
   stopped_shown e st z = let j = no_jobs s h p z (no_closer s h p e) in let w = h.work.stops st in let w₁ = w.1 in absurd (omega arith)
 
-  publish_fair : (n : ℕ) → n ≤ 4294967295 → AllFail (publish_tests m p n) → (p ≡ 0) × ((party s p).status ≡ In) × (s.published ≡ None) × (2 ≤ n) × (n ≤ 4294967295)
+  publish_fair : (n : ℕ)
+      → n ≤ 4294967295 → AllFail (publish_tests m p n) → (p ≡ 0) × ((party s p).status ≡ In) × (s.published ≡ None) × (2 ≤ n) × (n ≤ 4294967295)
   publish_fair n le f = (equal_by p 0 (not_false (p == 0) f.0), at_in f.1.0, hidden f.1.1.0, ltb-false n 2 f.1.1.1.0, le)
 
   publish_fails : (n : ℕ) → (p ≡ 0) × ((party s p).status ≡ In) × (s.published ≡ None) × (2 ≤ n) × (n ≤ 4294967295) → AllFail (publish_tests m p n)
@@ -117,35 +127,56 @@ module _ (m : Configuration) (s : State) (a : Agrees m s (now s)) (h : Sound s) 
 module _ (m : Configuration) (s : State) (a : Agrees m s (now s)) (h : Sound s) (some : 0 < length m.counters) where
   -- where no test refuses the step it is fair
   pub fair : (granted : Bool) (e : Step) → IsInRange e → AllFail (tests m granted e) → IsFair m s e
-  fair g (Join p) range f = (sym (a.seats p).status ∙ out_by (status m p) (not_false (is_out (status m p)) f.0), unclosed m s a h some p f.1.1.0, let n = differ_by m.members 32767 f.1.0 in let few = h.gate.few in let i = a.members in omega arith)
+  fair g (Join p) range f = (
+    sym (a.seats p).status ∙ out_by (status m p) (not_false (is_out (status m p)) f.0),
+    unclosed m s a h some p f.1.1.0,
+    let n =
+        differ_by m.members 32767 f.1.0 in let few = h.gate.few in let i = a.members in omega arith,
+  )
   fair g (Publish p n) range f = publish_fair m s a h some p n range f
   fair g (PublishTry p n) range f = publish_fair m s a h some p n range f
-  fair g (Claim p t) range f = (may m s a h some p (f.0, (f.1.0, (f.1.1.0, (f.1.1.1.0, tt)))), ltb-true t (length m.counters) (not_false _ f.1.1.1.1.0), above m s a h some p (counter m t) f.1.1.1.1.1.0)
+  fair g (Claim p t) range f = (
+    may m s a h some p (f.0, (f.1.0, (f.1.1.0, (f.1.1.1.0, tt)))),
+    ltb-true t (length m.counters) (not_false _ f.1.1.1.1.0),
+    above m s a h some p (counter m t) f.1.1.1.1.1.0,
+  )
   fair g (Rest p) range f = (may m s a h some p (f.0, (f.1.0, (f.1.1.0, (f.1.1.1.0, tt)))), above m s a h some p m.remainder f.1.1.1.1.0)
   fair g (Finish p) range f = runs m s a h some p f.0
   fair g (Stop p) range f = (runs m s a h some p f.0, sym a.stoppable ∙ not_false m.stoppable f.1.0)
   fair g (See p) range f = (at_in m s a h some p f.0, sym a.stopped ∙ not_false m.stopped f.1.1.0)
   fair g (Arrive p) range f = (at_in m s a h some p f.0, ((a.seats p).untaken, idle m s a h some p f.1.0), used m s a h some p m.stopped refl f.1.1.0)
-  fair g (Leave p) range f = (sym (a.seats p).status ∙ waiting_by (status m p) (not_false (is_waiting (status m p)) f.0), unclosed m s a h some p f.1.0, stays m s a h some p f.1.1.0)
+  fair g (Leave p) range f = (
+    sym (a.seats p).status
+        ∙ waiting_by (status m p) (not_false (is_waiting (status m p)) f.0),
+    unclosed m s a h some p f.1.0,
+    stays m s a h some p f.1.1.0,
+  )
   fair g (Exit p) range f = (at_in m s a h some p f.0, ((a.seats p).untaken, idle m s a h some p f.1.0), stays m s a h some p f.1.1.0)
   fair g (Clear p) range f = closer_is m s a h some p f.0
   fair g (End p) range f = (closer_is m s a h some p f.0, hidden m s a h some p f.1.0)
 
   claim_passes : (p : ℕ) → MayBegin s p → AllFail (claim_tests m p)
-  claim_passes p y = (in_passes m s a h some p y.is_in, (shown_passes m s a h some p y.published, (idle_passes m s a h some p y.idle, ((a.seats p).seen ∙ y.unseen, tt))))
+  claim_passes p y =
+      (in_passes m s a h some p y.is_in, (shown_passes m s a h some p y.published, (idle_passes m s a h some p y.idle, ((a.seats p).seen ∙ y.unseen, tt))))
 
   -- no test refuses a fair step
   pub fails : (e : Step) → IsFair m s e → AllFail (tests m true e)
-  fails (Join p) ok = (ap (λ (t : Status). not (is_out t)) ((a.seats p).status ∙ ok.0), (ne_eqb m.members 32767 (λ e. let lt = ok.2 in let i = a.members in omega arith), (unclosed_passes m s a h some p ok.1, (refl, tt))))
+  fails (Join p) ok = (
+    ap (λ (t : Status). not (is_out t)) ((a.seats p).status ∙ ok.0),
+    (ne_eqb m.members 32767 (λ e. let lt = ok.2 in let i = a.members in omega arith), (unclosed_passes m s a h some p ok.1, (refl, tt))),
+  )
   fails (Publish p n) ok = publish_fails m s a h some p n ok
   fails (PublishTry p n) ok = publish_fails m s a h some p n ok
-  fails (Claim p t) ok = let y = claim_passes p ok.0 in (y.0, (y.1.0, (y.1.1.0, (y.1.1.1.0, (not_true _ (lt-ltb t (length m.counters) ok.1), (above_passes m s a h some p (counter m t) ok.2, tt))))))
+  fails (Claim p t) ok = let y = claim_passes p ok.0 in
+      (y.0, (y.1.0, (y.1.1.0, (y.1.1.1.0, (not_true _ (lt-ltb t (length m.counters) ok.1), (above_passes m s a h some p (counter m t) ok.2, tt))))))
   fails (Rest p) ok = let y = claim_passes p ok.0 in (y.0, (y.1.0, (y.1.1.0, (y.1.1.1.0, (above_passes m s a h some p m.remainder ok.1, tt)))))
   fails (Finish p) ok = (runs_passes m s a h some p ok, tt)
   fails (Stop p) ok = (runs_passes m s a h some p ok.0, (not_true m.stoppable (a.stoppable ∙ ok.1), tt))
-  fails (See p) ok = (in_passes m s a h some p ok.0, (shown_passes m s a h some p (stopped_shown m s a h some p ok.0 ok.1), (not_true m.stopped (a.stopped ∙ ok.1), tt)))
+  fails (See p) ok =
+      (in_passes m s a h some p ok.0, (shown_passes m s a h some p (stopped_shown m s a h some p ok.0 ok.1), (not_true m.stopped (a.stopped ∙ ok.1), tt)))
   fails (Arrive p) ok = (in_passes m s a h some p ok.0, (idle_passes m s a h some p ok.1.1, (used_passes m s a h some p ok.2, tt)))
-  fails (Leave p) ok = (ap (λ (t : Status). not (is_waiting t)) ((a.seats p).status ∙ ok.0), (unclosed_passes m s a h some p ok.1, (stays_passes m s a h some p ok.2, tt)))
+  fails (Leave p) ok =
+      (ap (λ (t : Status). not (is_waiting t)) ((a.seats p).status ∙ ok.0), (unclosed_passes m s a h some p ok.1, (stays_passes m s a h some p ok.2, tt)))
   fails (Exit p) ok = (in_passes m s a h some p ok.0, (idle_passes m s a h some p ok.1.1, (stays_passes m s a h some p ok.2, tt)))
   fails (Clear p) ok = (closer_passes m s a h some p ok, tt)
   fails (End p) ok = (closer_passes m s a h some p ok.0, (hidden_passes m s a h some p ok.1, tt))

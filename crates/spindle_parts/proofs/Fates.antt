@@ -1,5 +1,6 @@
 -- What each number of a round is, and how one party's change leaves the others.
-use Rattle.std.proofs.Common.{◌≡◌, ◌≢◌, ◌⊎◌, inl, inr, ⊎_elim, ℕ, ◌<◌, ◌≤◌, Bool, true, false, ◌||◌, List, [], ◌∷◌, ◌++◌, sym, refl, ap, ◌∙◌, subst, arith, Option, Some, None, if◌then◌else◌}
+use Rattle.std.proofs.Common.{◌≡◌, ◌≢◌, ◌⊎◌, inl, inr, ⊎_elim, ℕ, ◌<◌, ◌≤◌, Bool, true, false, ◌||◌, List, [], ◌∷◌, ◌++◌, sym, refl, ap, ◌∙◌, subst, arith}
+use Rattle.std.proofs.Common.{Option, Some, None, if◌then◌else◌}
 use mathlib.Core.Logic.{dite}
 use native.Mathlib.Decide.{ℕ_discrete}
 use Rattle.spindle_parts.specs.State.{Status, In, Party, Round, put, no_set, blank, party_of, put_party, times}
@@ -57,7 +58,8 @@ Spared fate fate' q k = (fate' k ≡ fate k) ⊎ (Foreign q (fate k) × Foreign 
 
 pub others_fit : (fate fate' : ℕ → Fate) (q : ℕ) (x : Party) → ((k : ℕ) → Spared fate fate' q k) → Fits fate q x → Fits fate' q x
 others_fit fate fate' q x spared f = record {
-  held = λ k h. ⊎_elim (λ (e : fate' k ≡ fate k). e ∙ f.held k h) (λ (t : Foreign q (fate k) × Foreign q (fate' k)). absurd (t.0.0 (f.held k h))) (spared k);
+  held = λ k h. ⊎_elim
+      (λ (e : fate' k ≡ fate k). e ∙ f.held k h) (λ (t : Foreign q (fate k) × Foreign q (fate' k)). absurd (t.0.0 (f.held k h))) (spared k);
   holds = λ k h. ⊎_elim (λ (e : fate' k ≡ fate k). f.holds k (sym e ∙ h)) (λ (t : Foreign q (fate k) × Foreign q (fate' k)). absurd (t.1.0 h)) (spared k);
   ran = λ k h. ⊎_elim (λ (e : fate' k ≡ fate k). e ∙ f.ran k h) (λ (t : Foreign q (fate k) × Foreign q (fate' k)). absurd (t.0.1 (f.ran k h))) (spared k);
   runs = λ k h. ⊎_elim (λ (e : fate' k ≡ fate k). f.runs k (sym e ∙ h)) (λ (t : Foreign q (fate k) × Foreign q (fate' k)). absurd (t.1.1 h)) (spared k);
@@ -66,7 +68,8 @@ others_fit fate fate' q x spared f = record {
 }
 
 -- the party p is y from now on
-pub fits_put : (fate fate' : ℕ → Fate) (ps : List Party) (p : ℕ) (y : Party) → Fits fate' p y → ((q k : ℕ) → q ≢ p → Spared fate fate' q k) → ((q : ℕ) → Fits fate q (party_of ps q)) → (q : ℕ) → Fits fate' q (party_of (put_party ps p y) q)
+pub fits_put : (fate fate' : ℕ → Fate) (ps : List Party) (p : ℕ) (y : Party) → Fits fate' p y
+    → ((q k : ℕ) → q ≢ p → Spared fate fate' q k) → ((q : ℕ) → Fits fate q (party_of ps q)) → (q : ℕ) → Fits fate' q (party_of (put_party ps p y) q)
 fits_put fate fate' ps p y mine spared f q = dite (ℕ_discrete q p)
     (λ same. subst (λ (z : ℕ). Fits fate' z (party_of (put_party ps p y) z)) (sym same) (subst (Fits fate' p) (sym (look_here ps p y)) mine))
     (λ other. subst (Fits fate' q) (sym (look_else ps p y q other)) (others_fit fate fate' q (party_of ps q) (λ k. spared q k other) (f q)))
@@ -75,24 +78,28 @@ same_fits : (fate : ℕ → Fate) (q k : ℕ) → Spared fate fate q k
 same_fits fate q k = inl refl
 
 -- a new status, where it stays `in` or has nothing
-pub with_status_fits : (fate : ℕ → Fate) (p : ℕ) (x : Party) (t : Status) → (t ≡ In) ⊎ (((k : ℕ) → x.taken k ≡ false) × (x.running ≡ None)) → Fits fate p x → Fits fate p (with_status t x)
+pub with_status_fits : (fate : ℕ → Fate) (p : ℕ) (x : Party) (t : Status)
+    → (t ≡ In) ⊎ (((k : ℕ) → x.taken k ≡ false) × (x.running ≡ None)) → Fits fate p x → Fits fate p (with_status t x)
 with_status_fits fate p x t ok f = record {
   held = f.held;
   holds = f.holds;
   ran = f.ran;
   runs = f.runs;
-  within = λ k h. ⊎_elim (λ (e : t ≡ In). e) (λ (i : ((k : ℕ) → x.taken k ≡ false) × (x.running ≡ None)). ⊎_elim (λ a. let b = f.holds k a in let c = i.0 k in cc) (λ a. let b = f.runs k a in let c = i.1 in cc) h) ok;
+  within = λ k h. ⊎_elim (λ (e : t ≡ In). e) (λ (i : ((k : ℕ) → x.taken k ≡ false) × (x.running ≡ None)). ⊎_elim
+      (λ a. let b = f.holds k a in let c = i.0 k in cc) (λ a. let b = f.runs k a in let c = i.1 in cc) h) ok;
 }
 
 module _ (fate : ℕ → Fate) (r : Round) (ps : List Party) (w : Work fate r ps) (p : ℕ) where
   x : Party
   x = party_of ps p
 
-  pub status_work : (t : Status) → (t ≡ In) ⊎ (((k : ℕ) → (party_of ps p).taken k ≡ false) × ((party_of ps p).running ≡ None)) → Work fate r (put_party ps p (with_status t (party_of ps p)))
+  pub status_work : (t : Status) → (t ≡ In) ⊎ (((k : ℕ) → (party_of ps p).taken k ≡ false) × ((party_of ps p).running ≡ None))
+      → Work fate r (put_party ps p (with_status t (party_of ps p)))
   status_work t ok = record {
     begun = w.begun;
     finished = w.finished;
-    fits = fits_put fate fate ps p (with_status t (party_of ps p)) (with_status_fits fate p (party_of ps p) t ok (w.fits p)) (λ q k _. same_fits fate q k) w.fits;
+    fits = fits_put fate fate ps p (with_status t (party_of ps p)) (with_status_fits fate p (party_of ps p) t ok (w.fits p))
+        (λ q k _. same_fits fate q k) w.fits;
     below = w.below;
     stops = w.stops;
     saw = w.saw;
@@ -101,49 +108,64 @@ module _ (fate : ℕ → Fate) (r : Round) (ps : List Party) (w : Work fate r ps
   -- one number, from the fate f to g, which concern p alone
   spared_at : (k : ℕ) (g : Fate) → ((q : ℕ) → q ≢ p → Foreign q (fate k) × Foreign q g) → (q j : ℕ) → q ≢ p → Spared fate (put fate k g) q j
   spared_at k g alone q j other = dite (ℕ_discrete j k)
-      (λ e. inr (subst (λ (z : ℕ). Foreign q (fate z) × Foreign q (put fate k g z)) (sym e) (subst (λ (z : Fate). Foreign q (fate k) × Foreign q z) (sym (put_here fate k g)) (alone q other))))
+      (λ e. inr (subst (λ (z : ℕ). Foreign q (fate z) × Foreign q (put fate k g z)) (sym e)
+      (subst (λ (z : Fate). Foreign q (fate k) × Foreign q z) (sym (put_here fate k g)) (alone q other))))
       (λ n. inl (put_else fate k g j n))
 
   pub begin_work : (k : ℕ) → (party_of ps p).status ≡ In → (party_of ps p).running ≡ None → (party_of ps p).taken k ≡ true
-      → Work (put fate k (Ran p)) (record r { begun = r.begun ++ k ∷ [] }) (put_party ps p (record (party_of ps p) { running = Some k; taken = put (party_of ps p).taken k false }))
-  begin_work k is_in idle mine = let was : fate k ≡ Held p = (w.fits p).held k mine in let fate' : ℕ → Fate = put fate k (Ran p) in let here : fate' k ≡ Ran p = put_here fate k (Ran p) in
+      → Work (put fate k (Ran p))
+      (record r { begun = r.begun ++ k ∷ [] }) (put_party ps p (record (party_of ps p) { running = Some k; taken = put (party_of ps p).taken k false }))
+  begin_work k is_in idle mine = let was : fate k ≡ Held p = (w.fits p).held k mine in
+      let fate' : ℕ → Fate = put fate k (Ran p) in let here : fate' k ≡ Ran p = put_here fate k (Ran p) in
       let f = w.fits p in record {
         begun = λ j. dite (ℕ_discrete j k)
-            (λ e. subst (λ (z : ℕ). times z (r.begun ++ k ∷ []) ≡ started (fate' z)) (sym e) (let a = w.begun k in let b = ap started was in let c = ap started here in let d = times_same k r.begun in omega arith))
+            (λ e. subst (λ (z : ℕ). times z (r.begun ++ k ∷ []) ≡ started (fate' z)) (sym e)
+            (let a = w.begun k in let b = ap started was in let c = ap started here in let d = times_same k r.begun in omega arith))
             (λ n. times_else j r.begun k n ∙ (w.begun j ∙ sym (ap started (put_else fate k (Ran p) j n))));
         finished = λ j. dite (ℕ_discrete j k)
             (λ e. subst (λ (z : ℕ). times z r.finished ≡ over (fate' z)) (sym e) (w.finished k ∙ (ap over was ∙ sym (ap over here))))
             (λ n. w.finished j ∙ sym (ap over (put_else fate k (Ran p) j n)));
         fits = fits_put fate fate' ps p (record (party_of ps p) { running = Some k; taken = put (party_of ps p).taken k false })
             record {
-              held = λ j h. dite (ℕ_discrete j k) (λ e. let a = put_here (party_of ps p).taken k false in let b = ap (put (party_of ps p).taken k false) e in absurd cc)
+              held = λ j h. dite (ℕ_discrete j k)
+                  (λ e. let a = put_here (party_of ps p).taken k false in let b = ap (put (party_of ps p).taken k false) e in absurd cc)
                   (λ n. put_else fate k (Ran p) j n ∙ f.held j (sym (put_else (party_of ps p).taken k false j n) ∙ h));
               holds = λ j h. dite (ℕ_discrete j k) (λ e. let b = ap fate' e in absurd cc)
                   (λ n. put_else (party_of ps p).taken k false j n ∙ f.holds j (sym (put_else fate k (Ran p) j n) ∙ h));
               ran = λ j h. let e : k ≡ j = cc in subst (λ (z : ℕ). fate' z ≡ Ran p) e here;
-              runs = λ j h. dite (ℕ_discrete j k) (λ e. ap (λ (z : ℕ). Some z) (sym e)) (λ n. let a = f.runs j (sym (put_else fate k (Ran p) j n) ∙ h) in absurd cc);
+              runs = λ j h. dite (ℕ_discrete j k)
+                  (λ e. ap (λ (z : ℕ). Some z) (sym e)) (λ n. let a = f.runs j (sym (put_else fate k (Ran p) j n) ∙ h) in absurd cc);
               within = λ j h. is_in;
             }
-            (spared_at k (Ran p) (λ q other. let e : Foreign q (fate k) = ((λ h. let a : Held p ≡ Held q = sym was ∙ h in let b : p ≡ q = cc in other (sym b)), (λ h. let a : Held p ≡ Ran q = sym was ∙ h in cc)) in (e, ((λ h. cc), (λ h. let b : p ≡ q = cc in other (sym b)))))) w.fits;
-        below = λ j h. dite (ℕ_discrete j k) (λ e. subst (λ (z : ℕ). z < r.jobs) (sym e) (w.below k (λ z. let a : Held p ≡ Open = sym was ∙ z in cc))) (λ n. w.below j (λ z. h (put_else fate k (Ran p) j n ∙ z)));
+            (spared_at k (Ran p) (λ q other. let e : Foreign q (fate k) = (
+              (λ h. let a : Held p ≡ Held q = sym was ∙ h in let b : p ≡ q = cc in
+                  other (sym b)),
+              (λ h. let a : Held p ≡ Ran q = sym was ∙ h in cc),
+            ) in (e, ((λ h. cc), (λ h. let b : p ≡ q = cc in other (sym b)))))) w.fits;
+        below = λ j h. dite (ℕ_discrete j k) (λ e. subst (λ (z : ℕ). z < r.jobs) (sym e) (w.below k (λ z. let a : Held p ≡ Open = sym was ∙ z in cc)))
+            (λ n. w.below j (λ z. h (put_else fate k (Ran p) j n ∙ z)));
         stops = w.stops;
         saw = w.saw;
       }
 
-  pub finish_work : (k : ℕ) → (party_of ps p).running ≡ Some k → Work (put fate k Done) (record r { finished = r.finished ++ k ∷ [] }) (put_party ps p (record (party_of ps p) { running = None }))
+  pub finish_work : (k : ℕ) → (party_of ps p).running ≡ Some k
+      → Work (put fate k Done) (record r { finished = r.finished ++ k ∷ [] }) (put_party ps p (record (party_of ps p) { running = None }))
   finish_work k runs = let f = w.fits p in let was : fate k ≡ Ran p = f.ran k runs in let fate' : ℕ → Fate = put fate k Done in
       let only : (j : ℕ) → fate j ≡ Ran p → j ≡ k = λ j h. let a = f.runs j h in cc in record {
         begun = put_all (λ j g. times j r.begun ≡ started g) fate k Done (w.begun k ∙ ap started was) (λ j _. w.begun j);
-        finished = put_all (λ j g. times j (r.finished ++ k ∷ []) ≡ over g) fate k Done (let a = times_same k r.finished in let b = w.finished k in let c = ap over was in omega arith) (λ j n. times_else j r.finished k n ∙ w.finished j);
+        finished = put_all (λ j g. times j (r.finished ++ k ∷ []) ≡ over g) fate k Done (let a = times_same k r.finished in
+            let b = w.finished k in let c = ap over was in omega arith) (λ j n. times_else j r.finished k n ∙ w.finished j);
         fits = fits_put fate fate' ps p (record (party_of ps p) { running = None })
             record {
               held = λ j h. let a = f.held j h in put_else fate k Done j (λ e. let b = ap fate e in let c = was in absurd cc) ∙ a;
               holds = put_all (λ j g. g ≡ Held p → (party_of ps p).taken j ≡ true) fate k Done (λ h. absurd cc) (λ j _. f.holds j);
               ran = λ j h. absurd cc;
               runs = put_all (λ j g. g ≡ Ran p → None ≡ Some j) fate k Done (λ h. absurd cc) (λ j n h. absurd (n (only j h)));
-              within = put_all (λ j g. (g ≡ Held p) ⊎ (g ≡ Ran p) → (party_of ps p).status ≡ In) fate k Done (⊎_elim (λ h. absurd cc) (λ h. absurd cc)) (λ j _. f.within j);
+              within = put_all (λ j g. (g ≡ Held p) ⊎ (g ≡ Ran p) → (party_of ps p).status ≡ In) fate k Done (⊎_elim (λ h. absurd cc) (λ h. absurd cc))
+                  (λ j _. f.within j);
             }
-            (spared_at k Done (λ q other. (((λ h. let a = was in cc), (λ h. let a = was in let b : p ≡ q = cc in other (sym b))), ((λ h. cc), (λ h. cc))))) w.fits;
+            (spared_at k Done
+            (λ q other. (((λ h. let a = was in cc), (λ h. let a = was in let b : p ≡ q = cc in other (sym b))), ((λ h. cc), (λ h. cc))))) w.fits;
         below = put_all (λ j g. g ≢ Open → j < r.jobs) fate k Done (λ _. w.below k (λ z. let a = was in cc)) (λ j _. w.below j);
         stops = w.stops;
         saw = w.saw;
@@ -153,15 +175,18 @@ module _ (fate : ℕ → Fate) (r : Round) (ps : List Party) (w : Work fate r ps
   taking some k = if some k then Held p else fate k
 
   -- a whole set goes from one fate to another
-  bulk : (P : ℕ → Fate → Type 0) (some : ℕ → Bool) (g : Fate) → ((k : ℕ) → some k ≡ true → P k g) → ((k : ℕ) → some k ≡ false → P k (fate k)) → (k : ℕ) → P k (if some k then g else fate k)
+  bulk : (P : ℕ → Fate → Type 0) (some : ℕ → Bool) (g : Fate)
+      → ((k : ℕ) → some k ≡ true → P k g) → ((k : ℕ) → some k ≡ false → P k (fate k)) → (k : ℕ) → P k (if some k then g else fate k)
   bulk P some g hit miss k = go (some k) (hit k) (miss k)
     where
       go : (b : Bool) → (b ≡ true → P k g) → (b ≡ false → P k (fate k)) → P k (if b then g else fate k)
       go true a b = a refl
       go false a b = b refl
 
-  spared_bulk : (some : ℕ → Bool) (g : Fate) → ((k q : ℕ) → some k ≡ true → q ≢ p → Foreign q (fate k) × Foreign q g) → (q k : ℕ) → q ≢ p → Spared fate (λ j. if some j then g else fate j) q k
-  spared_bulk some g alone q k other = bulk (λ j h. (h ≡ fate j) ⊎ (Foreign q (fate j) × Foreign q h)) some g (λ j e. inr (alone j q e other)) (λ j e. inl refl) k
+  spared_bulk : (some : ℕ → Bool) (g : Fate)
+      → ((k q : ℕ) → some k ≡ true → q ≢ p → Foreign q (fate k) × Foreign q g) → (q k : ℕ) → q ≢ p → Spared fate (λ j. if some j then g else fate j) q k
+  spared_bulk some g alone q k other =
+      bulk (λ j h. (h ≡ fate j) ⊎ (Foreign q (fate j) × Foreign q h)) some g (λ j e. inr (alone j q e other)) (λ j e. inl refl) k
 
   or_true : (a b : Bool) → (a || b) ≡ true → (a ≡ true) ⊎ (b ≡ true)
   or_true true b e = inl refl
@@ -182,13 +207,17 @@ module _ (fate : ℕ → Fate) (r : Round) (ps : List Party) (w : Work fate r ps
     finished = bulk (λ k g. times k r.finished ≡ over g) some (Held p) (λ k e. w.finished k ∙ ap over (is_open k e).0) (λ k _. w.finished k);
     fits = fits_put fate (λ k. if some k then Held p else fate k) ps p (record (party_of ps p) { taken = λ k. (party_of ps p).taken k || some k })
         record {
-          held = λ k h. bulk (λ j g. ((party_of ps p).taken j || some j) ≡ true → g ≡ Held p) some (Held p) (λ j e _. refl) (λ j e t. ⊎_elim (f.held j) (λ a. absurd cc) (or_true ((party_of ps p).taken j) (some j) t)) k h;
-          holds = bulk (λ j g. g ≡ Held p → ((party_of ps p).taken j || some j) ≡ true) some (Held p) (λ j e _. or_right ((party_of ps p).taken j) (some j) e) (λ j e t. or_left ((party_of ps p).taken j) (some j) (f.holds j t));
-          ran = λ k h. bulk (λ j g. (party_of ps p).running ≡ Some j → g ≡ Ran p) some (Held p) (λ j e t. let a = f.ran j t in let b = (is_open j e).0 in absurd cc) (λ j _. f.ran j) k h;
+          held = λ k h. bulk (λ j g. ((party_of ps p).taken j || some j) ≡ true → g ≡ Held p) some (Held p)
+              (λ j e _. refl) (λ j e t. ⊎_elim (f.held j) (λ a. absurd cc) (or_true ((party_of ps p).taken j) (some j) t)) k h;
+          holds = bulk (λ j g. g ≡ Held p → ((party_of ps p).taken j || some j) ≡ true) some (Held p)
+              (λ j e _. or_right ((party_of ps p).taken j) (some j) e) (λ j e t. or_left ((party_of ps p).taken j) (some j) (f.holds j t));
+          ran = λ k h. bulk (λ j g. (party_of ps p).running ≡ Some j → g ≡ Ran p) some (Held p)
+              (λ j e t. let a = f.ran j t in let b = (is_open j e).0 in absurd cc) (λ j _. f.ran j) k h;
           runs = bulk (λ j g. g ≡ Ran p → (party_of ps p).running ≡ Some j) some (Held p) (λ j e h. absurd cc) (λ j _. f.runs j);
           within = λ k _. is_in;
         }
-        (spared_bulk some (Held p) (λ k q e other. let a = (is_open k e).0 in (((λ h. cc), (λ h. cc)), ((λ h. let b : p ≡ q = cc in other (sym b)), (λ h. cc))))) w.fits;
+        (spared_bulk some (Held p)
+        (λ k q e other. let a = (is_open k e).0 in (((λ h. cc), (λ h. cc)), ((λ h. let b : p ≡ q = cc in other (sym b)), (λ h. cc))))) w.fits;
     below = bulk (λ k g. g ≢ Open → k < r.jobs) some (Held p) (λ k e _. (is_open k e).1) (λ k _. w.below k);
     stops = w.stops;
     saw = w.saw;
@@ -202,18 +231,22 @@ module _ (fate : ℕ → Fate) (r : Round) (ps : List Party) (w : Work fate r ps
         record {
           held = λ k h. absurd cc;
           holds = bulk (λ j g. g ≡ Held p → false ≡ true) some Open (λ j e h. absurd cc) (λ j e h. let a = f.holds j h in absurd cc);
-          ran = λ k h. bulk (λ j g. (party_of ps p).running ≡ Some j → g ≡ Ran p) some Open (λ j e t. let a = f.ran j t in let b = f.held j e in absurd cc) (λ j _. f.ran j) k h;
+          ran = λ k h. bulk (λ j g. (party_of ps p).running ≡ Some j → g ≡ Ran p) some Open
+              (λ j e t. let a = f.ran j t in let b = f.held j e in absurd cc) (λ j _. f.ran j) k h;
           runs = bulk (λ j g. g ≡ Ran p → (party_of ps p).running ≡ Some j) some Open (λ j e h. absurd cc) (λ j _. f.runs j);
-          within = bulk (λ j g. (g ≡ Held p) ⊎ (g ≡ Ran p) → (party_of ps p).status ≡ In) some Open (λ j e. ⊎_elim (λ h. absurd cc) (λ h. absurd cc)) (λ j _. f.within j);
+          within = bulk (λ j g. (g ≡ Held p) ⊎ (g ≡ Ran p) → (party_of ps p).status ≡ In) some Open
+              (λ j e. ⊎_elim (λ h. absurd cc) (λ h. absurd cc)) (λ j _. f.within j);
         }
-        (spared_bulk some Open (λ k q e other. let a = f.held k e in (((λ h. let b : p ≡ q = cc in other (sym b)), (λ h. cc)), ((λ h. cc), (λ h. cc))))) w.fits;
+        (spared_bulk some Open
+        (λ k q e other. let a = f.held k e in (((λ h. let b : p ≡ q = cc in other (sym b)), (λ h. cc)), ((λ h. cc), (λ h. cc))))) w.fits;
     below = bulk (λ k g. g ≢ Open → k < r.jobs) some Open (λ k e h. absurd (h refl)) (λ k _. w.below k);
     stops = w.stops;
     saw = w.saw;
   }
 
   -- the round is stopped, or the party sees that it is
-  pub see_work : (st : Bool) → (r.stopped ≡ true → st ≡ true) → (st ≡ true → (r.stoppable ≡ true) × (0 < r.jobs)) → st ≡ true → Work fate (record r { stopped = st; seen = put r.seen p true }) ps
+  pub see_work : (st : Bool) → (r.stopped ≡ true → st ≡ true)
+      → (st ≡ true → (r.stoppable ≡ true) × (0 < r.jobs)) → st ≡ true → Work fate (record r { stopped = st; seen = put r.seen p true }) ps
   see_work st more ok on = record {
     begun = w.begun;
     finished = w.finished;
@@ -242,15 +275,18 @@ module _ (fate : ℕ → Fate) (r : Round) (ps : List Party) (w : Work fate r ps
 
   pub completes : ((q : ℕ) → (party_of ps q).status ≢ In) → ((k : ℕ) → k < r.jobs → fate k ≢ Open) ⊎ (r.stopped ≡ true) → Complete r
   completes none_in spent = record {
-    once = λ k. ⊎_elim (λ e. let a = w.begun k in let b = ap started e in omega arith) (λ e. let a = w.begun k in let b = ap started e in omega arith) (settled none_in k);
-    same = λ k. ⊎_elim (λ e. let a = w.begun k in let b = ap started e in let c = w.finished k in let d = ap over e in omega arith) (λ e. let a = w.begun k in let b = ap started e in let c = w.finished k in let d = ap over e in omega arith) (settled none_in k);
+    once = λ k. ⊎_elim
+        (λ e. let a = w.begun k in let b = ap started e in omega arith) (λ e. let a = w.begun k in let b = ap started e in omega arith) (settled none_in k);
+    same = λ k. ⊎_elim (λ e. let a = w.begun k in let b = ap started e in let c = w.finished k in let d = ap over e in omega arith)
+        (λ e. let a = w.begun k in let b = ap started e in let c = w.finished k in let d = ap over e in omega arith) (settled none_in k);
     below = λ k some. ⊎_elim (λ e. let a = w.begun k in let b = ap started e in absurd (omega arith)) (λ e. w.below k (λ o. cc)) (settled none_in k);
     full = λ going k lt. ⊎_elim (λ all. ⊎_elim (λ e. absurd (all k lt e)) (λ e. w.begun k ∙ ap started e) (settled none_in k)) (λ st. absurd cc) spent;
     stops = λ e. (w.stops e).0;
   }
 
   -- the next round, for the same parties with other statuses
-  pub restarts : ((q : ℕ) → (party_of ps q).status ≢ In) → (qs : List Party) → ((q : ℕ) → (t : Status) × (party_of qs q ≡ with_status t (party_of ps q))) → Work (λ _. Open) blank qs
+  pub restarts : ((q : ℕ) → (party_of ps q).status ≢ In)
+      → (qs : List Party) → ((q : ℕ) → (t : Status) × (party_of qs q ≡ with_status t (party_of ps q))) → Work (λ _. Open) blank qs
   restarts none_in qs as_before = record {
     begun = λ _. refl;
     finished = λ _. refl;

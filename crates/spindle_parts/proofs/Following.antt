@@ -1,15 +1,18 @@
 -- The machine shows the state after each step that the definitions allow.
-use Rattle.std.proofs.Common.{◌≡◌, ◌≢◌, ℕ, ◌+◌, ◌-◌, ◌/◌, ◌%◌, ◌<◌, ◌≤◌, Bool, true, false, not, eq-eqb, ne_eqb, List, ◌++◌, length, get_or, sym, refl, ap, ◌∙◌, subst, arith, Option, Some, None, if◌then◌else◌, ◌==◌, length-append}
+use Rattle.std.proofs.Common.{◌≡◌, ◌≢◌, ℕ, ◌+◌, ◌-◌, ◌/◌, ◌%◌, ◌<◌, ◌≤◌, Bool, true, false, not, eq-eqb, ne_eqb, List, ◌++◌, length, get_or, sym, refl, ap}
+use Rattle.std.proofs.Common.{◌∙◌, subst, arith, Option, Some, None, if◌then◌else◌, ◌==◌, length-append}
 use mathlib.Core.Logic.{dite}
 use native.Mathlib.Decide.{ℕ_discrete}
-use Rattle.spindle_parts.specs.State.{Status, Out, In, Arrived, Party, Round, State, put, party_of, put_party, times, is_in, is_member, weight_in, weight_member, waking, wake, now, party, change, change_round, Free}
+use Rattle.spindle_parts.specs.State.{Status, Out, In, Arrived, Party, Round, State, put, party_of, put_party, times, is_in, is_member, weight_in}
+use Rattle.spindle_parts.specs.State.{weight_member, waking, wake, now, party, change, change_round, Free}
 use Rattle.spindle_parts.specs.State as state
 use Rattle.spindle_parts.specs.Steps.{with_status, Allowed, after, arrived, left, publish, ended_by, Event}
 use Rattle.spindle_parts.specs.Steps as events
 use Rattle.spindle_parts.specs.Machine.{Seat, Configuration, standing, with_seen, turned, closing, effect}
 use Rattle.spindle_parts.specs.EverySchedule.{Shows, StandsFor}
 use Rattle.spindle_parts.specs.declared.steps.Step.TheVariants.{Join, Finish, Stop, See, Arrive, Leave, Exit, Clear, End}
-use Rattle.spindle_parts.proofs.Parties.{put_here, put_else, put_all, look_here, look_else, total_put, total_at, inside_le_members, look_wake, inside_wake, members_wake}
+use Rattle.spindle_parts.proofs.Parties.{moved, with_parties, next_round, put_here, put_else, put_all, look_here, look_else, total_put, total_at}
+use Rattle.spindle_parts.proofs.Parties.{inside_le_members, look_wake, inside_wake, members_wake}
 use Rattle.spindle_parts.proofs.Soundness.{Sound, no_closer, out_of}
 
 -- what the machine knows of a party is so
@@ -20,9 +23,11 @@ pub record Fits (x : Seat) (y : Party) (saw : Bool) : Type 0 where
   pub untaken : (k : ℕ) → y.taken k ≡ false
 
 -- one party's seat and record become x and y
-seats_put : (f : ℕ → Seat) (ps : List Party) (p : ℕ) (x : Seat) (y : Party) (seen : ℕ → Bool) → Fits x y (seen p) → ((q : ℕ) → q ≢ p → Fits (f q) (party_of ps q) (seen q)) → (q : ℕ) → Fits (put f p x q) (party_of (put_party ps p y) q) (seen q)
+seats_put : (f : ℕ → Seat) (ps : List Party) (p : ℕ) (x : Seat) (y : Party) (seen : ℕ → Bool)
+    → Fits x y (seen p) → ((q : ℕ) → q ≢ p → Fits (f q) (party_of ps q) (seen q)) → (q : ℕ) → Fits (put f p x q) (party_of (put_party ps p y) q) (seen q)
 seats_put f ps p x y seen here away q = dite (ℕ_discrete q p)
-    (λ e. subst (λ (z : ℕ). Fits (put f p x z) (party_of (put_party ps p y) z) (seen z)) (sym e) (subst (λ (w : Seat × Party). Fits w.0 w.1 (seen p)) (λ i. (sym (put_here f p x) i, sym (look_here ps p y) i)) here))
+    (λ e. subst (λ (z : ℕ). Fits (put f p x z) (party_of (put_party ps p y) z) (seen z)) (sym e)
+    (subst (λ (w : Seat × Party). Fits w.0 w.1 (seen p)) (λ i. (sym (put_here f p x) i, sym (look_here ps p y) i)) here))
     (λ n. subst (λ (w : Seat × Party). Fits w.0 w.1 (seen q)) (λ i. (sym (put_else f p x q n) i, sym (look_else ps p y q n) i)) (away q n))
 
 -- counters and remainder stand for the jobs that haven't begun
@@ -96,17 +101,16 @@ flipped false r e = omega arith
 
 module _ (m : Configuration) (s : State) (a : Agrees m s (now s)) (h : Sound s) (p : ℕ) where
   -- how many are in and how many are members, where the party's status is t
-  abbrev moved : Status → List Party
-  moved t = put_party s.parties p (with_status t (party s p))
-
-  counts : (t : Status) → (state.inside (moved t) + is_in (party s p).status ≡ state.inside s.parties + is_in t) × (state.members (moved t) + is_member (party s p).status ≡ state.members s.parties + is_member t)
+  counts : (t : Status) → (state.inside (moved s p t) + is_in (party s p).status ≡ state.inside s.parties + is_in t)
+      × (state.members (moved s p t) + is_member (party s p).status ≡ state.members s.parties + is_member t)
   counts t = (total_put weight_in refl s.parties p (with_status t (party s p)), total_put weight_member refl s.parties p (with_status t (party s p)))
 
   -- the party stands otherwise
-  moves : (t : Status) (i n : ℕ) (c : Option ℕ) → i ≡ state.inside (moved t) → n ≡ state.members (moved t) → (d : Option ℕ) → d ≡ c
-      → Agrees (record m { seat = standing m p t; inside = i; members = n; closer = d }) record { round = s.round; parties = moved t; closer = c; published = s.published; rounds = s.rounds } (now s)
+  moves : (t : Status) (i n : ℕ) (c : Option ℕ) → i ≡ state.inside (moved s p t) → n ≡ state.members (moved s p t) → (d : Option ℕ) → d ≡ c
+      → Agrees (record m { seat = standing m p t; inside = i; members = n; closer = d }) (with_parties s (moved s p t) c s.rounds) (now s)
   moves t i n c ins mem d same = record {
-    seats = seats_put m.seat s.parties p (record (m.seat p) { status = t }) (with_status t (party s p)) (now s).seen record { status = refl; running = (a.seats p).running; seen = (a.seats p).seen; untaken = (a.seats p).untaken } (λ q _. a.seats q);
+    seats = seats_put m.seat s.parties p (record (m.seat p) { status = t }) (with_status t (party s p))
+        (now s).seen record { status = refl; running = (a.seats p).running; seen = (a.seats p).seen; untaken = (a.seats p).untaken } (λ q _. a.seats q);
     inside = ins;
     members = mem;
     sense = a.sense;
@@ -118,27 +122,36 @@ module _ (m : Configuration) (s : State) (a : Agrees m s (now s)) (h : Sound s) 
   }
 
   pub joins : Allowed s (events.Join p) → Shows (effect m (Join p)) (after s (events.Join p))
-  joins ok = let c = counts In in let c₀ = c.0 in let c₁ = c.1 in let b₀ = ap is_in ok.0 in let b₁ = ap is_member ok.0 in let i = a.inside in let n = a.members in
-      shown (effect m (Join p)) (after s (events.Join p)) (now s) refl (moves In (m.inside + 1) (m.members + 1) s.closer (omega arith) (omega arith) m.closer a.closer)
+  joins ok = let c = counts In in
+      let c₀ = c.0 in let c₁ = c.1 in let b₀ = ap is_in ok.0 in let b₁ = ap is_member ok.0 in let i = a.inside in let n = a.members in
+      shown (effect m (Join p)) (after s (events.Join p)) (now s) refl
+      (moves In (m.inside + 1) (m.members + 1) s.closer (omega arith) (omega arith) m.closer a.closer)
 
   pub leaves : Allowed s (events.Leave p) → Shows (effect m (Leave p)) (after s (events.Leave p))
-  leaves ok = let c = counts Out in let c₀ = c.0 in let c₁ = c.1 in let b₀ = ap is_in ok.0 in let b₁ = ap is_member ok.0 in let i = a.inside in let n = a.members in
-      shown (effect m (Leave p)) (after s (events.Leave p)) (now s) refl (moves Out m.inside (m.members - 1) s.closer (omega arith) (omega arith) m.closer a.closer)
+  leaves ok = let c = counts Out in
+      let c₀ = c.0 in let c₁ = c.1 in let b₀ = ap is_in ok.0 in let b₁ = ap is_member ok.0 in let i = a.inside in let n = a.members in
+      shown (effect m (Leave p)) (after s (events.Leave p)) (now s) refl
+      (moves Out m.inside (m.members - 1) s.closer (omega arith) (omega arith) m.closer a.closer)
 
   -- the closer, by the machine's count and by the state's
   closes : (i : ℕ) (ps : List Party) → i ≡ state.inside ps → (if i == 0 then Some p else m.closer) ≡ (if state.inside ps == 0 then Some p else s.closer)
   closes i ps e j = if e j == 0 then Some p else a.closer j
 
   pub arrives : Allowed s (events.Arrive p) → Shows (effect m (Arrive p)) (after s (events.Arrive p))
-  arrives ok = let c = counts Arrived in let c₀ = c.0 in let c₁ = c.1 in let b₀ = ap is_in ok.0 in let b₁ = ap is_member ok.0 in let i = a.inside in let n = a.members in
-      let ins : m.inside - 1 ≡ state.inside (moved Arrived) = omega arith in
-      shown (effect m (Arrive p)) (after s (events.Arrive p)) (now s) refl (moves Arrived (m.inside - 1) m.members (if state.inside (moved Arrived) == 0 then Some p else s.closer) ins (omega arith) (if (m.inside - 1) == 0 then Some p else m.closer) (closes (m.inside - 1) (moved Arrived) ins))
+  arrives ok = let c = counts Arrived in
+      let c₀ = c.0 in let c₁ = c.1 in let b₀ = ap is_in ok.0 in let b₁ = ap is_member ok.0 in let i = a.inside in let n = a.members in
+      let ins : m.inside - 1 ≡ state.inside (moved s p Arrived) = omega arith in
+      shown (effect m (Arrive p)) (after s (events.Arrive p)) (now s) refl (moves Arrived (m.inside - 1) m.members (if state.inside (moved s p Arrived) == 0
+      then Some p else s.closer) ins (omega arith) (if (m.inside - 1) == 0 then Some p else m.closer) (closes (m.inside - 1) (moved s p Arrived) ins))
 
   -- a round's end: every seat is woken, in a state where it was so or nobody is a member
-  turns : (x : ℕ → Seat) (ps qs : List Party) (i n : ℕ) → ((q : ℕ) → Fits (x q) (party_of ps q) ((now s).seen q)) → ((q : ℕ) → party_of qs q ≡ with_status (waking (party_of ps q).status) (party_of ps q)) → n ≡ state.inside qs → n ≡ state.members qs → s.published ≡ None
-      → Shows (turned (record m { seat = x; inside = i; members = n })) record { round = s.round + 1; parties = qs; closer = None; published = s.published; rounds = s.rounds }
-  turns x ps qs i n seats woken ins mem hidden = shown _ record { round = s.round + 1; parties = qs; closer = None; published = s.published; rounds = s.rounds } state.blank (h.later (s.round + 1) (omega arith)) record {
-    seats = λ q. subst (λ (y : Party). Fits (record { status = waking (x q).status; running = (x q).running; seen = false }) y false) (sym (woken q)) record { status = ap waking (seats q).status; running = (seats q).running; seen = refl; untaken = (seats q).untaken };
+  turns : (x : ℕ → Seat) (ps qs : List Party) (i n : ℕ)
+      → ((q : ℕ) → Fits (x q) (party_of ps q) ((now s).seen q)) → ((q : ℕ) → party_of qs q ≡ with_status (waking (party_of ps q).status) (party_of ps q))
+      → n ≡ state.inside qs → n ≡ state.members qs → s.published ≡ None
+      → Shows (turned (record m { seat = x; inside = i; members = n })) (next_round s qs None)
+  turns x ps qs i n seats woken ins mem hidden = shown _ (next_round s qs None) state.blank (h.later (s.round + 1) (omega arith)) record {
+    seats = λ q. subst (λ (y : Party). Fits (record { status = waking (x q).status; running = (x q).running; seen = false }) y false)
+        (sym (woken q)) record { status = ap waking (seats q).status; running = (seats q).running; seen = refl; untaken = (seats q).untaken };
     inside = ins;
     members = mem;
     sense = flipped m.sense s.round a.sense;
@@ -150,26 +163,36 @@ module _ (m : Configuration) (s : State) (a : Agrees m s (now s)) (h : Sound s) 
   }
 
   pub ends : Allowed s (events.End p) → Shows (effect m (End p)) (after s (events.End p))
-  ends ok = turns m.seat s.parties (wake s.parties) m.inside m.members a.seats (look_wake s.parties) (a.members ∙ sym (inside_wake s.parties)) (a.members ∙ sym (members_wake s.parties)) ok.1
+  ends ok = turns m.seat s.parties (wake s.parties) m.inside m.members a.seats (look_wake s.parties)
+      (a.members ∙ sym (inside_wake s.parties)) (a.members ∙ sym (members_wake s.parties)) ok.1
 
-  gone : (q : ℕ) → Fits (standing m p Out q) (party_of (moved Out) q) ((now s).seen q)
-  gone = seats_put m.seat s.parties p (record (m.seat p) { status = Out }) (with_status Out (party s p)) (now s).seen record { status = refl; running = (a.seats p).running; seen = (a.seats p).seen; untaken = (a.seats p).untaken } (λ q _. a.seats q)
+  gone : (q : ℕ) → Fits (standing m p Out q) (party_of (moved s p Out) q) ((now s).seen q)
+  gone = seats_put m.seat s.parties p (record (m.seat p) { status = Out }) (with_status Out (party s p))
+      (now s).seen record { status = refl; running = (a.seats p).running; seen = (a.seats p).seen; untaken = (a.seats p).untaken } (λ q _. a.seats q)
 
   -- with no members each party is out, and asleep or awake the same
   asleep : (ps : List Party) → state.members ps ≡ 0 → (q : ℕ) → party_of ps q ≡ with_status (waking (party_of ps q).status) (party_of ps q)
-  asleep ps z q = let e = out_of (party_of ps q).status (let b = total_at weight_member refl ps q in omega arith) in λ i. with_status ((e ∙ sym (ap waking e)) i) (party_of ps q)
+  asleep ps z q = let e = out_of (party_of ps q).status (let b = total_at weight_member refl ps q in omega arith) in
+      λ i. with_status ((e ∙ sym (ap waking e)) i) (party_of ps q)
 
-  pub exits : Allowed s (events.Exit p) → (state.members (moved Out) ≡ 0 → s.published ≡ None) → Shows (effect m (Exit p)) (after s (events.Exit p))
-  exits ok hidden = let c = counts Out in let c₀ = c.0 in let c₁ = c.1 in let b₀ = ap is_in ok.0 in let b₁ = ap is_member ok.0 in let i = a.inside in let n = a.members in
-      let ins : m.inside - 1 ≡ state.inside (moved Out) = omega arith in let mem : m.members - 1 ≡ state.members (moved Out) = omega arith in let le = inside_le_members (moved Out) in
+  pub exits : Allowed s (events.Exit p) → (state.members (moved s p Out) ≡ 0 → s.published ≡ None) → Shows (effect m (Exit p)) (after s (events.Exit p))
+  exits ok hidden = let c = counts Out in
+      let c₀ = c.0 in let c₁ = c.1 in let b₀ = ap is_in ok.0 in let b₁ = ap is_member ok.0 in let i = a.inside in let n = a.members in
+      let ins : m.inside - 1 ≡ state.inside (moved s p Out) = omega arith in
+      let mem : m.members - 1 ≡ state.members (moved s p Out) = omega arith in let le = inside_le_members (moved s p Out) in
       let left' : Configuration = record m { seat = standing m p Out; inside = m.inside - 1; members = m.members - 1 } in
-      let on : State = record { round = s.round + 1; parties = moved Out; closer = s.closer; published = s.published; rounds = s.rounds } in
+      let on : State = next_round s (moved s p Out) s.closer in
       dite (ℕ_discrete (m.members - 1) 0)
-      (λ z. let z' : state.members (moved Out) ≡ 0 = sym mem ∙ z in subst (λ (w : Bool × Bool). Shows (if w.0 then turned left' else closing left' p) (if w.1 then on else arrived s p (moved Out))) (λ j. (sym (eq-eqb (m.members - 1) 0 z) j, sym (eq-eqb (state.members (moved Out)) 0 z') j))
-      (subst (λ (o : Option ℕ). Shows (turned left') record { round = s.round + 1; parties = moved Out; closer = o; published = s.published; rounds = s.rounds }) (sym (no_closer s h p ok.0))
-      (turns (standing m p Out) (moved Out) (moved Out) (m.inside - 1) (m.members - 1) gone (asleep (moved Out) z') (omega arith) mem (hidden z'))))
-      (λ o. let o' : state.members (moved Out) ≢ 0 = λ e. o (mem ∙ e) in subst (λ (w : Bool × Bool). Shows (if w.0 then turned left' else closing left' p) (if w.1 then on else arrived s p (moved Out))) (λ j. (sym (ne_eqb (m.members - 1) 0 o) j, sym (ne_eqb (state.members (moved Out)) 0 o') j))
-      (shown (closing left' p) (arrived s p (moved Out)) (now s) refl (moves Out (m.inside - 1) (m.members - 1) (if state.inside (moved Out) == 0 then Some p else s.closer) ins mem (if (m.inside - 1) == 0 then Some p else m.closer) (closes (m.inside - 1) (moved Out) ins))))
+      (λ z. let z' : state.members (moved s p Out) ≡ 0 = sym mem ∙ z in subst (λ (w : Bool × Bool). Shows (if w.0 then turned left' else closing left' p)
+      (if w.1 then on else arrived s p (moved s p Out))) (λ j. (sym (eq-eqb (m.members - 1) 0 z) j, sym (eq-eqb (state.members (moved s p Out)) 0 z') j))
+      (subst (λ (o : Option ℕ). Shows (turned left') (next_round s (moved s p Out) o)) (sym (no_closer s h p ok.0))
+      (turns (standing m p Out)
+      (moved s p Out) (moved s p Out) (m.inside - 1) (m.members - 1) gone (asleep (moved s p Out) z') (omega arith) mem (hidden z'))))
+      (λ o. let o' : state.members (moved s p Out) ≢ 0 = λ e. o (mem ∙ e) in
+      subst (λ (w : Bool × Bool). Shows (if w.0 then turned left' else closing left' p) (if w.1 then on else arrived s p (moved s p Out)))
+      (λ j. (sym (ne_eqb (m.members - 1) 0 o) j, sym (ne_eqb (state.members (moved s p Out)) 0 o') j))
+      (shown (closing left' p) (arrived s p (moved s p Out)) (now s) refl (moves Out (m.inside - 1) (m.members - 1) (if state.inside (moved s p Out) == 0
+      then Some p else s.closer) ins mem (if (m.inside - 1) == 0 then Some p else m.closer) (closes (m.inside - 1) (moved s p Out) ins))))
 
   pub clears : Shows (effect m (Clear p)) (after s (events.Clear p))
   clears = shown (effect m (Clear p)) (after s (events.Clear p)) (now s) refl record {
@@ -185,54 +208,65 @@ module _ (m : Configuration) (s : State) (a : Agrees m s (now s)) (h : Sound s) 
   }
 
   -- the party has seen the stop, in a round stopped or not
-  sees : (b : Bool) → Shows (record m { seat = with_seen m p; stopped = b }) (change_round s (record (now s) { stopped = b; seen = put (now s).seen p true }))
-  sees b = let r : Round = record (now s) { stopped = b; seen = put (now s).seen p true } in shown (record m { seat = with_seen m p; stopped = b }) (change_round s r) r (put_here s.rounds s.round r) record {
-    seats = put_all (λ q x. Fits x (party s q) (put (now s).seen p true q)) m.seat p (record (m.seat p) { seen = true })
-        record { status = (a.seats p).status; running = (a.seats p).running; seen = sym (put_here (now s).seen p true); untaken = (a.seats p).untaken }
-        (λ q n. subst (Fits (m.seat q) (party s q)) (sym (put_else (now s).seen p true q n)) (a.seats q));
-    inside = a.inside;
-    members = a.members;
-    sense = a.sense;
-    closer = a.closer;
-    published = a.published;
-    stoppable = a.stoppable;
-    stopped = refl;
-    tally = a.tally;
-  }
+  sees : (b : Bool)
+      → Shows (record m { seat = with_seen m p; stopped = b }) (change_round s (record (now s) { stopped = b; seen = put (now s).seen p true }))
+  sees b = let r : Round = record (now s) { stopped = b; seen = put (now s).seen p true } in
+      shown (record m { seat = with_seen m p; stopped = b }) (change_round s r) r (put_here s.rounds s.round r) record {
+        seats = put_all (λ q x. Fits x (party s q) (put (now s).seen p true q)) m.seat p (record (m.seat p) { seen = true })
+            record { status = (a.seats p).status; running = (a.seats p).running; seen = sym (put_here (now s).seen p true); untaken = (a.seats p).untaken }
+            (λ q n. subst (Fits (m.seat q) (party s q)) (sym (put_else (now s).seen p true q n)) (a.seats q));
+        inside = a.inside;
+        members = a.members;
+        sense = a.sense;
+        closer = a.closer;
+        published = a.published;
+        stoppable = a.stoppable;
+        stopped = refl;
+        tally = a.tally;
+      }
 
   pub stops : Shows (effect m (Stop p)) (after s (events.Stop p))
   stops = sees true
 
   pub looks : Shows (effect m (See p)) (after s (events.See p))
-  looks = subst (λ (b : Bool × Bool). Shows (record m { seat = with_seen m p; stopped = b.0 }) (change_round s (record (now s) { stopped = b.1; seen = put (now s).seen p true }))) (λ i. (sym (a.stopped) i, (now s).stopped)) (sees (now s).stopped)
+  looks = subst (λ (b : Bool × Bool). Shows (record m { seat = with_seen m p; stopped = b.0 }) (change_round s
+      (record (now s) { stopped = b.1; seen = put (now s).seen p true }))) (λ i. (sym (a.stopped) i, (now s).stopped)) (sees (now s).stopped)
 
   -- the round's record and one party's become r and y, in a round whose jobs run
-  pub works : (x : Seat) (ps : List Party) (y : Party) (r : Round) (cs : List ℕ) (rem fin : ℕ) → Fits x y (r.seen p) → ((q : ℕ) → q ≢ p → Fits (m.seat q) (party_of ps q) (r.seen q)) → state.inside (put_party ps p y) ≡ state.inside s.parties → state.members (put_party ps p y) ≡ state.members s.parties
+  pub works : (x : Seat) (ps : List Party) (y : Party) (r : Round) (cs : List ℕ) (rem fin : ℕ)
+      → Fits x y (r.seen p) → ((q : ℕ) → q ≢ p → Fits (m.seat q) (party_of ps q) (r.seen q))
+      → state.inside (put_party ps p y) ≡ state.inside s.parties → state.members (put_party ps p y) ≡ state.members s.parties
       → r.stoppable ≡ (now s).stoppable → r.stopped ≡ (now s).stopped → ((n : ℕ) → s.published ≡ Some n → Tally cs rem fin r.jobs r.begun r.finished n)
-      → Shows (record m { seat = put m.seat p x; counters = cs; remainder = rem; finished = fin }) record { round = s.round; parties = put_party ps p y; closer = s.closer; published = s.published; rounds = put s.rounds s.round r }
-  works x ps y r cs rem fin here away ins mem stoppable stopped tally = shown _ record { round = s.round; parties = put_party ps p y; closer = s.closer; published = s.published; rounds = put s.rounds s.round r } r (put_here s.rounds s.round r) record {
-    seats = seats_put m.seat ps p x y r.seen here away;
-    inside = a.inside ∙ sym ins;
-    members = a.members ∙ sym mem;
-    sense = a.sense;
-    closer = a.closer;
-    published = a.published;
-    stoppable = a.stoppable ∙ sym stoppable;
-    stopped = a.stopped ∙ sym stopped;
-    tally = tally;
-  }
+      → Shows (record m { seat = put m.seat p x; counters = cs; remainder = rem; finished = fin })
+      (with_parties s (put_party ps p y) s.closer (put s.rounds s.round r))
+  works x ps y r cs rem fin here away ins mem stoppable stopped tally =
+      shown _ (with_parties s (put_party ps p y) s.closer (put s.rounds s.round r)) r (put_here s.rounds s.round r) record {
+        seats = seats_put m.seat ps p x y r.seen here away;
+        inside = a.inside ∙ sym ins;
+        members = a.members ∙ sym mem;
+        sense = a.sense;
+        closer = a.closer;
+        published = a.published;
+        stoppable = a.stoppable ∙ sym stoppable;
+        stopped = a.stopped ∙ sym stopped;
+        tally = tally;
+      }
 
-  pub same_counts : (ps : List Party) (y : Party) → y.status ≡ (party_of ps p).status → (state.inside (put_party ps p y) ≡ state.inside ps) × (state.members (put_party ps p y) ≡ state.members ps)
-  same_counts ps y e = let c₀ = total_put weight_in refl ps p y in let c₁ = total_put weight_member refl ps p y in let b₀ = ap is_in e in let b₁ = ap is_member e in (omega arith, omega arith)
+  pub same_counts : (ps : List Party) (y : Party)
+      → y.status ≡ (party_of ps p).status → (state.inside (put_party ps p y) ≡ state.inside ps) × (state.members (put_party ps p y) ≡ state.members ps)
+  same_counts ps y e = let c₀ = total_put weight_in refl ps p y in
+      let c₁ = total_put weight_member refl ps p y in let b₀ = ap is_in e in let b₁ = ap is_member e in (omega arith, omega arith)
 
   pub finishes : Allowed s (events.Finish p) → Shows (effect m (Finish p)) (after s (events.Finish p))
   finishes ok = let y : Party = record (party s p) { running = None } in let c = same_counts s.parties y refl in let l = ap ended_by ok.1 in
-      works (record (m.seat p) { running = None }) s.parties y (record (now s) { finished = (now s).finished ++ ended_by (party s p).running }) m.counters m.remainder (m.finished + 1)
+      works (record (m.seat p) { running = None }) s.parties y
+      (record (now s) { finished = (now s).finished ++ ended_by (party s p).running }) m.counters m.remainder (m.finished + 1)
       record { status = (a.seats p).status; running = refl; seen = (a.seats p).seen; untaken = (a.seats p).untaken } (λ q _. a.seats q) c.0 c.1 refl refl
       (λ n e. let t = a.tally n e in record {
         own_at_most = t.own_at_most;
         rest_at_most = t.rest_at_most;
         unbegun = t.unbegun;
         left = t.left;
-        finished = let f = t.finished in let g = length-append (now s).finished (ended_by (party s p).running) in let i : length (ended_by (party s p).running) ≡ 1 = ap (λ (z : List ℕ). length z) l in omega arith;
+        finished = let f = t.finished in let g = length-append (now s).finished (ended_by (party s p).running) in
+            let i : length (ended_by (party s p).running) ≡ 1 = ap (λ (z : List ℕ). length z) l in omega arith;
       })

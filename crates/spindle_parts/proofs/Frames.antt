@@ -1,10 +1,14 @@
 -- What an event of one party leaves of another.
-use Rattle.std.proofs.Common.{◌≡◌, ◌≢◌, ◌⊎◌, inl, inr, ⊎_elim, ℕ, suc, ◌+◌, ◌<◌, ◌≤◌, Bool, true, false, ◌||◌, eq-eqb, ne_eqb, List, [], ◌∷◌, ◌++◌, sym, refl, ap, ◌∙◌, subst, arith, Option, Some, None, if◌then◌else◌, ◌==◌}
+use Rattle.std.proofs.Common.{◌≡◌, ◌≢◌, ◌⊎◌, inl, inr, ⊎_elim, ℕ, suc, ◌+◌, ◌<◌, ◌≤◌, Bool, true, false, ◌||◌, eq-eqb, ne_eqb, List, [], ◌∷◌, ◌++◌, sym}
+use Rattle.std.proofs.Common.{refl, ap, ◌∙◌, subst, arith, Option, Some, None, if◌then◌else◌, ◌==◌}
 use mathlib.Core.Logic.{dite}
 use native.Mathlib.Decide.{ℕ_discrete}
-use Rattle.spindle_parts.specs.State.{Status, Out, In, Arrived, Party, Round, State, put, no_set, party_of, put_party, times, weight_member, inside, members, waking, now, party, Free}
-use Rattle.spindle_parts.specs.Steps.{with_status, Allowed, after, arrived, left, publish, ended_by, by, Event, Join, Publish, PublishTry, Take, Begin, Finish, Stop, See, PutBack, Arrive, Leave, Exit, Clear, End}
-use Rattle.spindle_parts.proofs.Parties.{put_here, put_else, look_here, look_else, total_at, look_wake, times_same, times_snoc}
+use Rattle.spindle_parts.specs.State.{Status, Out, In, Arrived, Party, Round, State, put, no_set, party_of, put_party, times, weight_member, inside}
+use Rattle.spindle_parts.specs.State.{members, waking, now, party, Free}
+use Rattle.spindle_parts.specs.Steps.{with_status, Allowed, after, arrived, left, publish, ended_by, by, Event, Join, Publish, PublishTry, Take, Begin}
+use Rattle.spindle_parts.specs.Steps.{Finish, Stop, See, PutBack, Arrive, Leave, Exit, Clear, End}
+use Rattle.spindle_parts.proofs.Parties.{moved, with_parties, next_round, put_here, put_else, look_here, look_else, total_at, look_wake, times_same}
+use Rattle.spindle_parts.proofs.Parties.{times_snoc}
 use Rattle.spindle_parts.proofs.Soundness.{Sound, no_closer, closers, none_in, out_of, alone_hidden}
 
 -- what is free afterwards was free
@@ -42,13 +46,16 @@ Frame s s' q = Steady s s' q ⊎ Turned s s' q
 
 module _ (s : State) (h : Sound s) (p q : ℕ) (other : q ≢ p) where
   -- the numbers that each party has, where p has become y
-  taken_put : (y : Party) (k : ℕ) → (y.taken k ≡ false → (party s p).taken k ≡ false) → ((a : ℕ) → (party_of (put_party s.parties p y) a).taken k ≡ false) → (a : ℕ) → (party s a).taken k ≡ false
-  taken_put y k mine all a = dite (ℕ_discrete a p) (λ e. subst (λ (z : ℕ). (party s z).taken k ≡ false) (sym e) (mine (sym (ap (λ (z : Party). z.taken k) (look_here s.parties p y)) ∙ all p)))
+  taken_put : (y : Party) (k : ℕ) → (y.taken k ≡ false → (party s p).taken k ≡ false)
+      → ((a : ℕ) → (party_of (put_party s.parties p y) a).taken k ≡ false) → (a : ℕ) → (party s a).taken k ≡ false
+  taken_put y k mine all a = dite (ℕ_discrete a p)
+      (λ e. subst (λ (z : ℕ). (party s z).taken k ≡ false) (sym e) (mine (sym (ap (λ (z : Party). z.taken k) (look_here s.parties p y)) ∙ all p)))
       (λ n. sym (ap (λ (z : Party). z.taken k) (look_else s.parties p y a n)) ∙ all a)
 
   -- the party p becomes y, in the same round
-  changed : (y : Party) (c : Option ℕ) → (s.closer ≡ Some q → c ≡ Some q) × (s.closer ≢ Some q → c ≢ Some q) → Lessens s record { round = s.round; parties = put_party s.parties p y; closer = c; published = s.published; rounds = s.rounds }
-      → Frame s record { round = s.round; parties = put_party s.parties p y; closer = c; published = s.published; rounds = s.rounds } q
+  changed : (y : Party) (c : Option ℕ)
+      → (s.closer ≡ Some q → c ≡ Some q) × (s.closer ≢ Some q → c ≢ Some q) → Lessens s (with_parties s (put_party s.parties p y) c s.rounds)
+      → Frame s (with_parties s (put_party s.parties p y) c s.rounds) q
   changed y c cl used = inl record {
     round = refl;
     same = look_else s.parties p y q other;
@@ -62,13 +69,15 @@ module _ (s : State) (h : Sound s) (p q : ℕ) (other : q ≢ p) where
   }
 
   -- a new status and no more
-  restatus : (t : Status) (c : Option ℕ) → (s.closer ≡ Some q → c ≡ Some q) × (s.closer ≢ Some q → c ≢ Some q) → Frame s record { round = s.round; parties = put_party s.parties p (with_status t (party s p)); closer = c; published = s.published; rounds = s.rounds } q
+  restatus : (t : Status) (c : Option ℕ)
+      → (s.closer ≡ Some q → c ≡ Some q) × (s.closer ≢ Some q → c ≢ Some q) → Frame s (with_parties s (moved s p t) c s.rounds) q
   restatus t c cl = changed (with_status t (party s p)) c cl
       (inl (λ _ k f. (f.0, f.1, taken_put (with_status t (party s p)) k (λ e. e) f.2)))
 
   -- the round's record becomes r too
-  reworked : (ps : List Party) (r : Round) → party_of ps q ≡ party s q → r.seen q ≡ (now s).seen q → r.stoppable ≡ (now s).stoppable → ((now s).stopped ≡ true → r.stopped ≡ true) → Lessens s record { round = s.round; parties = ps; closer = s.closer; published = s.published; rounds = put s.rounds s.round r }
-      → Frame s record { round = s.round; parties = ps; closer = s.closer; published = s.published; rounds = put s.rounds s.round r } q
+  reworked : (ps : List Party) (r : Round) → party_of ps q ≡ party s q → r.seen q ≡ (now s).seen q
+      → r.stoppable ≡ (now s).stoppable → ((now s).stopped ≡ true → r.stopped ≡ true) → Lessens s (with_parties s ps s.closer (put s.rounds s.round r))
+      → Frame s (with_parties s ps s.closer (put s.rounds s.round r)) q
   reworked ps r same seen may_stop stopped used = inl record {
     round = refl;
     same = same;
@@ -82,15 +91,20 @@ module _ (s : State) (h : Sound s) (p q : ℕ) (other : q ≢ p) where
   }
 
   -- nobody but p can have become the closer
-  new_closer : (ps : List Party) → (party s p).status ≡ In → let c : Option ℕ = if inside ps == 0 then Some p else s.closer in (s.closer ≡ Some q → c ≡ Some q) × (s.closer ≢ Some q → c ≢ Some q)
-  new_closer ps at_in = let z = no_closer s h p at_in in closers (λ c. (s.closer ≡ Some q → c ≡ Some q) × (s.closer ≢ Some q → c ≢ Some q)) (inside ps) p s.closer
+  new_closer : (ps : List Party) → (party s p).status ≡ In → let c : Option ℕ = if inside ps == 0 then Some p else s.closer in
+      (s.closer ≡ Some q → c ≡ Some q) × (s.closer ≢ Some q → c ≢ Some q)
+  new_closer ps at_in = let z = no_closer s h p at_in in
+      closers (λ c. (s.closer ≡ Some q → c ≡ Some q) × (s.closer ≢ Some q → c ≢ Some q)) (inside ps) p s.closer
       (λ _. ((λ e. absurd cc), (λ _ e. let a : p ≡ q = cc in other (sym a)))) (λ _. ((λ e. e), (λ e. e)))
 
   -- the same, where what is free afterwards was free
-  reworked_free : (ps : List Party) (r : Round) → party_of ps q ≡ party s q → r.seen q ≡ (now s).seen q → r.stoppable ≡ (now s).stoppable → ((now s).stopped ≡ true → r.stopped ≡ true) → ((k : ℕ) → (k < r.jobs) × (times k r.begun ≡ 0) × ((a : ℕ) → (party_of ps a).taken k ≡ false) → Free s k)
-      → Frame s record { round = s.round; parties = ps; closer = s.closer; published = s.published; rounds = put s.rounds s.round r } q
+  reworked_free : (ps : List Party) (r : Round)
+      → party_of ps q ≡ party s q → r.seen q ≡ (now s).seen q → r.stoppable ≡ (now s).stoppable → ((now s).stopped ≡ true → r.stopped ≡ true)
+      → ((k : ℕ) → (k < r.jobs) × (times k r.begun ≡ 0) × ((a : ℕ) → (party_of ps a).taken k ≡ false) → Free s k)
+      → Frame s (with_parties s ps s.closer (put s.rounds s.round r)) q
   reworked_free ps r same seen may_stop stopped frees = let is = put_here s.rounds s.round r in
-      reworked ps r same seen may_stop stopped (inl (λ _ k f. frees k (subst (λ (z : Round). (k < z.jobs) × (times k z.begun ≡ 0) × ((a : ℕ) → (party_of ps a).taken k ≡ false)) is f)))
+      reworked ps r same seen may_stop stopped
+      (inl (λ _ k f. frees k (subst (λ (z : Round). (k < z.jobs) × (times k z.begun ≡ 0) × ((a : ℕ) → (party_of ps a).taken k ≡ false)) is f)))
 
   publishing : (b : Bool) (n : ℕ) → (p ≡ 0) × ((party s p).status ≡ In) × (s.published ≡ None) × (2 ≤ n) × (n ≤ 4294967295) → Frame s (publish s b n) q
   publishing b n ok = inl record {
@@ -105,11 +119,12 @@ module _ (s : State) (h : Sound s) (p q : ℕ) (other : q ≢ p) where
     may_stop = λ is. absurd (is ok.2);
   }
 
-  exiting : (party s p).status ≡ In → (p ≡ 0 → s.published ≡ None) → Frame s (left s p (put_party s.parties p (with_status Out (party s p)))) q
-  exiting at_in fine = let ps : List Party = put_party s.parties p (with_status Out (party s p)) in let on : State = record { round = s.round + 1; parties = ps; closer = s.closer; published = s.published; rounds = s.rounds } in let z = no_closer s h p at_in in
+  exiting : (party s p).status ≡ In → (p ≡ 0 → s.published ≡ None) → Frame s (left s p (moved s p Out)) q
+  exiting at_in fine = let ps : List Party = moved s p Out in let on : State = next_round s ps s.closer in let z = no_closer s h p at_in in
       dite (ℕ_discrete (members ps) 0)
       (λ e. subst (λ (b : Bool). Frame s (if b then on else arrived s p ps) q) (sym (eq-eqb (members ps) 0 e))
-      (let look = look_else s.parties p (with_status Out (party s p)) q other in let gone : (party s q).status ≡ Out = sym (ap (λ (x : Party). x.status) look) ∙ out_of (party_of ps q).status (let a = total_at weight_member refl ps q in omega arith) in inr record {
+      (let look = look_else s.parties p (with_status Out (party s p)) q other in let gone : (party s q).status ≡ Out =
+      sym (ap (λ (x : Party). x.status) look) ∙ out_of (party_of ps q).status (let a = total_at weight_member refl ps q in omega arith) in inr record {
         round = omega arith;
         same = look ∙ asleep (party s q) gone;
         out = λ i. cc;
@@ -132,18 +147,27 @@ frame s h (Join p) q ok other = restatus s h p q other In s.closer ((λ e. e), (
 frame s h (Publish p n) q ok other = publishing s h p q other false n ok
 frame s h (PublishTry p n) q ok other = publishing s h p q other true n ok
 frame s h (Take p some) q ok other = let y : Party = record (party s p) { taken = λ k. (party s p).taken k || some k } in
-    changed s h p q other y s.closer ((λ e. e), (λ e. e)) (inl (λ _ k f. (f.0, f.1, taken_put s h p q other y k (and_left ((party s p).taken k) (some k)) f.2)))
+    changed s h p q other y s.closer ((λ e. e), (λ e. e))
+    (inl (λ _ k f. (f.0, f.1, taken_put s h p q other y k (and_left ((party s p).taken k) (some k)) f.2)))
 frame s h (Begin p k) q ok other = let y : Party = record (party s p) { running = Some k; taken = put (party s p).taken k false } in
-    reworked_free s h p q other (put_party s.parties p y) (record (now s) { begun = (now s).begun ++ k ∷ [] }) (look_else s.parties p y q other) refl refl (λ e. e)
-    (λ j f. let a = times_snoc j (now s).begun k in let b = f.1 in
-    (f.0, omega arith, taken_put s h p q other y j (λ e. dite (ℕ_discrete j k) (λ i. let c = times_same k (now s).begun in let d = ap (λ (z : ℕ). times z ((now s).begun ++ k ∷ [])) i in absurd (omega arith)) (λ n. sym (put_else (party s p).taken k false j n) ∙ e)) f.2))
+    reworked_free s h p q other (put_party s.parties p y)
+    (record (now s) { begun = (now s).begun ++ k ∷ [] }) (look_else s.parties p y q other) refl refl (λ e. e)
+    (λ j f. let a = times_snoc j (now s).begun k in let b = f.1 in (
+      f.0,
+      omega arith,
+      taken_put s h p q other y j (λ e. dite (ℕ_discrete j k) (λ i. let c = times_same k (now s).begun in
+          let d = ap (λ (z : ℕ). times z ((now s).begun ++ k ∷ [])) i in absurd (omega arith)) (λ n. sym (put_else (party s p).taken k false j n) ∙ e)) f.2,
+    ))
 frame s h (Finish p) q ok other = let y : Party = record (party s p) { running = None } in
-    reworked_free s h p q other (put_party s.parties p y) (record (now s) { finished = (now s).finished ++ ended_by (party s p).running }) (look_else s.parties p y q other) refl refl (λ e. e)
+    reworked_free s h p q other (put_party s.parties p y)
+    (record (now s) { finished = (now s).finished ++ ended_by (party s p).running }) (look_else s.parties p y q other) refl refl (λ e. e)
     (λ j f. (f.0, f.1, taken_put s h p q other y j (λ e. e) f.2))
-frame s h (Stop p) q ok other = reworked_free s h p q other s.parties (record (now s) { stopped = true; seen = put (now s).seen p true }) refl (put_else (now s).seen p true q other) refl (λ _. refl) (λ j f. f)
-frame s h (See p) q ok other = reworked_free s h p q other s.parties (record (now s) { seen = put (now s).seen p true }) refl (put_else (now s).seen p true q other) refl (λ e. e) (λ j f. f)
+frame s h (Stop p) q ok other = reworked_free s h p q other s.parties
+    (record (now s) { stopped = true; seen = put (now s).seen p true }) refl (put_else (now s).seen p true q other) refl (λ _. refl) (λ j f. f)
+frame s h (See p) q ok other = reworked_free s h p q other s.parties
+    (record (now s) { seen = put (now s).seen p true }) refl (put_else (now s).seen p true q other) refl (λ e. e) (λ j f. f)
 frame s h (PutBack p) q ok other = changed s h p q other (record (party s p) { taken = no_set }) s.closer ((λ e. e), (λ e. e)) (inr (h.work.saw p ok.1))
-frame s h (Arrive p) q ok other = restatus s h p q other Arrived _ (new_closer s h p q other (put_party s.parties p (with_status Arrived (party s p))) ok.0)
+frame s h (Arrive p) q ok other = restatus s h p q other Arrived _ (new_closer s h p q other (moved s p Arrived) ok.0)
 frame s h (Leave p) q ok other = restatus s h p q other Out s.closer ((λ e. e), (λ e. e))
 frame s h (Exit p) q ok other = exiting s h p q other ok.0 ok.2
 frame s h (Clear p) q ok other = inl record {

@@ -1,9 +1,23 @@
--- Reads after writes, and counts over the parties.
+-- Reads after writes, counts over the parties, and states with other parties.
 use Rattle.std.proofs.Common.{◌≡◌, ◌≢◌, ℕ, zero, suc, ◌+◌, ◌≤◌, Bool, eq-eqb, ne_eqb, List, [], ◌∷◌, ◌++◌, sym, refl, ap, subst, arith, if◌then◌else◌, ◌==◌}
+use Rattle.std.proofs.Common.{Option}
 use mathlib.Core.Logic.{dite}
 use native.Mathlib.Decide.{ℕ_discrete}
-use Rattle.spindle_parts.specs.State.{Status, Out, In, Arrived, Party, put, absent, party_of, put_party, total, is_in, is_member, inside, members, times, waking, wake}
+use Rattle.spindle_parts.specs.State.{Status, Out, In, Arrived, Party, Round, State, party, put, absent, party_of, put_party, total, is_in, is_member}
+use Rattle.spindle_parts.specs.State.{inside, members, times, waking, wake}
 use Rattle.spindle_parts.specs.Steps.{with_status}
+
+-- the parties of s, but p stands so
+abbrev pub moved : State → ℕ → Status → List Party
+moved s p t = put_party s.parties p (with_status t (party s p))
+
+-- the state s, but with those parties, that closer and those rounds
+abbrev pub with_parties : State → List Party → Option ℕ → (ℕ → Round) → State
+with_parties s ps c rounds = record { round = s.round; parties = ps; closer = c; published = s.published; rounds = rounds }
+
+-- the state s one round later, with those parties and that closer
+abbrev pub next_round : State → List Party → Option ℕ → State
+next_round s ps c = record { round = s.round + 1; parties = ps; closer = c; published = s.published; rounds = s.rounds }
 
 module _ {A : Type 0} where
   pub put_here : (f : ℕ → A) (k : ℕ) (x : A) → put f k x k ≡ x
@@ -14,7 +28,8 @@ module _ {A : Type 0} where
 
 -- what holds of x at k, and of f elsewhere, holds of the two together
 pub put_all : {A : Type 0} (P : ℕ → A → Type 0) (f : ℕ → A) (k : ℕ) (x : A) → P k x → ((j : ℕ) → j ≢ k → P j (f j)) → (j : ℕ) → P j (put f k x j)
-put_all P f k x here away j = dite (ℕ_discrete j k) (λ e. subst (λ (z : ℕ). P z (put f k x z)) (sym e) (subst (P k) (sym (put_here f k x)) here)) (λ n. subst (P j) (sym (put_else f k x j n)) (away j n))
+put_all P f k x here away j = dite (ℕ_discrete j k)
+    (λ e. subst (λ (z : ℕ). P z (put f k x z)) (sym e) (subst (P k) (sym (put_here f k x)) here)) (λ n. subst (P j) (sym (put_else f k x j n)) (away j n))
 
 pub look_here : (l : List Party) (p : ℕ) (y : Party) → party_of (put_party l p y) p ≡ y
 look_here [] zero y = refl

@@ -1,19 +1,21 @@
 -- After every schedule the machine shows the state of the run that its accepted steps are.
-use Rattle.std.proofs.Common.{◌≡◌, ◌≢◌, ◌↔◌, ℕ, ◌*◌, ◌-◌, ◌<◌, Bool, true, false, List, [], ◌∷◌, ◌++◌, append_assoc, length, sym, refl, ap, ◌∙◌, subst, arith, Option, Some, None, is_none, unwrap_or, if◌then◌else◌}
+use Rattle.std.proofs.Common.{◌≡◌, ◌≢◌, ◌↔◌, ℕ, ◌*◌, ◌-◌, ◌<◌, Bool, true, false, List, [], ◌∷◌, ◌++◌, append_assoc, length, sym, refl, ap, ◌∙◌, subst}
+use Rattle.std.proofs.Common.{arith, Option, Some, None, is_none, unwrap_or, if◌then◌else◌}
 use Rattle.std.proofs.lemmas.List.{length-set, length-replicate}
-use Rattle.spindle_parts.specs.State.{In, Arrived, State, party}
+use Rattle.spindle_parts.specs.State.{State}
 use Rattle.spindle_parts.specs.Steps.{Event}
 use Rattle.spindle_parts.specs.Runs.{state, IsRun}
 use Rattle.spindle_parts.specs.BarrierWord as barrier
 use Rattle.spindle_parts.specs.Machine.{Configuration, word, own, counter, claimed, rested, first, judged, tests, effect, answer, serve}
-use Rattle.spindle_parts.specs.EverySchedule.{Call, IsInRange, IsSchedule, events_of, refusal, IsRefusedForMemory, played, accepted, history, Shows, IsFair, Waits, Rests, machine, run_of, Laws}
+use Rattle.spindle_parts.specs.EverySchedule.{Call, IsInRange, IsSchedule, events_of, refusal, IsRefusedForMemory, played, accepted, history, Shows, IsFair}
+use Rattle.spindle_parts.specs.EverySchedule.{machine, run_of, GoesOn, Laws}
 use Rattle.spindle_parts.specs.declared.steps.Step.{Step}
 use Rattle.spindle_parts.specs.declared.steps.Step.TheVariants.{Join, Publish, PublishTry, Claim, Rest, Finish, Stop, See, Arrive, Leave, Exit, Clear, End}
 use Rattle.spindle_parts.specs.declared.steps.Why.{Why}
 use Rattle.spindle_parts.specs.declared.steps.Why.TheVariants.{Member, Full, Closing, Memory}
 use Rattle.spindle_parts.specs.declared.steps.Reply.TheVariants.{Refused}
-use Rattle.spindle_parts.proofs.Soundness.{sound, run_once, alone_hidden}
-use Rattle.spindle_parts.proofs.Waiting.{stays, waits_on, is_whole, begins_within, ends_cleared}
+use Rattle.spindle_parts.proofs.Soundness.{sound, alone_hidden}
+use Rattle.spindle_parts.proofs.Waiting.{lawful}
 use Rattle.spindle_parts.proofs.Tests.{all_fail, none_first}
 use Rattle.spindle_parts.proofs.Following.{agrees, joins, leaves, arrives, ends, exits, clears, stops, looks, finishes}
 use Rattle.spindle_parts.proofs.Claiming.{publishes, may_take, claims, rests}
@@ -50,23 +52,34 @@ module _ (m : Configuration) (es : List Event) (f : Follows m es) (some : 0 < le
   accepts (Join p) ok = record { shows = joins m (state es) (agrees m (state es) f.shows) (sound es f.run) p ok; run = (ok, f.run) }
   accepts (Publish p n) ok = record { shows = publishes m (state es) (agrees m (state es) f.shows) (sound es f.run) p false n ok some; run = (ok, f.run) }
   accepts (PublishTry p n) ok = record { shows = publishes m (state es) (agrees m (state es) f.shows) (sound es f.run) p true n ok some; run = (ok, f.run) }
-  accepts (Claim p t) ok = let c = claims m (state es) (agrees m (state es) f.shows) (sound es f.run) p some ok.0 t ok.1 ok.2 in let t₂ = may_take m (state es) (agrees m (state es) f.shows) (sound es f.run) p (claimed m t) ok.0 c.1 in record { shows = c.0; run = (t₂.1, (t₂.0, f.run)) }
-  accepts (Rest p) ok = let c = rests m (state es) (agrees m (state es) f.shows) (sound es f.run) p some ok.0 ok.1 in let t₂ = may_take m (state es) (agrees m (state es) f.shows) (sound es f.run) p (rested m) ok.0 c.1 in record { shows = c.0; run = (t₂.1, (t₂.0, f.run)) }
+  accepts (Claim p t) ok = let c = claims m (state es) (agrees m (state es) f.shows) (sound es f.run) p some ok.0 t ok.1 ok.2 in let t₂ =
+      may_take m (state es) (agrees m (state es) f.shows) (sound es f.run) p (claimed m t) ok.0 c.1 in record { shows = c.0; run = (t₂.1, (t₂.0, f.run)) }
+  accepts (Rest p) ok = let c = rests m (state es) (agrees m (state es) f.shows) (sound es f.run) p some ok.0 ok.1 in let t₂ =
+      may_take m (state es) (agrees m (state es) f.shows) (sound es f.run) p (rested m) ok.0 c.1 in record { shows = c.0; run = (t₂.1, (t₂.0, f.run)) }
   accepts (Finish p) ok = record { shows = finishes m (state es) (agrees m (state es) f.shows) (sound es f.run) p ok; run = (ok, f.run) }
   accepts (Stop p) ok = record { shows = stops m (state es) (agrees m (state es) f.shows) (sound es f.run) p; run = (ok, f.run) }
   accepts (See p) ok = record { shows = looks m (state es) (agrees m (state es) f.shows) (sound es f.run) p; run = (ok, f.run) }
   accepts (Arrive p) ok = record { shows = arrives m (state es) (agrees m (state es) f.shows) (sound es f.run) p ok; run = (ok, f.run) }
   accepts (Leave p) ok = record { shows = leaves m (state es) (agrees m (state es) f.shows) (sound es f.run) p ok; run = (ok, f.run) }
-  accepts (Exit p) ok = record { shows = exits m (state es) (agrees m (state es) f.shows) (sound es f.run) p ok (alone_hidden (state es) (sound es f.run) p ok.0 ok.2); run = (ok, f.run) }
+  accepts (Exit p) ok =
+      record {
+        shows = exits m (state es) (agrees m (state es) f.shows) (sound es f.run) p ok (alone_hidden (state es) (sound es f.run) p ok.0 ok.2);
+        run = (ok, f.run);
+      }
   accepts (Clear p) ok = record { shows = clears m (state es) (agrees m (state es) f.shows) (sound es f.run) p; run = (ok, f.run) }
   accepts (End p) ok = record { shows = ends m (state es) (agrees m (state es) f.shows) (sound es f.run) p ok; run = (ok, f.run) }
 
   -- a step next is accepted exactly where it is fair
   exactly : (e : Step) → IsInRange e → (first (tests m true e) ≡ None) ↔ IsFair m (state es) e
-  exactly e range = ((λ z. fair m (state es) (agrees m (state es) f.shows) (sound es f.run) some true e range (all_fail (tests m true e) z)), (λ ok. none_first (tests m true e) (fails m (state es) (agrees m (state es) f.shows) (sound es f.run) some e ok)))
+  exactly e range = (
+    (λ z. fair m (state es) (agrees m (state es) f.shows) (sound es f.run) some true e range (all_fail (tests m true e) z)),
+    (λ ok. none_first (tests m true e) (fails m (state es) (agrees m (state es) f.shows) (sound es f.run) some e ok)),
+  )
 
-  served : (c : Call) → IsInRange c.step → (o : Option Why) → refusal m c ≡ o → Follows (judged o m c.step).0 ((if is_none o then events_of m c.step else []) ++ es)
-  served c range None e = accepts c.step (fair m (state es) (agrees m (state es) f.shows) (sound es f.run) some c.granted c.step range (all_fail (tests m c.granted c.step) e))
+  served : (c : Call)
+      → IsInRange c.step → (o : Option Why) → refusal m c ≡ o → Follows (judged o m c.step).0 ((if is_none o then events_of m c.step else []) ++ es)
+  served c range None e =
+      accepts c.step (fair m (state es) (agrees m (state es) f.shows) (sound es f.run) some c.granted c.step range (all_fail (tests m c.granted c.step) e))
   served c range (Some why) e = f
 
   -- the next call
@@ -83,16 +96,35 @@ size_is threads (c ∷ cs) = served_size (machine threads cs) c.step (refusal (m
 
 pub follows : (threads : ℕ) (cs : List Call) → 0 < threads → IsSchedule cs → Follows (machine threads cs) (run_of threads cs)
 follows threads [] some ok = record {
-  shows = record { status = λ p. refl; running = λ p. refl; seen = λ p. refl; untaken = λ p k. refl; inside = refl; members = refl; sense = refl; closer = refl; published = refl; stoppable = refl; stopped = refl; counts = λ n e. absurd cc };
+  shows = record {
+    status = λ p. refl;
+    running = λ p. refl;
+    seen = λ p. refl;
+    untaken = λ p k. refl;
+    inside = refl;
+    members = refl;
+    sense = refl;
+    closer = refl;
+    published = refl;
+    stoppable = refl;
+    stopped = refl;
+    counts = λ n e. absurd cc;
+  };
   run = tt;
 }
-follows threads (c ∷ cs) some ok = let size = size_is threads cs in goes_on (machine threads cs) (run_of threads cs) (follows threads cs some ok.1) (omega arith) c ok.0
+follows threads (c ∷ cs) some ok = let size = size_is threads cs in
+    goes_on (machine threads cs) (run_of threads cs) (follows threads cs some ok.1) (omega arith) c ok.0
 
 -- a schedule goes on from wherever the machine follows a run
-goes : (m : Configuration) (es : List Event) (later : List Call) → 0 < length m.counters → IsSchedule later → Follows m es → (0 < length (played m later).counters) × Follows (played m later) (history m later ++ es)
+goes : (m : Configuration) (es : List Event) (later : List Call)
+    → 0 < length m.counters → IsSchedule later → Follows m es → (0 < length (played m later).counters) × Follows (played m later) (history m later ++ es)
 goes m es [] some ok f = (some, f)
-goes m es (c ∷ later) some ok f = let g = goes m es later some ok.1 f in let size = served_size (played m later) c.step (refusal (played m later) c) in let g₀ = g.0 in
-    (omega arith, subst (Follows (played m (c ∷ later))) (sym (append_assoc (accepted (played m later) c) (history m later) es)) (goes_on (played m later) (history m later ++ es) g.1 g.0 c ok.0))
+goes m es (c ∷ later) some ok f = let g = goes m es later some ok.1 f in
+    let size = served_size (played m later) c.step (refusal (played m later) c) in let g₀ = g.0 in (
+      omega arith,
+      subst (Follows (played m (c ∷ later)))
+          (sym (append_assoc (accepted (played m later) c) (history m later) es)) (goes_on (played m later) (history m later ++ es) g.1 g.0 c ok.0),
+    )
 
 -- the word is the barrier word of the state shown
 same_word : (m : Configuration) (s : State) → Shows m s → word m ≡ barrier.word s
@@ -103,7 +135,9 @@ same_word m s a = let i = a.inside in let n = a.members in let o = bit m.sense i
     bit false = refl
 
 -- want of memory comes last among a join's tests
-memory_last : (a b c : Bool) → let o : Option Why = None in (if a then Some Member else (if b then Some Full else (if c then Some Closing else Some Memory))) ≡ Some (unwrap_or (if a then Some Member else (if b then Some Full else (if c then Some Closing else o))) Memory)
+memory_last : (a b c : Bool) → let o : Option Why = None in
+    (if a then Some Member else (if b then Some Full else (if c then Some Closing else Some Memory))) ≡ Some
+    (unwrap_or (if a then Some Member else (if b then Some Full else (if c then Some Closing else o))) Memory)
 memory_last true b c = refl
 memory_last false true c = refl
 memory_last false false true = refl
@@ -125,7 +159,7 @@ refused_for_memory m (Clear p) = refl
 refused_for_memory m (End p) = refl
 
 -- an accepted step isn't answered by a refusal
-no_refusal : (m : Configuration) (e : Step) (why : Why) → answer m e ≢ Refused why
+pub no_refusal : (m : Configuration) (e : Step) (why : Why) → answer m e ≢ Refused why
 no_refusal m (Join p) why e = cc
 no_refusal m (Publish p n) why e = cc
 no_refusal m (PublishTry p n) why e = cc
@@ -144,26 +178,21 @@ refused_by : (m : Configuration) (e : Step) (why : Why) (o : Option Why) → (ju
 refused_by m e why None z = absurd (no_refusal m e why z)
 refused_by m e why (Some w) z = ((let i : w ≡ why = cc in ap (λ (x : Why). let o : Option Why = Some x in o) i), refl)
 
-module _ (m : Configuration) (es : List Event) (f : Follows m es) (some : 0 < length m.counters) where
-  waits_law : (later : List Call) (p : ℕ) → Rests m later p → (party (state es) p).status ≡ Arrived → Waits (state es) (state (history m later ++ es)) (word (played m later))
-  waits_law later p r at = let g = goes m es later some r.0 f in subst (Waits (state es) (state (history m later ++ es))) (sym (same_word (played m later) (state (history m later ++ es)) g.1.shows)) (waits_on (history m later) es p g.1.run r.1 at)
-
-  keeps_law : (later : List Call) (p : ℕ) → Rests m later p → (party (state es) p).status ≡ In → (state (history m later ++ es)).round ≡ (state es).round
-  keeps_law later p r at = let g = goes m es later some r.0 f in (stays (history m later) es p g.1.run r.1 at).0
+goes_on_law : (m : Configuration) (es : List Event) → Follows m es → 0 < length m.counters → (later : List Call) → IsSchedule later
+    → GoesOn m es later
+goes_on_law m es f some later ok = let g = (goes m es later some ok f).1 in
+    record { run = g.run; word_is = same_word (played m later) (state (history m later ++ es)) g.shows }
 
 pub laws : (threads : ℕ) (cs : List Call) → 0 < threads → IsSchedule cs → Laws threads (machine threads cs) (run_of threads cs)
-laws threads cs some ok = let m = machine threads cs in let es = run_of threads cs in let f = follows threads cs some ok in let size = size_is threads cs in let pos : 0 < length (machine threads cs).counters = omega arith in record {
-  run = f.run;
-  shows = f.shows;
-  word_is = same_word m (state es) f.shows;
-  counters = size;
-  once = run_once es f.run;
-  begins = begins_within es f.run;
-  whole = λ q lt. is_whole ((state es).rounds q) ((sound es f.run).ended q lt);
-  cleared = ends_cleared es f.run;
-  exact = exactly m es f pos;
-  memory = refused_for_memory m;
-  refused = λ c why e. refused_by m c.step why (refusal m c) e;
-  waits = waits_law m es f pos;
-  keeps = keeps_law m es f pos;
-}
+laws threads cs some ok = let m = machine threads cs in let es = run_of threads cs in
+    let f = follows threads cs some ok in let size = size_is threads cs in let pos : 0 < length (machine threads cs).counters = omega arith in record {
+      run = f.run;
+      lawful = lawful es f.run;
+      shows = f.shows;
+      word_is = same_word m (state es) f.shows;
+      counters = size;
+      exact = exactly m es f pos;
+      memory = refused_for_memory m;
+      refused = λ c why e. refused_by m c.step why (refusal m c) e;
+      goes_on = goes_on_law m es f pos;
+    }

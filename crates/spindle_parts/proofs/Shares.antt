@@ -15,7 +15,8 @@ module _ (T d : ℕ) where
     -- whatever is stood for is a job
     pub stands_below : (c : ℕ → ℕ) (rem k : ℕ) → StandsFor T d c rem n k → k < n
     stands_below c rem k = ⊎_elim
-        (λ (x : (t : ℕ) × (t < T) × (k < d * t + d) × (d * t + d ≤ k + c t)). let t = x.0 in let lt = x.1 in let below = x.2 in let a = own_before t T lt in omega arith)
+        (λ (x : (t : ℕ) × (t < T) × (k < d * t + d) × (d * t + d ≤ k + c t)). let t = x.0 in
+        let lt = x.1 in let below = x.2 in let a = own_before t T lt in omega arith)
         (λ (x : (k < n) × (n ≤ k + rem)). x.0)
 
     -- full counters and the full remainder stand for every job
@@ -39,16 +40,28 @@ module _ (T d : ℕ) where
         pub stays_left : (j : ℕ) → j ≢ d * t + d - c t → StandsFor T d c rem n j → StandsFor T d c' rem n j
         stays_left j other = ⊎_elim
             (λ (x : (i : ℕ) × (i < T) × (j < d * i + d) × (d * i + d ≤ j + c i)). let i = x.0 in let below = x.2 in let above = x.3 in
-            inl (i, x.1, below, dite (ℕ_discrete i t) (λ e. let a = ap c' e in let b = ap c e in let f = ap (λ (z : ℕ). d * z) e in omega arith) (λ o. let a = same i o in omega arith)))
+            inl (
+              i,
+              x.1,
+              below,
+              dite (ℕ_discrete i t)
+                  (λ e. let a = ap c' e in let b = ap c e in let f = ap (λ (z : ℕ). d * z) e in omega arith) (λ o. let a = same i o in omega arith),
+            ))
             inr
 
         pub was_left : (j : ℕ) → StandsFor T d c' rem n j → StandsFor T d c rem n j × (j ≢ d * t + d - c t)
         was_left j = ⊎_elim
-            (λ (x : (i : ℕ) × (i < T) × (j < d * i + d) × (d * i + d ≤ j + c' i)). let i = x.0 in let below = x.2 in let above = x.3 in let high = most t lt in
+            (λ (x : (i : ℕ) × (i < T) × (j < d * i + d) × (d * i + d ≤ j + c' i)). let i = x.0 in
+            let below = x.2 in let above = x.3 in let high = most t lt in
             dite (ℕ_discrete i t)
             (λ e. let a = ap c' e in let b = ap c e in let f = ap (λ (z : ℕ). d * z) e in (inl (i, x.1, below, omega arith), λ is. omega arith))
-            (λ o. let a = same i o in let m = most i x.1 in (inl (i, x.1, below, omega arith), λ is. dite (dec_le i t) (λ before. let b = own_before i t (omega arith) in omega arith) (λ after. let b = own_before t i (omega arith) in omega arith))))
-            (λ (x : (j < n) × (n ≤ j + rem)). let x₀ = x.0 in let x₁ = x.1 in let a = own_before t T lt in let high = most t lt in (inr x, λ is. omega arith))
+            (λ o. let a = same i o in let m = most i x.1 in (
+              inl (i, x.1, below, omega arith),
+              λ is. dite (dec_le i t)
+                  (λ before. let b = own_before i t (omega arith) in omega arith) (λ after. let b = own_before t i (omega arith) in omega arith),
+            )))
+            (λ (x : (j < n) × (n ≤ j + rem)). let x₀ = x.0 in
+            let x₁ = x.1 in let a = own_before t T lt in let high = most t lt in (inr x, λ is. omega arith))
 
       -- a claim of the remainder
       module _ (some : 0 < rem) where
@@ -57,16 +70,19 @@ module _ (T d : ℕ) where
 
         pub was_rest : (j : ℕ) → StandsFor T d c (rem - 1) n j → StandsFor T d c rem n j × (j ≢ n - rem)
         was_rest j = ⊎_elim
-            (λ (x : (i : ℕ) × (i < T) × (j < d * i + d) × (d * i + d ≤ j + c i)). let i = x.0 in let below = x.2 in let a = own_before i T x.1 in (inl x, λ is. omega arith))
+            (λ (x : (i : ℕ) × (i < T) × (j < d * i + d) × (d * i + d ≤ j + c i)). let i = x.0 in
+            let below = x.2 in let a = own_before i T x.1 in (inl x, λ is. omega arith))
             (λ (x : (j < n) × (n ≤ j + (rem - 1))). let x₀ = x.0 in let x₁ = x.1 in (inr (x₀, omega arith), λ is. omega arith))
 
 -- a sum above 0 has a part above 0
 pub some_part : (cs : List ℕ) → 0 < sum cs → (t : ℕ) × (t < length cs) × (0 < get_or cs t 0)
 some_part [] lt = absurd (omega arith)
-some_part (x ∷ xs) lt = let a = sum_by-cons (λ (k : ℕ). k) x xs in dite (ℕ_discrete x 0) (λ z. let r = some_part xs (omega arith) in let r₁ = r.1 in (suc r.0, omega arith, r.2)) (λ n. (0, omega arith, omega arith))
+some_part (x ∷ xs) lt = let a = sum_by-cons (λ (k : ℕ). k) x xs in
+    dite (ℕ_discrete x 0) (λ z. let r = some_part xs (omega arith) in let r₁ = r.1 in (suc r.0, omega arith, r.2)) (λ n. (0, omega arith, omega arith))
 
 -- where nothing is left, nothing is stood for
 pub none_stands : (T d : ℕ) (cs : List ℕ) (rem n k : ℕ) → T ≡ length cs → sum cs + rem ≡ 0 → StandsFor T d (λ t. get_or cs t 0) rem n k → ⊥
 none_stands T d cs rem n k size none = ⊎_elim
-    (λ (x : (t : ℕ) × (t < T) × (k < d * t + d) × (d * t + d ≤ k + get_or cs t 0)). let t = x.0 in let lt = x.1 in let below = x.2 in let above = x.3 in let a = get_or-le-sum_by (λ (z : ℕ). z) cs t 0 (omega arith) in omega arith)
+    (λ (x : (t : ℕ) × (t < T) × (k < d * t + d) × (d * t + d ≤ k + get_or cs t 0)). let t = x.0 in
+    let lt = x.1 in let below = x.2 in let above = x.3 in let a = get_or-le-sum_by (λ (z : ℕ). z) cs t 0 (omega arith) in omega arith)
     (λ (x : (k < n) × (n ≤ k + rem)). let x₀ = x.0 in let x₁ = x.1 in omega arith)

@@ -1,12 +1,17 @@
 -- Each event keeps what is true of the rounds.
-use Rattle.std.proofs.Common.{◌≡◌, ◌≢◌, ◌⊎◌, inl, inr, ⊎_elim, ℕ, ◌+◌, ◌<◌, ◌≤◌, Bool, true, false, ◌||◌, eq-eqb, ne_eqb, List, [], ◌∷◌, ◌++◌, sym, refl, ap, ◌∙◌, subst, arith, Option, Some, None, if◌then◌else◌, ◌==◌}
+use Rattle.std.proofs.Common.{◌≡◌, ◌≢◌, ◌⊎◌, inl, inr, ⊎_elim, ℕ, ◌+◌, ◌<◌, ◌≤◌, Bool, true, false, ◌||◌, eq-eqb, ne_eqb, List, [], ◌∷◌, ◌++◌, sym, refl}
+use Rattle.std.proofs.Common.{ap, ◌∙◌, subst, arith, Option, Some, None, if◌then◌else◌, ◌==◌}
 use mathlib.Core.Logic.{dite}
 use native.Mathlib.Decide.{ℕ_discrete, dec_le}
-use Rattle.spindle_parts.specs.State.{Status, Out, In, Arrived, Party, Round, State, put, blank, fresh, no_set, party_of, put_party, times, is_in, is_member, weight_in, weight_member, inside, members, waking, wake, now, party, change, change_round, Free}
-use Rattle.spindle_parts.specs.Steps.{with_status, Allowed, IsIdle, after, arrived, publish, ended_by, Event, Join, Publish, PublishTry, Take, Begin, Finish, Stop, See, PutBack, Arrive, Leave, Exit, Clear, End}
+use Rattle.spindle_parts.specs.State.{Status, Out, In, Arrived, Party, Round, State, put, blank, fresh, no_set, party_of, put_party, times, is_in}
+use Rattle.spindle_parts.specs.State.{is_member, weight_in, weight_member, inside, members, waking, wake, now, party, change, change_round, Free}
+use Rattle.spindle_parts.specs.Steps.{with_status, Allowed, IsIdle, after, arrived, publish, ended_by, Event, Join, Publish, PublishTry, Take, Begin}
+use Rattle.spindle_parts.specs.Steps.{Finish, Stop, See, PutBack, Arrive, Leave, Exit, Clear, End}
 use Rattle.spindle_parts.specs.Runs.{state, IsRun, IsOnce}
-use Rattle.spindle_parts.proofs.Parties.{put_here, put_else, put_all, put_again, look_here, look_else, total_put, total_at, inside_le_members, look_wake, inside_wake, members_wake}
-use Rattle.spindle_parts.proofs.Fates.{Fate, Open, Held, Ran, Done, started, over, Work, status_work, begin_work, finish_work, take_work, put_back_work, see_work, completes, restarts, publish_work, free_is_open, open_is_free, idle_out, Complete}
+use Rattle.spindle_parts.proofs.Parties.{moved, with_parties, next_round, put_here, put_else, put_all, put_again, look_here, look_else, total_put, total_at}
+use Rattle.spindle_parts.proofs.Parties.{inside_le_members, look_wake, inside_wake, members_wake}
+use Rattle.spindle_parts.proofs.Fates.{Fate, Open, Held, Ran, Done, started, over, Work, status_work, begin_work, finish_work, take_work, put_back_work}
+use Rattle.spindle_parts.proofs.Fates.{see_work, completes, restarts, publish_work, free_is_open, open_is_free, idle_out, Complete}
 
 pub record Gate (closer published : Option ℕ) (i m jobs : ℕ) (leader : Status) : Type 0 where
   pub closing : (c : ℕ) → closer ≡ Some c → (i ≡ 0) × (0 < m)
@@ -39,44 +44,51 @@ module _ (s : State) (h : Sound s) (p : ℕ) where
   same_members y e = let a = total_put weight_member refl s.parties p y in let b = ap is_member e in omega arith
 
   same_status : (y : Party) → y.status ≡ (party s p).status → (q : ℕ) → (party_of (put_party s.parties p y) q).status ≡ (party s q).status
-  same_status y e q = dite (ℕ_discrete q p) (λ i. ap (λ (z : ℕ). (party_of (put_party s.parties p y) z).status) i ∙ (ap (λ (z : Party). z.status) (look_here s.parties p y) ∙ (e ∙ ap (λ (z : ℕ). (party s z).status) (sym i))))
+  same_status y e q = dite (ℕ_discrete q p) (λ i. ap (λ (z : ℕ). (party_of (put_party s.parties p y) z).status) i
+      ∙ (ap (λ (z : Party). z.status) (look_here s.parties p y) ∙ (e ∙ ap (λ (z : ℕ). (party s z).status) (sym i))))
       (λ n. ap (λ (z : Party). z.status) (look_else s.parties p y q n))
 
   -- a step in the work, to the round r and the fates g
-  work_step : (r : Round) (ps : List Party) (g : ℕ → Fate) → inside ps ≡ inside s.parties → members ps ≡ members s.parties → (party_of ps 0).status ≡ (party s 0).status → r.jobs ≡ (now s).jobs → ((now s).stopped ≡ true → r.stopped ≡ true)
-      → ((k : ℕ) → h.fate k ≢ Open → g k ≢ Open) ⊎ (r.stopped ≡ true) → Work g r ps → Sound record { round = s.round; parties = ps; closer = s.closer; published = s.published; rounds = put s.rounds s.round r }
+  work_step : (r : Round) (ps : List Party) (g : ℕ → Fate) → inside ps ≡ inside s.parties
+      → members ps ≡ members s.parties → (party_of ps 0).status ≡ (party s 0).status → r.jobs ≡ (now s).jobs → ((now s).stopped ≡ true → r.stopped ≡ true)
+      → ((k : ℕ) → h.fate k ≢ Open → g k ≢ Open) ⊎ (r.stopped ≡ true) → Work g r ps → Sound (with_parties s ps s.closer (put s.rounds s.round r))
   work_step r ps g ins mem led jobs stopped grows w = let now_is : put s.rounds s.round r s.round ≡ r = put_here s.rounds s.round r in record {
     fate = g;
     work = subst (λ (z : Round). Work g z ps) (sym now_is) w;
-    gate = subst (λ (z : ℕ × ℕ × ℕ × Status). Gate s.closer s.published z.0 z.1 z.2 z.3) (λ i. (sym ins i, sym mem i, sym (ap (λ (z : Round). z.jobs) now_is ∙ jobs) i, sym led i)) h.gate;
+    gate = subst (λ (z : ℕ × ℕ × ℕ × Status). Gate s.closer s.published z.0 z.1 z.2 z.3)
+        (λ i. (sym ins i, sym mem i, sym (ap (λ (z : Round). z.jobs) now_is ∙ jobs) i, sym led i)) h.gate;
     spent = subst (λ (z : Round × Status). Spent g z.0.jobs z.0.stopped z.1) (λ i. (sym now_is i, sym led i))
-        (λ some at. ⊎_elim (λ a. ⊎_elim (λ b. inl (λ k lt. b k (a k (let c = jobs in omega arith)))) inr grows) (λ a. inr (stopped a)) (h.spent (let c = jobs in omega arith) at));
+        (λ some at. ⊎_elim (λ a. ⊎_elim (λ b. inl (λ k lt. b k (a k (let c = jobs in omega arith)))) inr grows)
+        (λ a. inr (stopped a)) (h.spent (let c = jobs in omega arith) at));
     later = λ q lt. put_else s.rounds s.round r q (λ e. omega arith) ∙ h.later q lt;
     ended = λ q lt. subst Complete (sym (put_else s.rounds s.round r q (λ e. omega arith))) (h.ended q lt);
   }
 
   -- the same for one party, which keeps its status
-  party_step : (r : Round) (y : Party) (g : ℕ → Fate) → y.status ≡ (party s p).status → r.jobs ≡ (now s).jobs → ((now s).stopped ≡ true → r.stopped ≡ true) → ((k : ℕ) → h.fate k ≢ Open → g k ≢ Open) ⊎ (r.stopped ≡ true) → Work g r (put_party s.parties p y)
-      → Sound record { round = s.round; parties = put_party s.parties p y; closer = s.closer; published = s.published; rounds = put s.rounds s.round r }
+  party_step : (r : Round) (y : Party) (g : ℕ → Fate) → y.status ≡ (party s p).status → r.jobs ≡ (now s).jobs
+      → ((now s).stopped ≡ true → r.stopped ≡ true) → ((k : ℕ) → h.fate k ≢ Open → g k ≢ Open) ⊎ (r.stopped ≡ true) → Work g r (put_party s.parties p y)
+      → Sound (with_parties s (put_party s.parties p y) s.closer (put s.rounds s.round r))
   party_step r y g st = work_step r (put_party s.parties p y) g (same_in y st) (same_members y st) (same_status y st 0)
 
   -- the same with no change of the round
-  lone_step : (y : Party) (g : ℕ → Fate) → y.status ≡ (party s p).status → ((k : ℕ) → h.fate k ≢ Open → g k ≢ Open) ⊎ ((now s).stopped ≡ true) → Work g (now s) (put_party s.parties p y) → Sound (change s p y)
-  lone_step y g st grows w = subst (λ (z : ℕ → Round). Sound record { round = s.round; parties = put_party s.parties p y; closer = s.closer; published = s.published; rounds = z }) (put_again s.rounds s.round) (party_step (now s) y g st refl (λ a. a) grows w)
+  lone_step : (y : Party) (g : ℕ → Fate) → y.status ≡ (party s p).status
+      → ((k : ℕ) → h.fate k ≢ Open → g k ≢ Open) ⊎ ((now s).stopped ≡ true) → Work g (now s) (put_party s.parties p y) → Sound (change s p y)
+  lone_step y g st grows w = subst (λ (z : ℕ → Round). Sound (with_parties s (put_party s.parties p y) s.closer z)) (put_again s.rounds s.round)
+      (party_step (now s) y g st refl (λ a. a) grows w)
 
-  -- the party goes or comes
-  abbrev moved : Status → List Party
-  moved t = put_party s.parties p (with_status t (party s p))
-
-  counts : (t : Status) → (inside (moved t) + is_in (party s p).status ≡ inside s.parties + is_in t) × (members (moved t) + is_member (party s p).status ≡ members s.parties + is_member t)
+  counts : (t : Status) → (inside (moved s p t) + is_in (party s p).status ≡ inside s.parties + is_in t)
+      × (members (moved s p t) + is_member (party s p).status ≡ members s.parties + is_member t)
   counts t = (total_put weight_in refl s.parties p (with_status t (party s p)), total_put weight_member refl s.parties p (with_status t (party s p)))
 
-  leads : (P : Status → Type 0) (t : Status) → (p ≡ 0 → P t) → (p ≢ 0 → P (party s 0).status) → P (party_of (moved t) 0).status
-  leads P t mine other = dite (ℕ_discrete p 0) (λ e. subst (λ (z : ℕ). P (party_of (moved t) z).status) e (subst (λ (z : Party). P z.status) (sym (look_here s.parties p (with_status t (party s p)))) (mine e)))
+  leads : (P : Status → Type 0) (t : Status) → (p ≡ 0 → P t) → (p ≢ 0 → P (party s 0).status) → P (party_of (moved s p t) 0).status
+  leads P t mine other = dite (ℕ_discrete p 0) (λ e. subst (λ (z : ℕ). P (party_of (moved s p t) z).status) e
+      (subst (λ (z : Party). P z.status) (sym (look_here s.parties p (with_status t (party s p)))) (mine e)))
       (λ n. subst (λ (z : Party). P z.status) (sym (look_else s.parties p (with_status t (party s p)) 0 (λ e. n (sym e)))) (other n))
 
-  status_step : (t : Status) (c : Option ℕ) → (t ≡ In) ⊎ IsIdle s p → Gate c s.published (inside (moved t)) (members (moved t)) (now s).jobs (party_of (moved t) 0).status → Spent h.fate (now s).jobs (now s).stopped (party_of (moved t) 0).status
-      → Sound record { round = s.round; parties = moved t; closer = c; published = s.published; rounds = s.rounds }
+  status_step : (t : Status) (c : Option ℕ)
+      → (t ≡ In) ⊎ IsIdle s p → Gate c s.published (inside (moved s p t)) (members (moved s p t)) (now s).jobs (party_of (moved s p t) 0).status
+      → Spent h.fate (now s).jobs (now s).stopped (party_of (moved s p t) 0).status
+      → Sound (with_parties s (moved s p t) c s.rounds)
   status_step t c ok gate spent = record {
     fate = h.fate;
     work = status_work h.fate (now s) s.parties h.work p t ok;
@@ -98,7 +110,8 @@ module _ (s : State) (h : Sound s) (p : ℕ) where
   no_jobs = h.gate.hidden
 
 joins : (s : State) → Sound s → (p : ℕ) → Allowed s (Join p) → Sound (after s (Join p))
-joins s h p ok = let c = counts s h p In in let c₀ = c.0 in let c₁ = c.1 in let few = ok.2 in let was₀ = ap is_in ok.0 in let was₁ = ap is_member ok.0 in let g = h.gate in
+joins s h p ok = let c = counts s h p In in
+    let c₀ = c.0 in let c₁ = c.1 in let few = ok.2 in let was₀ = ap is_in ok.0 in let was₁ = ap is_member ok.0 in let g = h.gate in
     status_step s h p In s.closer (inl refl) record {
       closing = λ q e. let z = ok.1 in absurd cc;
       going = λ _ _. omega arith;
@@ -110,7 +123,8 @@ joins s h p ok = let c = counts s h p In in let c₀ = c.0 in let c₁ = c.1 in 
     (λ some. leads s h p (λ z. z ≡ Arrived → Used h.fate (now s).jobs (now s).stopped) In (λ _ e. absurd cc) (λ _. h.spent some))
 
 leaves : (s : State) → Sound s → (p : ℕ) → Allowed s (Leave p) → Sound (after s (Leave p))
-leaves s h p ok = let c = counts s h p Out in let c₀ = c.0 in let c₁ = c.1 in let was₀ = ap is_in ok.0 in let was₁ = ap is_member ok.0 in let g = h.gate in let idle : IsIdle s p = idle_out h.fate (now s) s.parties h.work p (λ e. let z = ok.0 in cc) in
+leaves s h p ok = let c = counts s h p Out in let c₀ = c.0 in let c₁ = c.1 in let was₀ = ap is_in ok.0 in
+    let was₁ = ap is_member ok.0 in let g = h.gate in let idle : IsIdle s p = idle_out h.fate (now s) s.parties h.work p (λ e. let z = ok.0 in cc) in
     status_step s h p Out s.closer (inr idle) record {
       closing = λ q e. let z = ok.1 in absurd cc;
       going = λ n some. let a = g.going n (omega arith) in omega arith;
@@ -123,11 +137,13 @@ leaves s h p ok = let c = counts s h p Out in let c₀ = c.0 in let c₁ = c.1 i
 
 -- where a test of the count decides the closer
 pub closers : (P : Option ℕ → Type 0) (i p : ℕ) (c : Option ℕ) → (i ≡ 0 → P (Some p)) → (i ≢ 0 → P c) → P (if i == 0 then Some p else c)
-closers P i p c none_in some_in = dite (ℕ_discrete i 0) (λ e. subst (λ (b : Bool). P (if b then Some p else c)) (sym (eq-eqb i 0 e)) (none_in e)) (λ n. subst (λ (b : Bool). P (if b then Some p else c)) (sym (ne_eqb i 0 n)) (some_in n))
+closers P i p c none_in some_in = dite (ℕ_discrete i 0) (λ e. subst (λ (b : Bool). P (if b then Some p else c)) (sym (eq-eqb i 0 e)) (none_in e))
+    (λ n. subst (λ (b : Bool). P (if b then Some p else c)) (sym (ne_eqb i 0 n)) (some_in n))
 
 arrives : (s : State) → Sound s → (p : ℕ) → Allowed s (Arrive p) → Sound (after s (Arrive p))
-arrives s h p ok = let c = counts s h p Arrived in let c₀ = c.0 in let c₁ = c.1 in let was₀ = ap is_in ok.0 in let was₁ = ap is_member ok.0 in let g = h.gate in let open_now = no_closer s h p ok.0 in
-    closers (λ z. Sound record { round = s.round; parties = put_party s.parties p (with_status Arrived (party s p)); closer = z; published = s.published; rounds = s.rounds }) (inside (put_party s.parties p (with_status Arrived (party s p)))) p s.closer
+arrives s h p ok = let c = counts s h p Arrived in
+    let c₀ = c.0 in let c₁ = c.1 in let was₀ = ap is_in ok.0 in let was₁ = ap is_member ok.0 in let g = h.gate in let open_now = no_closer s h p ok.0 in
+    closers (λ z. Sound (with_parties s (moved s p Arrived) z s.rounds)) (inside (moved s p Arrived)) p s.closer
     (λ none_in. let m = total_at weight_member refl s.parties p in status_step s h p Arrived (Some p) (inr ok.1) record {
       closing = λ q e. (none_in, omega arith);
       going = λ e. absurd cc;
@@ -145,9 +161,10 @@ arrives s h p ok = let c = counts s h p Arrived in let c₀ = c.0 in let c₁ = 
       led = λ some. leads s h p (λ z. z ≢ Out) Arrived (λ _ e. cc) (λ _. g.led some);
     } used)
   where
-    used : Spent h.fate (now s).jobs (now s).stopped (party_of (put_party s.parties p (with_status Arrived (party s p))) 0).status
+    used : Spent h.fate (now s).jobs (now s).stopped (party_of (moved s p Arrived) 0).status
     used some = leads s h p (λ z. z ≡ Arrived → Used h.fate (now s).jobs (now s).stopped) Arrived
-        (λ _ _. ⊎_elim (λ (n : (k : ℕ) → Free s k → ⊥). inl (λ k lt e. n k (lt, (open_is_free h.fate (now s) s.parties h.work k e).0, (open_is_free h.fate (now s) s.parties h.work k e).1))) inr
+        (λ _ _. ⊎_elim (λ (n : (k : ℕ) → Free s k → ⊥). inl
+        (λ k lt e. n k (lt, (open_is_free h.fate (now s) s.parties h.work k e).0, (open_is_free h.fate (now s) s.parties h.work k e).1))) inr
         (ok.2 (λ e. let z = no_jobs s h p e (no_closer s h p ok.0) in absurd (omega arith)))) (λ _. h.spent some)
 
 pub out_of : (t : Status) → is_member t ≡ 0 → t ≡ Out
@@ -165,8 +182,9 @@ pub none_in : (l : List Party) → inside l ≡ 0 → (q : ℕ) → (party_of l 
 none_in l z q e = let a = total_at weight_in refl l q in let b = ap is_in e in omega arith
 
 -- the round ends, with other statuses and nothing published
-ends : (s : State) (h : Sound s) (ps qs : List Party) → Work h.fate (now s) ps → inside ps ≡ 0 → Used h.fate (now s).jobs (now s).stopped → ((q : ℕ) → (t : Status) × (party_of qs q ≡ with_status t (party_of ps q)))
-    → (0 < members qs → 0 < inside qs) → members qs ≤ 32767 → s.published ≡ None → Sound record { round = s.round + 1; parties = qs; closer = None; published = s.published; rounds = s.rounds }
+ends : (s : State) (h : Sound s) (ps qs : List Party) → Work h.fate (now s) ps
+    → inside ps ≡ 0 → Used h.fate (now s).jobs (now s).stopped → ((q : ℕ) → (t : Status) × (party_of qs q ≡ with_status t (party_of ps q)))
+    → (0 < members qs → 0 < inside qs) → members qs ≤ 32767 → s.published ≡ None → Sound (next_round s qs None)
 ends s h ps qs w z used same going few hidden = let next : s.rounds (s.round + 1) ≡ blank = h.later (s.round + 1) (omega arith) in record {
   fate = λ _. Open;
   work = subst (λ (r : Round). Work (λ _. Open) r qs) (sym next) (restarts h.fate (now s) ps w (none_in ps z) qs same);
@@ -180,17 +198,20 @@ ends s h ps qs w z used same going few hidden = let next : s.rounds (s.round + 1
   };
   spent = subst (λ (r : Round). Spent (λ _. Open) r.jobs r.stopped (party_of qs 0).status) (sym next) (λ lt. absurd (omega arith));
   later = λ q lt. h.later q (omega arith);
-  ended = λ q lt. dite (ℕ_discrete q s.round) (λ e. subst (λ (i : ℕ). Complete (s.rounds i)) (sym e) (completes h.fate (now s) ps w (none_in ps z) used)) (λ n. h.ended q (omega arith));
+  ended = λ q lt. dite (ℕ_discrete q s.round)
+      (λ e. subst (λ (i : ℕ). Complete (s.rounds i)) (sym e) (completes h.fate (now s) ps w (none_in ps z) used)) (λ n. h.ended q (omega arith));
 }
 
 exits : (s : State) → Sound s → (p : ℕ) → Allowed s (Exit p) → Sound (after s (Exit p))
-exits s h p ok = let c = counts s h p Out in let c₀ = c.0 in let c₁ = c.1 in let was₀ = ap is_in ok.0 in let was₁ = ap is_member ok.0 in let g = h.gate in let open_now = no_closer s h p ok.0 in let ps : List Party = put_party s.parties p (with_status Out (party s p)) in
+exits s h p ok = let c = counts s h p Out in let c₀ = c.0 in let c₁ = c.1 in let was₀ = ap is_in ok.0 in
+    let was₁ = ap is_member ok.0 in let g = h.gate in let open_now = no_closer s h p ok.0 in let ps : List Party = moved s p Out in
     dite (ℕ_discrete (members ps) 0)
-    (λ none_left. subst (λ (b : Bool). Sound (if b then record { round = s.round + 1; parties = ps; closer = s.closer; published = s.published; rounds = s.rounds } else arrived s p ps)) (sym (eq-eqb (members ps) 0 none_left))
-    (let z = no_jobs_left none_left in let few = inside_le_members ps in subst (λ (d : Option ℕ). Sound record { round = s.round + 1; parties = ps; closer = d; published = s.published; rounds = s.rounds }) (sym open_now)
-    (ends s h ps ps (status_work h.fate (now s) s.parties h.work p Out (inr ok.1)) (omega arith) (inl (λ k lt. absurd (omega arith))) (λ q. ((party_of ps q).status, refl)) (λ lt. absurd (omega arith)) (omega arith) (hidden z))))
-    (λ some_left. subst (λ (b : Bool). Sound (if b then record { round = s.round + 1; parties = ps; closer = s.closer; published = s.published; rounds = s.rounds } else arrived s p ps)) (sym (ne_eqb (members ps) 0 some_left))
-    (closers (λ z. Sound record { round = s.round; parties = ps; closer = z; published = s.published; rounds = s.rounds }) (inside ps) p s.closer
+    (λ none_left. subst (λ (b : Bool). Sound (if b then next_round s ps s.closer else arrived s p ps)) (sym (eq-eqb (members ps) 0 none_left))
+    (let z = no_jobs_left none_left in let few = inside_le_members ps in subst (λ (d : Option ℕ). Sound (next_round s ps d)) (sym open_now)
+    (ends s h ps ps (status_work h.fate (now s) s.parties h.work p Out (inr ok.1)) (omega arith) (inl (λ k lt. absurd (omega arith)))
+    (λ q. ((party_of ps q).status, refl)) (λ lt. absurd (omega arith)) (omega arith) (hidden z))))
+    (λ some_left. subst (λ (b : Bool). Sound (if b then next_round s ps s.closer else arrived s p ps)) (sym (ne_eqb (members ps) 0 some_left))
+    (closers (λ z. Sound (with_parties s ps z s.rounds)) (inside ps) p s.closer
     (λ none_in. status_step s h p Out (Some p) (inr ok.1) record {
       closing = λ q e. (none_in, omega arith);
       going = λ e. absurd cc;
@@ -208,14 +229,15 @@ exits s h p ok = let c = counts s h p Out in let c₀ = c.0 in let c₁ = c.1 in
       led = led;
     } used)))
   where
-    led : 0 < (now s).jobs → (party_of (put_party s.parties p (with_status Out (party s p))) 0).status ≢ Out
+    led : 0 < (now s).jobs → (party_of (moved s p Out) 0).status ≢ Out
     led some = leads s h p (λ z. z ≢ Out) Out (λ e. let z = no_jobs s h p (ok.2 e) (no_closer s h p ok.0) in absurd (omega arith)) (λ _. h.gate.led some)
 
-    used : Spent h.fate (now s).jobs (now s).stopped (party_of (put_party s.parties p (with_status Out (party s p))) 0).status
+    used : Spent h.fate (now s).jobs (now s).stopped (party_of (moved s p Out) 0).status
     used some = leads s h p (λ z. z ≡ Arrived → Used h.fate (now s).jobs (now s).stopped) Out (λ _ e. absurd cc) (λ _. h.spent some)
 
-    no_jobs_left : members (put_party s.parties p (with_status Out (party s p))) ≡ 0 → (now s).jobs ≡ 0
-    no_jobs_left z = dite (ℕ_discrete (now s).jobs 0) (λ e. e) (λ n. absurd (led (omega arith) (out_of (party_of (put_party s.parties p (with_status Out (party s p))) 0).status (let a = total_at weight_member refl (put_party s.parties p (with_status Out (party s p))) 0 in omega arith))))
+    no_jobs_left : members (moved s p Out) ≡ 0 → (now s).jobs ≡ 0
+    no_jobs_left z = dite (ℕ_discrete (now s).jobs 0) (λ e. e) (λ n. absurd
+        (led (omega arith) (out_of (party_of (moved s p Out) 0).status (let a = total_at weight_member refl (moved s p Out) 0 in omega arith))))
 
     hidden : (now s).jobs ≡ 0 → s.published ≡ None
     hidden z = go s.published refl
@@ -226,25 +248,29 @@ exits s h p ok = let c = counts s h p Out in let c₀ = c.0 in let c₁ = c.1 in
 
 closes : (s : State) → Sound s → (p : ℕ) → Allowed s (End p) → Sound (after s (End p))
 closes s h p ok = let g = h.gate in let c = g.closing p ok.0 in
-    ends s h s.parties (wake s.parties) h.work c.0 (dite (ℕ_discrete (now s).jobs 0) (λ z. inl (λ k lt. absurd (omega arith))) (λ n. h.spent (omega arith) (arrived_of (party s 0).status (g.led (omega arith)) (none_in s.parties c.0 0)))) (λ q. (waking (party s q).status, look_wake s.parties q))
-    (λ lt. let a = inside_wake s.parties in let b = members_wake s.parties in omega arith) (let b = members_wake s.parties in let d = g.few in omega arith) ok.1
+    ends s h s.parties (wake s.parties) h.work c.0 (dite (ℕ_discrete (now s).jobs 0)
+    (λ z. inl (λ k lt. absurd (omega arith))) (λ n. h.spent (omega arith) (arrived_of (party s 0).status (g.led (omega arith)) (none_in s.parties c.0 0))))
+    (λ q. (waking (party s q).status, look_wake s.parties q))
+    (λ lt. let a = inside_wake s.parties in let b = members_wake s.parties in omega arith)
+    (let b = members_wake s.parties in let d = g.few in omega arith) ok.1
 
 publishes : (s : State) → Sound s → (b : Bool) (n : ℕ) → (party s 0).status ≡ In → s.published ≡ None → 2 ≤ n → n ≤ 4294967295 → Sound (publish s b n)
-publishes s h b n at_in hidden low high = let g = h.gate in let z = no_jobs s h 0 hidden (no_closer s h 0 at_in) in let r : Round = record (now s) { jobs = n; stoppable = b } in let now_is : put s.rounds s.round r s.round ≡ r = put_here s.rounds s.round r in record {
-  fate = h.fate;
-  work = subst (λ (x : Round). Work h.fate x s.parties) (sym now_is) (publish_work h.fate (now s) s.parties h.work b n z);
-  gate = subst (λ (x : Round). Gate s.closer (Some n) (inside s.parties) (members s.parties) x.jobs (party s 0).status) (sym now_is) record {
-    closing = g.closing;
-    going = g.going;
-    few = g.few;
-    shown = λ k e. let a : n ≡ k = cc in (a, omega arith, omega arith);
-    hidden = λ e. absurd cc;
-    led = λ _ e. cc;
-  };
-  spent = subst (λ (x : Round). Spent h.fate x.jobs x.stopped (party s 0).status) (sym now_is) (λ _ e. absurd cc);
-  later = λ q lt. put_else s.rounds s.round r q (λ e. omega arith) ∙ h.later q lt;
-  ended = λ q lt. subst Complete (sym (put_else s.rounds s.round r q (λ e. omega arith))) (h.ended q lt);
-}
+publishes s h b n at_in hidden low high = let g = h.gate in let z = no_jobs s h 0 hidden (no_closer s h 0 at_in) in
+    let r : Round = record (now s) { jobs = n; stoppable = b } in let now_is : put s.rounds s.round r s.round ≡ r = put_here s.rounds s.round r in record {
+      fate = h.fate;
+      work = subst (λ (x : Round). Work h.fate x s.parties) (sym now_is) (publish_work h.fate (now s) s.parties h.work b n z);
+      gate = subst (λ (x : Round). Gate s.closer (Some n) (inside s.parties) (members s.parties) x.jobs (party s 0).status) (sym now_is) record {
+        closing = g.closing;
+        going = g.going;
+        few = g.few;
+        shown = λ k e. let a : n ≡ k = cc in (a, omega arith, omega arith);
+        hidden = λ e. absurd cc;
+        led = λ _ e. cc;
+      };
+      spent = subst (λ (x : Round). Spent h.fate x.jobs x.stopped (party s 0).status) (sym now_is) (λ _ e. absurd cc);
+      later = λ q lt. put_else s.rounds s.round r q (λ e. omega arith) ∙ h.later q lt;
+      ended = λ q lt. subst Complete (sym (put_else s.rounds s.round r q (λ e. omega arith))) (h.ended q lt);
+    }
 
 clears : (s : State) → Sound s → (p : ℕ) → s.closer ≡ Some p → Sound (after s (Clear p))
 clears s h p is = let g = h.gate in record {
@@ -271,17 +297,26 @@ pub kept : (s : State) (e : Event) → Sound s → Allowed s e → Sound (after 
 kept s (Join p) h ok = joins s h p ok
 kept s (Publish p n) h ok = publishes s h false n (ap (λ (z : ℕ). (party s z).status) (sym ok.0) ∙ ok.1) ok.2 ok.3 ok.4
 kept s (PublishTry p n) h ok = publishes s h true n (ap (λ (z : ℕ). (party s z).status) (sym ok.0) ∙ ok.1) ok.2 ok.3 ok.4
-kept s (Take p some) h ok = lone_step s h p (record (party s p) { taken = λ k. (party s p).taken k || some k }) (λ k. if some k then Held p else h.fate k) refl (inl (λ k n. pick_open (some k) p (h.fate k) n))
-    (take_work h.fate (now s) s.parties h.work p some ok.1 (λ k e. (free_is_open h.fate (now s) s.parties h.work k (ok.4 k e).1 (ok.4 k e).2, (ok.4 k e).0)))
-kept s (Begin p k) h ok = party_step s h p (record (now s) { begun = (now s).begun ++ k ∷ [] }) (record (party s p) { running = Some k; taken = put (party s p).taken k false }) (put h.fate k (Ran p)) refl refl (λ a. a)
-    (inl (put_all (λ j g. h.fate j ≢ Open → g ≢ Open) h.fate k (Ran p) (λ _ e. cc) (λ j _ a. a))) (begin_work h.fate (now s) s.parties h.work p k ok.0 ok.2 ok.3)
-kept s (Finish p) h ok = let k = ok.0 in subst (λ (l : List ℕ). Sound (change (change_round s (record (now s) { finished = (now s).finished ++ l })) p (record (party s p) { running = None }))) (sym (ap ended_by ok.1))
-    (party_step s h p (record (now s) { finished = (now s).finished ++ k ∷ [] }) (record (party s p) { running = None }) (put h.fate k Done) refl refl (λ a. a)
+kept s (Take p some) h ok = lone_step s h p (record (party s p) { taken = λ k. (party s p).taken k || some k })
+    (λ k. if some k then Held p else h.fate k) refl (inl (λ k n. pick_open (some k) p (h.fate k) n))
+    (take_work h.fate (now s) s.parties h.work p some ok.1
+    (λ k e. (free_is_open h.fate (now s) s.parties h.work k (ok.4 k e).1 (ok.4 k e).2, (ok.4 k e).0)))
+kept s (Begin p k) h ok = party_step s h p (record (now s) { begun = (now s).begun ++ k ∷ [] })
+    (record (party s p) { running = Some k; taken = put (party s p).taken k false }) (put h.fate k (Ran p)) refl refl (λ a. a)
+    (inl (put_all (λ j g. h.fate j ≢ Open → g ≢ Open) h.fate k (Ran p) (λ _ e. cc) (λ j _ a. a)))
+    (begin_work h.fate (now s) s.parties h.work p k ok.0 ok.2 ok.3)
+kept s (Finish p) h ok = let k = ok.0 in subst (λ (l : List ℕ). Sound
+    (change (change_round s (record (now s) { finished = (now s).finished ++ l })) p (record (party s p) { running = None }))) (sym (ap ended_by ok.1))
+    (party_step s h p
+    (record (now s) { finished = (now s).finished ++ k ∷ [] }) (record (party s p) { running = None }) (put h.fate k Done) refl refl (λ a. a)
     (inl (put_all (λ j g. h.fate j ≢ Open → g ≢ Open) h.fate k Done (λ _ e. cc) (λ j _ a. a))) (finish_work h.fate (now s) s.parties h.work p k ok.1))
 kept s (Stop p) h ok = let f = (h.work.fits p).ran ok.0.0 ok.0.1 in let some = h.work.below ok.0.0 (λ e. cc) in
-    work_step s h p (record (now s) { stopped = true; seen = put (now s).seen p true }) s.parties h.fate refl refl refl refl (λ _. refl) (inr refl) (see_work h.fate (now s) s.parties h.work p true (λ _. refl) (λ _. (ok.1, omega arith)) refl)
-kept s (See p) h ok = work_step s h p (record (now s) { seen = put (now s).seen p true }) s.parties h.fate refl refl refl refl (λ a. a) (inr ok.1) (see_work h.fate (now s) s.parties h.work p (now s).stopped (λ e. e) h.work.stops ok.1)
-kept s (PutBack p) h ok = lone_step s h p (record (party s p) { taken = no_set }) (λ k. if (party s p).taken k then Open else h.fate k) refl (inr (h.work.saw p ok.1)) (put_back_work h.fate (now s) s.parties h.work p)
+    work_step s h p (record (now s) { stopped = true; seen = put (now s).seen p true }) s.parties h.fate refl refl refl refl
+    (λ _. refl) (inr refl) (see_work h.fate (now s) s.parties h.work p true (λ _. refl) (λ _. (ok.1, omega arith)) refl)
+kept s (See p) h ok = work_step s h p (record (now s) { seen = put (now s).seen p true }) s.parties h.fate refl refl refl refl
+    (λ a. a) (inr ok.1) (see_work h.fate (now s) s.parties h.work p (now s).stopped (λ e. e) h.work.stops ok.1)
+kept s (PutBack p) h ok = lone_step s h p (record (party s p) { taken = no_set })
+    (λ k. if (party s p).taken k then Open else h.fate k) refl (inr (h.work.saw p ok.1)) (put_back_work h.fate (now s) s.parties h.work p)
 kept s (Arrive p) h ok = arrives s h p ok
 kept s (Leave p) h ok = leaves s h p ok
 kept s (Exit p) h ok = exits s h p ok
@@ -294,12 +329,25 @@ starts = record {
   work = record {
     begun = λ _. refl;
     finished = λ _. refl;
-    fits = λ q. record { held = λ k e. absurd cc; holds = λ k e. absurd cc; ran = λ k e. absurd cc; runs = λ k e. absurd cc; within = λ k. ⊎_elim (λ t. absurd cc) (λ t. absurd cc) };
+    fits = λ q. record {
+      held = λ k e. absurd cc;
+      holds = λ k e. absurd cc;
+      ran = λ k e. absurd cc;
+      runs = λ k e. absurd cc;
+      within = λ k. ⊎_elim (λ t. absurd cc) (λ t. absurd cc);
+    };
     below = λ k n. absurd (n refl);
     stops = λ e. absurd cc;
     saw = λ q e. absurd cc;
   };
-  gate = record { closing = λ c e. absurd cc; going = λ _ lt. absurd (omega arith); few = omega arith; shown = λ n e. absurd cc; hidden = λ _ _. refl; led = λ lt. absurd (omega arith) };
+  gate = record {
+    closing = λ c e. absurd cc;
+    going = λ _ lt. absurd (omega arith);
+    few = omega arith;
+    shown = λ n e. absurd cc;
+    hidden = λ _ _. refl;
+    led = λ lt. absurd (omega arith);
+  };
   spent = λ lt. absurd (omega arith);
   later = λ _ _. refl;
   ended = λ q lt. absurd (omega arith);
@@ -311,9 +359,11 @@ sound (e ∷ es) r = kept (state es) e (sound es r.1) r.0
 
 once : (s : State) → Sound s → IsOnce s
 once s h q k = dite (ℕ_discrete q s.round)
-    (λ e. subst (λ (i : ℕ). (times k (s.rounds i).begun ≤ 1) × (times k (s.rounds i).finished ≤ times k (s.rounds i).begun)) (sym e) (let a = h.work.begun k in let b = h.work.finished k in let c = weights (h.fate k) in let c₀ = c.0 in let c₁ = c.1 in (omega arith, omega arith)))
+    (λ e. subst (λ (i : ℕ). (times k (s.rounds i).begun ≤ 1) × (times k (s.rounds i).finished ≤ times k (s.rounds i).begun)) (sym e)
+    (let a = h.work.begun k in let b = h.work.finished k in let c = weights (h.fate k) in let c₀ = c.0 in let c₁ = c.1 in (omega arith, omega arith)))
     (λ n. ⊎_elim (λ (lt : q < s.round). let c = h.ended q lt in let a = c.once k in let b = c.same k in (a, omega arith))
-    (λ (lt : s.round < q). subst (λ (r : Round). (times k r.begun ≤ 1) × (times k r.finished ≤ times k r.begun)) (sym (h.later q lt)) (omega arith, omega arith)) (apart q s.round n))
+    (λ (lt : s.round < q). subst
+    (λ (r : Round). (times k r.begun ≤ 1) × (times k r.finished ≤ times k r.begun)) (sym (h.later q lt)) (omega arith, omega arith)) (apart q s.round n))
   where
     weights : (f : Fate) → (started f ≤ 1) × (over f ≤ started f)
     weights Open = (omega arith, omega arith)
@@ -336,6 +386,8 @@ hidden_out s h out = go s.published refl
     go (Some n) e = let a = h.gate.shown n e in let a₀ = a.0 in let a₁ = a.1 in absurd (h.gate.led (omega arith) out)
 
 -- where the last member goes, nothing is published
-pub alone_hidden : (s : State) (h : Sound s) (p : ℕ) → (party s p).status ≡ In → (p ≡ 0 → s.published ≡ None) → members (put_party s.parties p (with_status Out (party s p))) ≡ 0 → s.published ≡ None
-alone_hidden s h p at_in fine z = dite (ℕ_discrete p 0) fine (λ n. hidden_out s h (sym (ap (λ (x : Party). x.status) (look_else s.parties p (with_status Out (party s p)) 0 (λ e. n (sym e))))
-    ∙ out_of (party_of (put_party s.parties p (with_status Out (party s p))) 0).status (let a = total_at weight_member refl (put_party s.parties p (with_status Out (party s p))) 0 in omega arith)))
+pub alone_hidden : (s : State) (h : Sound s) (p : ℕ)
+    → (party s p).status ≡ In → (p ≡ 0 → s.published ≡ None) → members (moved s p Out) ≡ 0 → s.published ≡ None
+alone_hidden s h p at_in fine z = dite (ℕ_discrete p 0) fine
+    (λ n. hidden_out s h (sym (ap (λ (x : Party). x.status) (look_else s.parties p (with_status Out (party s p)) 0 (λ e. n (sym e))))
+    ∙ out_of (party_of (moved s p Out) 0).status (let a = total_at weight_member refl (moved s p Out) 0 in omega arith)))

@@ -1,5 +1,6 @@
 -- The machine's tests, each with the fact that it decides, and what it means that a whole list of them fails.
-use Rattle.std.proofs.Common.{◌≡◌, ◌≢◌, ℕ, Bool, true, false, not, ◌&&◌, eq-eqb, ne_eqb, List, [], ◌∷◌, ◌++◌, refl, ap, ◌∙◌, Option, Some, None, is_some, if◌then◌else◌, ◌==◌}
+use Rattle.std.proofs.Common.{◌≡◌, ◌≢◌, ℕ, Bool, true, false, not, ◌&&◌, eq-eqb, ne_eqb, List, [], ◌∷◌, ◌++◌, refl, ap, ◌∙◌, Option, Some, None, is_some}
+use Rattle.std.proofs.Common.{if◌then◌else◌, ◌==◌}
 use mathlib.Core.Logic.{dite}
 use native.Mathlib.Decide.{ℕ_discrete}
 use Rattle.spindle_parts.specs.State.{Status, Out, In, Arrived}
@@ -85,12 +86,14 @@ unless false b f = refl
 -- tests of which the former all fail, or one doesn't
 pub first_past : (xs ys : List (Why × Bool)) → first xs ≡ None → first (xs ++ ys) ≡ first ys
 first_past [] ys e = refl
-first_past (t ∷ xs) ys e = let r = fails_first t.1 t.0 (first xs) e in ap (λ (b : Bool). if b then Some t.0 else first (xs ++ ys)) r.0 ∙ first_past xs ys r.1
+first_past (t ∷ xs) ys e = let r = fails_first t.1 t.0 (first xs) e in
+    ap (λ (b : Bool). if b then Some t.0 else first (xs ++ ys)) r.0 ∙ first_past xs ys r.1
 
 pub first_stops : (xs ys : List (Why × Bool)) (why : Why) → first xs ≡ Some why → first (xs ++ ys) ≡ Some why
 first_stops [] ys why e = absurd cc
 first_stops (t ∷ xs) ys why e = keep t.1 t.0 why (first xs) (first (xs ++ ys)) (first_stops xs ys why) e
   where
-    keep : (b : Bool) (w why : Why) (o o' : Option Why) → (o ≡ Some why → o' ≡ Some why) → (if b then Some w else o) ≡ Some why → (if b then Some w else o') ≡ Some why
+    keep : (b : Bool) (w why : Why) (o o' : Option Why)
+        → (o ≡ Some why → o' ≡ Some why) → (if b then Some w else o) ≡ Some why → (if b then Some w else o') ≡ Some why
     keep true w why o o' f is = is
     keep false w why o o' f is = f is

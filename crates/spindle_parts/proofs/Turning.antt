@@ -27,7 +27,11 @@ flipped r r' = record r { saw = r'.saw; sense = not r.sense; inside = r.members;
 
 pub turned_is : (r r' : Registers) → r'.saw.items ≡ [] → r' ≡ flipped r r' → ((q : ℕ) → status (shown r) q ≢ In) → shown r' ≡ turned (shown r)
 turned_is r r' emptied is none = ap shown is ∙ (λ i. record {
-  seat = λ q. record { status = flips r.sense (sense_of (get nat_cmp r.entries q)) (none q) i; running = running_of (get nat_cmp r.entries q); seen = list_any (λ p. q == p) (emptied i) };
+  seat = λ q. record {
+    status = flips r.sense (sense_of (get nat_cmp r.entries q)) (none q) i;
+    running = running_of (get nat_cmp r.entries q);
+    seen = list_any (λ p. q == p) (emptied i);
+  };
   inside = r.members;
   members = r.members;
   sense = not r.sense;
@@ -43,10 +47,12 @@ turned_is r r' emptied is none = ap shown is ∙ (λ i. record {
 -- an empty list has every mark right
 pub no_marks : (entries : BTreeMap ℕ Entry) (saw : List ℕ) (room : ℕ) → saw ≡ [] → btree_map_len entries ≤ room → IsMarked entries saw room
 unfolding IsDistinct
-no_marks entries saw room e fits = subst (λ (l : List ℕ). IsMarked entries l room) (sym e) record { marked = λ i p is. absurd cc; distinct = tt; room = fits }
+no_marks entries saw room e fits =
+    subst (λ (l : List ℕ). IsMarked entries l room) (sym e) record { marked = λ i p is. absurd cc; distinct = tt; room = fits }
 
 -- where the last member goes, nobody is in
 pub nobody : (m : Configuration) (p : ℕ) → ((q : ℕ) → q ≢ p → status m q ≡ Out) → (q : ℕ) → (standing m p Out q).status ≢ In
 nobody m p others q e = dite (ℕ_discrete q p)
-    (λ i. let a = ap (λ (z : ℕ). (standing m p Out z).status) i in let b = ap (λ (x : Seat). x.status) (put_here m.seat p (record (m.seat p) { status = Out })) in cc)
+    (λ i. let a = ap (λ (z : ℕ). (standing m p Out z).status) i in
+    let b = ap (λ (x : Seat). x.status) (put_here m.seat p (record (m.seat p) { status = Out })) in cc)
     (λ n. let a = ap (λ (x : Seat). x.status) (put_else m.seat p (record (m.seat p) { status = Out }) q n) in let b = others q n in cc)

@@ -19,6 +19,10 @@ running_of (Some e) = e.running
 abbrev pub IsKnown : BTreeMap ℕ Entry → ℕ → Type 0
 IsKnown entries p = (e : Entry) × (get nat_cmp entries p ≡ Some e)
 
+-- nobody loses an entry
+abbrev pub KeepsKnown : BTreeMap ℕ Entry → BTreeMap ℕ Entry → Type 0
+KeepsKnown old new = (p : ℕ) → get nat_cmp new p ≡ None → get nat_cmp old p ≡ None
+
 -- the party's entry is e, the others' are as they were, and no party is new
 pub record Writes (old new : BTreeMap ℕ Entry) (p : ℕ) (e : Entry) : Type 0 where
   pub mine : get nat_cmp new p ≡ Some e

@@ -1,11 +1,14 @@
 -- What a step of the machine's code does: the step of its configuration, or a refusal that changes nothing.
 use Rattle.std.specs.Prelude.{◌≡◌, ℕ, Bool, true, false, List, Some, None, Result, Err, MatchResult}
 use Rattle.spindle_parts.specs.Machine.{Configuration, first, tests, effect, serve, word}
+use Rattle.spindle_parts.specs.Registers.{shown}
+use Rattle.spindle_parts.specs.Contents.{contents}
 use Rattle.spindle_parts.specs.declared.steps.Step.{Step}
 use Rattle.spindle_parts.specs.declared.steps.Why.{Why}
 use Rattle.spindle_parts.specs.declared.steps.Why.TheVariants.{Memory}
 use Rattle.spindle_parts.specs.declared.steps.Reply.{Reply}
 use Rattle.spindle_parts.specs.declared.steps.Reply.TheVariants.{Refused}
+use Rattle.spindle_parts.specs.declared.steps.registers.Registers.{Registers}
 
 -- a growth was granted unless the answer is want of memory
 abbrev pub granted_by : {T : Type 0} → Result T Why → Bool
@@ -17,14 +20,15 @@ abbrev pub Passes : {T : Type 0} → List (Why × Bool) → Result T Why → Typ
 Passes ts outcome = MatchResult outcome (λ _. first ts ≡ None) (λ why. first ts ≡ Some why)
 
 -- Ok with that effect where no test is true, else refused by the first that is, with nothing changed
-abbrev pub Judges : {T : Type 0} → List (Why × Bool) → (m to m' : Configuration) → Result T Why → Type 0
-Judges ts m to m' outcome = MatchResult outcome
-    (λ _. (first ts ≡ None) × (m' ≡ to))
-    (λ why. (first ts ≡ Some why) × (m' ≡ m))
+abbrev pub Judges : {T : Type 0} → List (Why × Bool) → Registers → (to : Configuration) → Registers
+    → Result T Why → Type 0
+Judges ts r to r' outcome = MatchResult outcome
+    (λ _. (first ts ≡ None) × (shown r' ≡ to))
+    (λ why. (first ts ≡ Some why) × (contents r' ≡ contents r))
 
 -- the step of the step table, made or refused
-abbrev pub Serves : {T : Type 0} → Configuration → (granted : Bool) → Step → Configuration → Result T Why → Type 0
-Serves m granted e m' outcome = Judges (tests m granted e) m (effect m e) m' outcome
+abbrev pub Serves : {T : Type 0} → Registers → (granted : Bool) → Step → Registers → Result T Why → Type 0
+Serves r granted e r' outcome = Judges (tests (shown r) granted e) r (effect (shown r) e) r' outcome
 
 -- the answer to the outcome: in the form f, with the word, or the refusal
 abbrev pub Replies : {T : Type 0} → (T → ℕ → Reply) → Configuration → Result T Why → Reply → Type 0

@@ -6,8 +6,9 @@
 ghost use Rattle.std.specs.Prelude.{◌≡◌, ◌<◌, ◌≤◌, IfOk, OnErr, IsErrOf};
 ghost use Rattle.spindle_parts.specs.Machine.{initial};
 ghost use Rattle.spindle_parts.specs.Registers.{shown, IsReached, IsTidy};
-ghost use Rattle.spindle_parts.specs.Contents.{configuration};
+ghost use Rattle.spindle_parts.specs.Contents.{configuration, IsFirstJoin, Remembers};
 ghost use Rattle.spindle_parts.specs.Serving.{Replies, IsServed};
+ghost use Rattle.spindle_parts.specs.EveryRun.{EveryRun};
 ghost use Rattle.spindle_parts.specs.EverySchedule.{EverySchedule};
 
 use crate::fault::Fault;
@@ -127,12 +128,16 @@ impl Machine {
         Ok(Machine { registers })
     }
 
-    /// Makes the step, or refuses it and changes nothing. Only a party's first `Join` takes memory.
+    /// Makes the step, or refuses it and changes nothing; a join refused for memory may leave room behind.
+    /// Only the join of a party that never came takes memory.
     ///
     /// Some schedule leads to the configuration before and after it, so what `every_schedule` says holds of both.
     pub fn step(&mut self, step: Step) -> Reply
         ensures served { IsServed (configuration self.old) step (configuration self.new) result }
         ensures reached { IsReached (configuration self.new) }
+        ensures refused { (why : Why) → result ≡ Reply.Refused why → self.new ≡ self.old }
+        ensures memory { result ≡ Reply.Refused Why.Memory → IsFirstJoin self.old step }
+        ensures known { Remembers self.old self.new }
     {
         let registers = &mut self.registers;
         match step {
@@ -159,7 +164,14 @@ impl Machine {
     }
 }
 
-/// What is true after every schedule, for every number of parties, rounds and counters.
+/// What is true of every run of the model: of any events, of any parties, each allowed where it stands.
+///
+/// The machine's accepted steps are a run; the rule of a round table says that running threads make one.
+pub fn every_run()
+    ensures { EveryRun }
+{}
+
+/// What is true after every schedule, for every number of parties, rounds and counters: its accepted steps are a run.
 pub fn every_schedule()
     ensures { EverySchedule }
 {}

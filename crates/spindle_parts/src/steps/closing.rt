@@ -2,6 +2,7 @@
 //! the closer ends the round.
 ghost use Rattle.std.specs.Prelude.{◌≡◌, true, false, not, ◌==◌, if◌then◌else◌, [], Some, None};
 ghost use Rattle.std.specs.Prelude.{vec_capacity};
+ghost use Rattle.spindle_parts.specs.Entries.{KeepsKnown};
 ghost use Rattle.spindle_parts.specs.Registers.{shown, IsReached, IsTidy};
 ghost use Rattle.spindle_parts.specs.Serving.{Serves};
 ghost use Rattle.spindle_parts.specs.declared.steps.Step.{Step};
@@ -15,7 +16,8 @@ impl Registers {
     pub fn arrive(&mut self, party: u32) -> Result<(), Why>
         requires reached { IsReached (shown self.old) }
         requires tidy { IsTidy self.old }
-        ensures served { Serves (shown self.old) true (Step.Arrive party) (shown self.new) result }
+        ensures served { Serves self.old true (Step.Arrive party) self.new result }
+        ensures known { KeepsKnown self.old.entries self.new.entries }
         ensures tidy { IsTidy self.new }
     {
         if !self.is_inside(party) {
@@ -37,7 +39,8 @@ impl Registers {
     pub fn leave(&mut self, party: u32) -> Result<(), Why>
         requires reached { IsReached (shown self.old) }
         requires tidy { IsTidy self.old }
-        ensures served { Serves (shown self.old) true (Step.Leave party) (shown self.new) result }
+        ensures served { Serves self.old true (Step.Leave party) self.new result }
+        ensures known { KeepsKnown self.old.entries self.new.entries }
         ensures tidy { IsTidy self.new }
     {
         if !self.is_waiting(party) {
@@ -57,7 +60,8 @@ impl Registers {
     /// The closer takes back what is published.
     pub fn clear(&mut self, party: u32) -> Result<(), Why>
         requires tidy { IsTidy self.old }
-        ensures served { Serves (shown self.old) true (Step.Clear party) (shown self.new) result }
+        ensures served { Serves self.old true (Step.Clear party) self.new result }
+        ensures known { KeepsKnown self.old.entries self.new.entries }
         ensures tidy { IsTidy self.new }
     {
         if !self.is_closer(party) {
@@ -71,7 +75,8 @@ impl Registers {
     pub fn end(&mut self, party: u32) -> Result<(), Why>
         requires reached { IsReached (shown self.old) }
         requires tidy { IsTidy self.old }
-        ensures served { Serves (shown self.old) true (Step.End party) (shown self.new) result }
+        ensures served { Serves self.old true (Step.End party) self.new result }
+        ensures known { KeepsKnown self.old.entries self.new.entries }
         ensures tidy { IsTidy self.new }
     {
         if !self.is_closer(party) {

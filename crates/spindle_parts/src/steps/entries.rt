@@ -2,12 +2,13 @@
 //!
 //! The list and the entries' marks are a sparse set: a party stands in it where the list has the party at its mark. So it is
 //! emptied at a round's end without a look at any entry.
-ghost use Rattle.std.specs.Prelude.{◌≡◌, ℕ, true, ◌==◌, IfSome, OnOk, OnErr, Some, vec_capacity};
+ghost use Rattle.std.specs.Prelude.{◌≡◌, ℕ, true, ◌==◌, IfSome, OnOk, OnErr, Some, None, vec_capacity};
 ghost use Rattle.std.specs.List.{list_any};
 ghost use Rattle.std.specs.Ordering.{nat_cmp};
 ghost use Rattle.std.specs.BTreeMap.{get};
 ghost use Rattle.spindle_parts.specs.State.{put};
-ghost use Rattle.spindle_parts.specs.Entries.{Writes, Seats, KeepsSeats, IsKnown, IsMarked};
+ghost use Rattle.spindle_parts.specs.Entries.{Writes, Seats, KeepsSeats, KeepsKnown};
+ghost use Rattle.spindle_parts.specs.Entries.{IsKnown, IsMarked};
 
 use crate::steps::registers::Entry;
 use std::alloc::AllocError;
@@ -18,8 +19,9 @@ pub type Entries = BTreeMap<u32, Entry>;
 
 /// Gives a party that has an entry that sense.
 pub fn set_sense(entries: &mut Entries, party: u32, sense: Option<bool>)
-    ensures { IfSome (get nat_cmp entries.old party)
+    ensures written { IfSome (get nat_cmp entries.old party)
         (λ e. Writes entries.old entries.new party (record e { sense = sense })) }
+    ensures known { KeepsKnown entries.old entries.new }
 {
     if let Some(entry) = entries.get_mut(&party) {
         entry.sense = sense;
@@ -28,8 +30,9 @@ pub fn set_sense(entries: &mut Entries, party: u32, sense: Option<bool>)
 
 /// Gives a party that has an entry that job, or none.
 pub fn set_running(entries: &mut Entries, party: u32, running: Option<u32>)
-    ensures { IfSome (get nat_cmp entries.old party)
+    ensures written { IfSome (get nat_cmp entries.old party)
         (λ e. Writes entries.old entries.new party (record e { running = running })) }
+    ensures known { KeepsKnown entries.old entries.new }
 {
     if let Some(entry) = entries.get_mut(&party) {
         entry.running = running;
@@ -38,15 +41,17 @@ pub fn set_running(entries: &mut Entries, party: u32, running: Option<u32>)
 
 /// Gives a party that has an entry that mark.
 pub fn set_mark(entries: &mut Entries, party: u32, mark: usize)
-    ensures { IfSome (get nat_cmp entries.old party)
+    ensures written { IfSome (get nat_cmp entries.old party)
         (λ e. Writes entries.old entries.new party (record e { mark = mark })) }
+    ensures known { KeepsKnown entries.old entries.new }
 {
     if let Some(entry) = entries.get_mut(&party) {
         entry.mark = mark;
     }
 }
 
-/// Makes the party a member with that sense. A party's first entry comes with room for it in the list of those that saw a stop.
+/// Makes the party a member with that sense. Its first entry alone takes memory, and comes with room for
+/// it in the list of those that saw a stop.
 pub fn admit(
     entries: &mut Entries,
     saw: &mut Vec<u32>,
@@ -57,7 +62,9 @@ pub fn admit(
     ensures saw { saw.new.items ≡ saw.old.items }
     ensures marks { IsMarked entries.new saw.new.items (vec_capacity saw.new) }
     ensures ok { OnOk result (Seats entries.old entries.new party (Some sense)) }
-    ensures err { OnErr result ((q : ℕ) → get nat_cmp entries.new q ≡ get nat_cmp entries.old q) }
+    ensures err { OnErr result (entries.new.entries ≡ entries.old.entries) }
+    ensures first { OnErr result (get nat_cmp entries.old party ≡ None) }
+    ensures known { KeepsKnown entries.old entries.new }
 {
     if entries.contains_key(&party) {
         set_sense(entries, party, Some(sense));
@@ -92,6 +99,7 @@ pub fn note(entries: &mut Entries, saw: &mut Vec<u32>, party: u32)
     ensures seen { (q : ℕ) → list_any (λ p. q == p) saw.new.items
         ≡ put (λ q. list_any (λ p. q == p) saw.old.items) party true q }
     ensures seats { KeepsSeats entries.old entries.new }
+    ensures known { KeepsKnown entries.old entries.new }
 {
     if has_seen(entries, saw, party) {
         return;

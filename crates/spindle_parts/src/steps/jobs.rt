@@ -2,6 +2,7 @@
 ghost use Rattle.std.specs.Prelude.{◌≡◌, ◌≤◌, true, Some, IfOk, replicate, length};
 ghost use Rattle.spindle_parts.specs.Machine.{publish_tests, publishing, claim_tests};
 ghost use Rattle.spindle_parts.specs.Machine.{claimed, rested};
+ghost use Rattle.spindle_parts.specs.Entries.{KeepsKnown};
 ghost use Rattle.spindle_parts.specs.Registers.{shown, IsReached, IsTidy};
 ghost use Rattle.spindle_parts.specs.Serving.{Passes, Judges, Serves};
 ghost use Rattle.spindle_parts.specs.declared.steps.Step.{Step};
@@ -16,7 +17,8 @@ impl Registers {
         requires reached { IsReached (shown self.old) }
         requires tidy { IsTidy self.old }
         ensures served { let m = shown self.old in
-            Judges (publish_tests m party count) m (publishing m count stoppable) (shown self.new) result }
+            Judges (publish_tests m party count) self.old (publishing m count stoppable) self.new result }
+        ensures known { KeepsKnown self.old.entries self.new.entries }
         ensures range { IfOk result (λ _. count ≤ 4294967295) }
         ensures tidy { IsTidy self.new }
     {
@@ -68,7 +70,8 @@ impl Registers {
         requires reached { IsReached (shown self.old) }
         requires tidy { IsTidy self.old }
         ensures served { let step = Step.Claim party thread in
-            Serves (shown self.old) true step (shown self.new) result }
+            Serves self.old true step self.new result }
+        ensures known { KeepsKnown self.old.entries self.new.entries }
         ensures number { IfOk result (λ k. k ≡ claimed (shown self.old) thread) }
         ensures tidy { IsTidy self.new }
     {
@@ -93,7 +96,8 @@ impl Registers {
     pub fn rest(&mut self, party: u32) -> Result<u32, Why>
         requires reached { IsReached (shown self.old) }
         requires tidy { IsTidy self.old }
-        ensures served { Serves (shown self.old) true (Step.Rest party) (shown self.new) result }
+        ensures served { Serves self.old true (Step.Rest party) self.new result }
+        ensures known { KeepsKnown self.old.entries self.new.entries }
         ensures number { IfOk result (λ k. k ≡ rested (shown self.old)) }
         ensures tidy { IsTidy self.new }
     {
@@ -112,7 +116,8 @@ impl Registers {
     pub fn finish(&mut self, party: u32) -> Result<(), Why>
         requires reached { IsReached (shown self.old) }
         requires tidy { IsTidy self.old }
-        ensures served { Serves (shown self.old) true (Step.Finish party) (shown self.new) result }
+        ensures served { Serves self.old true (Step.Finish party) self.new result }
+        ensures known { KeepsKnown self.old.entries self.new.entries }
         ensures tidy { IsTidy self.new }
     {
         if self.running(party).is_none() {
@@ -126,7 +131,8 @@ impl Registers {
     /// A party that runs a job stops a round that may stop, and has seen that.
     pub fn stop(&mut self, party: u32) -> Result<(), Why>
         requires tidy { IsTidy self.old }
-        ensures served { Serves (shown self.old) true (Step.Stop party) (shown self.new) result }
+        ensures served { Serves self.old true (Step.Stop party) self.new result }
+        ensures known { KeepsKnown self.old.entries self.new.entries }
         ensures tidy { IsTidy self.new }
     {
         if self.running(party).is_none() {
@@ -143,7 +149,8 @@ impl Registers {
     /// A member that is in sees that the round was stopped.
     pub fn see(&mut self, party: u32) -> Result<(), Why>
         requires tidy { IsTidy self.old }
-        ensures served { Serves (shown self.old) true (Step.See party) (shown self.new) result }
+        ensures served { Serves self.old true (Step.See party) self.new result }
+        ensures known { KeepsKnown self.old.entries self.new.entries }
         ensures tidy { IsTidy self.new }
     {
         if !self.is_inside(party) {

@@ -1,5 +1,8 @@
 //! The steps by which a party comes, and by which it goes without waiting for the round's end.
-ghost use Rattle.std.specs.Prelude.{◌≡◌, ◌==◌, ◌&&◌, true, is_some};
+ghost use Rattle.std.specs.Prelude.{◌≡◌, ◌==◌, ◌&&◌, true, is_some, None, Err};
+ghost use Rattle.std.specs.Ordering.{nat_cmp};
+ghost use Rattle.std.specs.BTreeMap.{get};
+ghost use Rattle.spindle_parts.specs.Entries.{KeepsKnown};
 ghost use Rattle.spindle_parts.specs.Registers.{shown, IsReached, IsTidy};
 ghost use Rattle.spindle_parts.specs.Serving.{Serves, granted_by};
 ghost use Rattle.spindle_parts.specs.declared.steps.Step.{Step};
@@ -12,11 +15,14 @@ use crate::steps::registers::Registers;
 pub const MOST_MEMBERS: u32 = 32767;
 
 impl Registers {
-    /// Makes the party a member that is in, while there is no closer. The only step that takes memory.
+    /// Makes the party a member that is in, while there is no closer. A party's first join takes memory, and
+    /// no other step does.
     pub fn join(&mut self, party: u32) -> Result<(), Why>
         requires tidy { IsTidy self.old }
         ensures served { let granted = granted_by result in
-            Serves (shown self.old) granted (Step.Join party) (shown self.new) result }
+            Serves self.old granted (Step.Join party) self.new result }
+        ensures known { KeepsKnown self.old.entries self.new.entries }
+        ensures first { result ≡ Err Why.Memory → get nat_cmp self.old.entries party ≡ None }
         ensures tidy { IsTidy self.new }
     {
         if !self.is_out(party) {
@@ -40,7 +46,8 @@ impl Registers {
     pub fn exit(&mut self, party: u32) -> Result<(), Why>
         requires reached { IsReached (shown self.old) }
         requires tidy { IsTidy self.old }
-        ensures served { Serves (shown self.old) true (Step.Exit party) (shown self.new) result }
+        ensures served { Serves self.old true (Step.Exit party) self.new result }
+        ensures known { KeepsKnown self.old.entries self.new.entries }
         ensures tidy { IsTidy self.new }
     {
         if !self.is_inside(party) {

@@ -1,4 +1,4 @@
-//! Joins whose growth is refused.
+//! Joins whose growth is refused, and that no other join is refused for memory.
 
 use crate::steps::Step::{Arrive, Exit, Join, Leave, PublishTry, Rest, See, Stop};
 use crate::steps::tests::{accept, fresh, word};
@@ -14,9 +14,9 @@ fn join_at_last(rt: &impl Abort, machine: &mut Machine, party: u32) -> Reply {
     }
 }
 
-/// Holds with ample memory, and with each allocation refused in turn (`rt try --test --fail-alloc N`).
+/// Holds with ample memory, and with each allocation refused in turn.
 #[test]
-fn a_refused_growth_changes_nothing(rt: HostRuntime) -> Result<(), Fail> {
+fn refused_growth_changes_nothing(rt: HostRuntime) -> Result<(), Fail> {
     let mut machine = match fresh(rt.alloc()) {
         Ok(machine) => machine,
         Err(_) => fresh(rt.alloc())?,
@@ -44,5 +44,33 @@ fn a_refused_growth_changes_nothing(rt: HostRuntime) -> Result<(), Fail> {
             ],
         );
     }
+    Ok(())
+}
+
+/// Parties from all over their numbers: 0, the powers of two, and what lies just below these.
+#[test]
+fn every_number_may_be_a_party(rt: HostRuntime) -> Result<(), Fail> {
+    let mut machine = fresh(rt.alloc())?;
+    accept(&rt, &mut machine, &[Join(0), Join(40000)]);
+    for bit in 0..32u32 {
+        accept(&rt, &mut machine, &[Join(u32::MAX >> bit)]);
+    }
+    for bit in 1..32u32 {
+        accept(&rt, &mut machine, &[Join(1 << bit)]);
+    }
+    assert_eq!(rt; machine.step(Join(3_000_000_000)), word(0x0042_0042));
+    Ok(())
+}
+
+/// A hundred thousand of them, one after another, each with a number far from the last one's.
+#[test]
+fn as_many_parties_as_come(rt: HostRuntime) -> Result<(), Fail> {
+    let mut machine = fresh(rt.alloc())?;
+    accept(&rt, &mut machine, &[Join(0)]);
+    for count in 1..100_000u32 {
+        let party = count.wrapping_mul(0x9E37_79B1);
+        accept(&rt, &mut machine, &[Join(party), Exit(party)]);
+    }
+    assert_eq!(rt; machine.step(Join(1)), word(0x0002_0002));
     Ok(())
 }

@@ -6,12 +6,15 @@ use Rattle.spindle_parts.proofs.Marks.{known_inside, sense_kept}
 use Rattle.spindle_parts.proofs.steps.registers.Registers.arrive.Goals as goal
 
 pub overflow_sub-self : goal.overflow_sub-self
-overflow_sub-self c = let b = (bounds (shown c.args.self.now) c.requires.reached).in_counts c.args.party (sym c.is_inside.ensures ∙ c.if-not-is_inside.false) in let b₀ = b.0 in omega arith
+overflow_sub-self c =
+    let b = (bounds (shown c.args.self.now) c.requires.reached).in_counts c.args.party (sym c.is_inside.ensures ∙ c.if-not-is_inside.false) in
+    let b₀ = b.0 in omega arith
 
 pub returns-clause-tidy : goal.returns-clause-tidy
-returns-clause-tidy c = let r = c.args.self.now in let t = c.requires.tidy in let le = t.inside in let w = sym c.is_inside.ensures ∙ c.if-not-is_inside.false in subst IsTidy (sym c.close.ensures) record {
-  marks = sense_kept r.entries _ _ _ c.args.party t.marks (known_inside r c.args.party w) _ c.set_sense.ensures;
-  left = t.left;
-  inside = omega arith;
-  members = t.members;
-}
+returns-clause-tidy c = let r = c.args.self.now in let t = c.requires.tidy in
+    let le = t.inside in let w = sym c.is_inside.ensures ∙ c.if-not-is_inside.false in subst IsTidy (sym c.close.ensures) record {
+      marks = sense_kept r.entries _ _ _ c.args.party t.marks (known_inside r c.args.party w) _ c.set_sense.ensures.written;
+      left = t.left;
+      inside = omega arith;
+      members = t.members;
+    }

@@ -7,9 +7,18 @@ use Rattle.spindle_parts.proofs.Turning.{turned_is, no_marks}
 use Rattle.spindle_parts.proofs.steps.registers.Registers.end.Goals as goal
 
 pub returns-clause-served : goal.returns-clause-served
-returns-clause-served c = let r = c.args.self.now in let is = sym c.is_closer.ensures ∙ c.if-not-is_closer.false in
-    (search rules, turned_is r c.turn.new.self c.turn.ensures.saw c.turn.ensures.turned (λ q. (bounds (shown r) c.requires.reached).closed c.args.party q (party_by r.closer c.args.party is)))
+returns-clause-served c = let r = c.args.self.now in let is = sym c.is_closer.ensures ∙ c.if-not-is_closer.false in (
+  search rules,
+  turned_is r c.turn.new.self c.turn.ensures.saw c.turn.ensures.turned
+      (λ q. (bounds (shown r) c.requires.reached).closed c.args.party q (party_by r.closer c.args.party is)),
+)
 
 pub returns-clause-tidy : goal.returns-clause-tidy
-returns-clause-tidy c = let r = c.args.self.now in let t = c.requires.tidy in let room = c.turn.ensures.room in let fits = t.marks.room in let most = t.members in
-    subst IsTidy (sym c.turn.ensures.turned) record { marks = no_marks r.entries c.turn.new.self.saw.items _ c.turn.ensures.saw (omega arith); left = t.left; inside = omega arith; members = most }
+returns-clause-tidy c = let r = c.args.self.now in
+    let t = c.requires.tidy in let room = c.turn.ensures.room in let fits = t.marks.room in let most = t.members in
+    subst IsTidy (sym c.turn.ensures.turned) record {
+      marks = no_marks r.entries c.turn.new.self.saw.items _ c.turn.ensures.saw (omega arith);
+      left = t.left;
+      inside = omega arith;
+      members = most;
+    }

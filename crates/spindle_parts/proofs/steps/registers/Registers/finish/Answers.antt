@@ -6,4 +6,5 @@ use Rattle.spindle_parts.proofs.Tests.{some_by}
 use Rattle.spindle_parts.proofs.steps.registers.Registers.finish.Goals as goal
 
 pub overflow_add-self : goal.overflow_add-self
-overflow_add-self c = let x = some_by c.running.result (let e = c.is_none.ensures in let f = c.if-is_none.false in cc) in let b = (bounds (shown c.args.self.now) c.requires.reached).finishes c.args.party x.0 (sym c.running.ensures ∙ x.1) in omega arith
+overflow_add-self c = let x = some_by c.running.result (let e = c.is_none.ensures in let f = c.if-is_none.false in cc) in
+    let b = (bounds (shown c.args.self.now) c.requires.reached).finishes c.args.party x.0 (sym c.running.ensures ∙ x.1) in omega arith

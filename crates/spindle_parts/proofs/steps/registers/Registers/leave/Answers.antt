@@ -6,12 +6,14 @@ use Rattle.spindle_parts.proofs.Marks.{known_waiting, sense_kept}
 use Rattle.spindle_parts.proofs.steps.registers.Registers.leave.Goals as goal
 
 pub overflow_sub-self : goal.overflow_sub-self
-overflow_sub-self c = let b = (bounds (shown c.args.self.now) c.requires.reached).waiting_counts c.args.party (sym c.is_waiting.ensures ∙ c.if-not-is_waiting.false) in omega arith
+overflow_sub-self c = let b =
+    (bounds (shown c.args.self.now) c.requires.reached).waiting_counts c.args.party (sym c.is_waiting.ensures ∙ c.if-not-is_waiting.false) in omega arith
 
 pub returns-clause-tidy : goal.returns-clause-tidy
-returns-clause-tidy c = let r = c.args.self.now in let w = sym c.is_waiting.ensures ∙ c.if-not-is_waiting.false in let b = (bounds (shown r) c.requires.reached).waiting_counts c.args.party w in record {
-  marks = sense_kept r.entries _ _ _ c.args.party c.requires.tidy.marks (known_waiting r c.args.party w) _ c.set_sense.ensures;
-  left = c.requires.tidy.left;
-  inside = omega arith;
-  members = let d = c.requires.tidy.members in omega arith;
-}
+returns-clause-tidy c = let r = c.args.self.now in
+    let w = sym c.is_waiting.ensures ∙ c.if-not-is_waiting.false in let b = (bounds (shown r) c.requires.reached).waiting_counts c.args.party w in record {
+      marks = sense_kept r.entries _ _ _ c.args.party c.requires.tidy.marks (known_waiting r c.args.party w) _ c.set_sense.ensures.written;
+      left = c.requires.tidy.left;
+      inside = omega arith;
+      members = let d = c.requires.tidy.members in omega arith;
+    }
