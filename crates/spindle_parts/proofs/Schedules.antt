@@ -1,19 +1,19 @@
 -- After every schedule the machine shows the state of the run that its accepted steps are.
 use Rattle.std.proofs.Common.{◌≡◌, ◌≢◌, ◌↔◌, ℕ, ◌*◌, ◌-◌, ◌<◌, Bool, true, false, List, [], ◌∷◌, ◌++◌, append_assoc, length, sym, refl, ap, ◌∙◌, subst, arith, Option, Some, None, is_none, unwrap_or, if◌then◌else◌}
 use Rattle.std.proofs.lemmas.List.{length-set, length-replicate}
-use Rattle.spindle_parts.specs.State.{In, Arrived, State, party}
+use Rattle.spindle_parts.specs.State.{State}
 use Rattle.spindle_parts.specs.Steps.{Event}
 use Rattle.spindle_parts.specs.Runs.{state, IsRun}
 use Rattle.spindle_parts.specs.BarrierWord as barrier
 use Rattle.spindle_parts.specs.Machine.{Configuration, word, own, counter, claimed, rested, first, judged, tests, effect, answer, serve}
-use Rattle.spindle_parts.specs.EverySchedule.{Call, IsInRange, IsSchedule, events_of, refusal, IsRefusedForMemory, played, accepted, history, Shows, IsFair, Waits, Rests, machine, run_of, Laws}
+use Rattle.spindle_parts.specs.EverySchedule.{Call, IsInRange, IsSchedule, events_of, refusal, IsRefusedForMemory, played, accepted, history, Shows, IsFair, machine, run_of, GoesOn, Laws}
 use Rattle.spindle_parts.specs.declared.steps.Step.{Step}
 use Rattle.spindle_parts.specs.declared.steps.Step.TheVariants.{Join, Publish, PublishTry, Claim, Rest, Finish, Stop, See, Arrive, Leave, Exit, Clear, End}
 use Rattle.spindle_parts.specs.declared.steps.Why.{Why}
 use Rattle.spindle_parts.specs.declared.steps.Why.TheVariants.{Member, Full, Closing, Memory}
 use Rattle.spindle_parts.specs.declared.steps.Reply.TheVariants.{Refused}
-use Rattle.spindle_parts.proofs.Soundness.{sound, run_once, alone_hidden}
-use Rattle.spindle_parts.proofs.Waiting.{stays, waits_on, is_whole, begins_within, ends_cleared}
+use Rattle.spindle_parts.proofs.Soundness.{sound, alone_hidden}
+use Rattle.spindle_parts.proofs.Waiting.{lawful}
 use Rattle.spindle_parts.proofs.Tests.{all_fail, none_first}
 use Rattle.spindle_parts.proofs.Following.{agrees, joins, leaves, arrives, ends, exits, clears, stops, looks, finishes}
 use Rattle.spindle_parts.proofs.Claiming.{publishes, may_take, claims, rests}
@@ -144,26 +144,20 @@ refused_by : (m : Configuration) (e : Step) (why : Why) (o : Option Why) → (ju
 refused_by m e why None z = absurd (no_refusal m e why z)
 refused_by m e why (Some w) z = ((let i : w ≡ why = cc in ap (λ (x : Why). let o : Option Why = Some x in o) i), refl)
 
-module _ (m : Configuration) (es : List Event) (f : Follows m es) (some : 0 < length m.counters) where
-  waits_law : (later : List Call) (p : ℕ) → Rests m later p → (party (state es) p).status ≡ Arrived → Waits (state es) (state (history m later ++ es)) (word (played m later))
-  waits_law later p r at = let g = goes m es later some r.0 f in subst (Waits (state es) (state (history m later ++ es))) (sym (same_word (played m later) (state (history m later ++ es)) g.1.shows)) (waits_on (history m later) es p g.1.run r.1 at)
-
-  keeps_law : (later : List Call) (p : ℕ) → Rests m later p → (party (state es) p).status ≡ In → (state (history m later ++ es)).round ≡ (state es).round
-  keeps_law later p r at = let g = goes m es later some r.0 f in (stays (history m later) es p g.1.run r.1 at).0
+goes_on_law : (m : Configuration) (es : List Event) → Follows m es → 0 < length m.counters → (later : List Call) → IsSchedule later
+    → GoesOn m es later
+goes_on_law m es f some later ok = let g = (goes m es later some ok f).1 in
+    record { run = g.run; word_is = same_word (played m later) (state (history m later ++ es)) g.shows }
 
 pub laws : (threads : ℕ) (cs : List Call) → 0 < threads → IsSchedule cs → Laws threads (machine threads cs) (run_of threads cs)
 laws threads cs some ok = let m = machine threads cs in let es = run_of threads cs in let f = follows threads cs some ok in let size = size_is threads cs in let pos : 0 < length (machine threads cs).counters = omega arith in record {
   run = f.run;
+  lawful = lawful es f.run;
   shows = f.shows;
   word_is = same_word m (state es) f.shows;
   counters = size;
-  once = run_once es f.run;
-  begins = begins_within es f.run;
-  whole = λ q lt. is_whole ((state es).rounds q) ((sound es f.run).ended q lt);
-  cleared = ends_cleared es f.run;
   exact = exactly m es f pos;
   memory = refused_for_memory m;
   refused = λ c why e. refused_by m c.step why (refusal m c) e;
-  waits = waits_law m es f pos;
-  keeps = keeps_law m es f pos;
+  goes_on = goes_on_law m es f pos;
 }

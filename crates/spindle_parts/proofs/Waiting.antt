@@ -1,15 +1,14 @@
 -- What a run says of a party that takes no step in it, and of each of its events.
-use Rattle.std.proofs.Common.{◌≡◌, ◌≢◌, ◌⊎◌, inl, inr, ⊎_elim, ℕ, ◌+◌, ◌/◌, ◌%◌, ◌<◌, Bool, List, [], ◌∷◌, ◌++◌, sym, refl, ap, ◌∙◌, subst, arith, None, if◌then◌else◌, ne_eqb}
+use Rattle.std.proofs.Common.{◌≡◌, ◌≢◌, ◌⊎◌, inl, inr, ⊎_elim, ℕ, ◌+◌, ◌%◌, ◌<◌, Bool, List, [], ◌∷◌, ◌++◌, sym, refl, ap, ◌∙◌, subst, arith, None, if◌then◌else◌, ne_eqb}
 use mathlib.Core.Logic.{dite}
 use native.Mathlib.Decide.{ℕ_discrete}
 use Rattle.spindle_parts.specs.State.{Out, In, Arrived, Party, Round, State, put_party, members, now, party}
 use Rattle.spindle_parts.specs.Steps.{with_status, Allowed, after, arrived, Event, Join, Publish, PublishTry, Take, Begin, Finish, Stop, See, PutBack, Arrive, Leave, Exit, Clear, End}
 use Rattle.spindle_parts.specs.Runs.{state, IsRun}
-use Rattle.spindle_parts.specs.BarrierWord.{word}
-use Rattle.spindle_parts.specs.EverySchedule.{AtEach, BeginsWithin, EndsCleared, NoneBy, Waits, IsWhole}
+use Rattle.spindle_parts.specs.EveryRun.{AtEach, BeginsWithin, EndsCleared, NoneBy, sense_shown, Waits, IsWhole, EveryRun}
 use Rattle.spindle_parts.proofs.Parties.{inside_le_members}
 use Rattle.spindle_parts.proofs.Fates.{Complete}
-use Rattle.spindle_parts.proofs.Soundness.{Sound, sound, alone_hidden}
+use Rattle.spindle_parts.proofs.Soundness.{Sound, sound, run_once, alone_hidden}
 use Rattle.spindle_parts.proofs.Frames.{Steady, Turned, frame}
 
 -- the earlier part of a run is a run
@@ -40,16 +39,18 @@ waiting [] rs p run none at = inl (refl, at)
 waiting (e ∷ es) rs p run none at = one_more (state rs) (state (es ++ rs)) (after (state (es ++ rs)) e) p (waiting es rs p run.1 none.1 at) (frame (state (es ++ rs)) (sound (es ++ rs) run.1) e p run.0 (λ i. none.0 (sym i)))
 
 -- the word's highest bit is the lowest of the round
-top_bit : (s : State) → Sound s → word s / 2147483648 ≡ s.round % 2
+top_bit : (s : State) → Sound s → sense_shown s ≡ s.round % 2
 top_bit s h = let few = h.gate.few in let le = inside_le_members s.parties in omega arith
 
-seen_end : (s s' : State) (p : ℕ) → Sound s' → Waiting s p s' → Waits s s' (word s')
-seen_end s s' p h w = let bit = top_bit s' h in ⊎_elim
-    (λ (a : (s'.round ≡ s.round) × ((party s' p).status ≡ Arrived)). let o = a.0 in record { next = inl a.0; sees = ((λ e. omega arith), (λ lt. absurd (omega arith))) })
-    (λ (a : (s'.round ≡ s.round + 1) × ((party s' p).status ≡ In)). let o = a.0 in record { next = inr a.0; sees = ((λ _. omega arith), (λ _. bit ∙ ap (λ (n : ℕ). n % 2) a.0)) }) w
-
-pub waits_on : (es rs : List Event) (p : ℕ) → IsRun (es ++ rs) → NoneBy p es → (party (state rs) p).status ≡ Arrived → Waits (state rs) (state (es ++ rs)) (word (state (es ++ rs)))
-waits_on es rs p run none at = seen_end (state rs) (state (es ++ rs)) p (sound (es ++ rs) run) (waiting es rs p run none at)
+seen_end : (s s' : State) (p : ℕ) → Sound s' → Waiting s p s' → Waits s s' p
+seen_end s s' p h w = let bit = top_bit s' h in record {
+  next = w;
+  sees = ⊎_elim
+      (λ (a : (s'.round ≡ s.round) × ((party s' p).status ≡ Arrived)).
+      let o = a.0 in ((λ e. omega arith), (λ lt. absurd (omega arith))))
+      (λ (a : (s'.round ≡ s.round + 1) × ((party s' p).status ≡ In)).
+      let o = a.0 in ((λ _. omega arith), (λ _. bit ∙ ap (λ (n : ℕ). n % 2) o))) w;
+}
 
 -- each ended round is whole
 pub is_whole : (r : Round) → Complete r → IsWhole r
@@ -89,3 +90,15 @@ cleared_at s h (End p) ok turns = ok.1
 
 pub ends_cleared : (es : List Event) → IsRun es → AtEach EndsCleared es
 ends_cleared = at_each EndsCleared (λ es e h ok. cleared_at (state es) h e ok)
+
+-- the laws of every run
+pub lawful : EveryRun
+lawful es run = record {
+  once = run_once es run;
+  begins = begins_within es run;
+  whole = λ q lt. is_whole ((state es).rounds q) ((sound es run).ended q lt);
+  cleared = ends_cleared es run;
+  waits = λ later p r at. seen_end (state es) (state (later ++ es)) p (sound (later ++ es) r.run)
+      (waiting later es p r.run r.none at);
+  keeps = λ later p r at. (stays later es p r.run r.none at).0;
+}

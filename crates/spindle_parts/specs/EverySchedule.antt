@@ -1,9 +1,10 @@
 -- What is true of the machine after any schedule: the definitions of the model of rounds hold of it.
-use Rattle.std.specs.Prelude.{◌≡◌, ◌≢◌, ◌⊎◌, ◌↔◌, ℕ, ◌+◌, ◌*◌, ◌/◌, ◌%◌, ◌<◌, ◌≤◌, Bool, true, false, is_none, unwrap_or, List, [], ◌∷◌, ◌++◌, length, Option, Some, None, if◌then◌else◌, ◌==◌}
-use Rattle.spindle_parts.specs.State.{In, Arrived, Round, State, inside, members, times, now, party, Free}
-use Rattle.spindle_parts.specs.Steps.{Event, Allowed, by}
+use Rattle.std.specs.Prelude.{◌≡◌, ◌≢◌, ◌⊎◌, ◌↔◌, ℕ, ◌+◌, ◌*◌, ◌%◌, ◌<◌, ◌≤◌, Bool, true, false, is_none, unwrap_or, List, [], ◌∷◌, ◌++◌, length, Option, Some, None, if◌then◌else◌, ◌==◌}
+use Rattle.spindle_parts.specs.State.{In, State, inside, members, now, party, Free}
+use Rattle.spindle_parts.specs.Steps.{Event, Allowed}
 use Rattle.spindle_parts.specs.Steps as events
-use Rattle.spindle_parts.specs.Runs.{state, IsRun, IsOnce}
+use Rattle.spindle_parts.specs.Runs.{state, IsRun}
+use Rattle.spindle_parts.specs.EveryRun.{RunLaws}
 use Rattle.spindle_parts.specs.BarrierWord as barrier
 use Rattle.spindle_parts.specs.Machine.{Configuration, initial, word, counter, own, tests, first, claimed, rested, serve}
 use Rattle.spindle_parts.specs.declared.steps.Step.{Step}
@@ -138,42 +139,6 @@ IsFair m s (Exit p) = Allowed s (events.Exit p)
 IsFair m s (Clear p) = Allowed s (events.Clear p)
 IsFair m s (End p) = Allowed s (events.End p)
 
--- an ended round: each number begun was below its jobs and has finished once, and every number has begun where nothing
--- stopped it
-pub record IsWhole (r : Round) : Type 0 where
-  pub once : (k : ℕ) → times k r.begun ≤ 1
-  pub finished : (k : ℕ) → times k r.finished ≡ times k r.begun
-  pub below : (k : ℕ) → 0 < times k r.begun → k < r.jobs
-  pub all : r.stopped ≡ false → (k : ℕ) → k < r.jobs → times k r.begun ≡ 1
-  pub stops : r.stopped ≡ true → r.stoppable ≡ true
-
--- what the run says at each event, which follows the events before it
-abbrev pub AtEach : (List Event → Event → Type 0) → List Event → Type 0
-AtEach P [] = Unit {0}
-AtEach P (e ∷ es) = P es e × AtEach P es
-
--- a begin is of a number below the round's jobs, by a member that is in
-abbrev pub BeginsWithin : List Event → Event → Type 0
-BeginsWithin es e = (p k : ℕ) → e ≡ events.Begin p k → (k < (now (state es)).jobs) × ((party (state es) p).status ≡ In)
-
--- where the event ends the round, nothing is published
-abbrev pub EndsCleared : List Event → Event → Type 0
-EndsCleared es e = (state (e ∷ es)).round ≢ (state es).round → (state es).published ≡ None
-
--- no event is by the party p
-abbrev pub NoneBy : ℕ → List Event → Type 0
-NoneBy p [] = Unit {0}
-NoneBy p (e ∷ es) = (by e ≢ p) × NoneBy p es
-
--- the sense that a party has from its arrival in round q on: the word's while q + 1 goes on
-abbrev pub sense_after : ℕ → ℕ
-sense_after q = (q + 1) % 2
-
--- a party that arrived in the round of s, and took no step since: one round may have ended, and its own sense shows it
-pub record Waits (s s' : State) (word' : ℕ) : Type 0 where
-  pub next : (s'.round ≡ s.round) ⊎ (s'.round ≡ s.round + 1)
-  pub sees : (word' / 2147483648 ≡ sense_after s.round) ↔ (s.round < s'.round)
-
 -- the fresh machine with so many counters, after the calls
 abbrev pub machine : ℕ → List Call → Configuration
 machine threads calls = played (initial threads) calls
@@ -182,37 +147,31 @@ machine threads calls = played (initial threads) calls
 abbrev pub run_of : ℕ → List Call → List Event
 run_of threads calls = history (initial threads) calls
 
--- the calls that follow are a schedule, in which the party p takes no step
-abbrev pub Rests : Configuration → List Call → ℕ → Type 0
-Rests m later p = IsSchedule later × NoneBy p (history m later)
+-- the accepted steps of the later calls go on with the run es, and the word is the barrier word of
+-- the state that it ends in
+pub record GoesOn (m : Configuration) (es : List Event) (later : List Call) : Type 0 where
+  pub run : IsRun (history m later ++ es)
+  pub word_is : word (played m later) ≡ barrier.word (state (history m later ++ es))
 
 -- what is true of the machine m after a schedule whose accepted steps are the events es
 pub record Laws (threads : ℕ) (m : Configuration) (es : List Event) : Type 0 where
-  -- the accepted steps are a run, whose state the machine shows; the word is that state's barrier word
+  -- the accepted steps are a run, for which the laws of every run hold
   pub run : IsRun es
+  pub lawful : RunLaws es
+  -- the machine shows the state that the run ends in, and the word is that state's barrier word
   pub shows : Shows m (state es)
   pub word_is : word m ≡ barrier.word (state es)
   -- the counters stay as many as they were made
   pub counters : length m.counters ≡ threads
-  -- no number stands twice in begun or finished of any round, and each begin is within its round
-  pub once : IsOnce (state es)
-  pub begins : AtEach BeginsWithin es
-  -- each ended round is whole, and nothing is published at an end
-  pub whole : (q : ℕ) → q < (state es).round → IsWhole ((state es).rounds q)
-  pub cleared : AtEach EndsCleared es
-  -- memory aside, the next step is accepted exactly where it is fair, and refused exactly where it isn't
+  -- memory aside, the next step is accepted exactly where it is fair, and refused where it isn't
   pub exact : (e : Step) → IsInRange e → (refusal m (granting e) ≡ None) ↔ IsFair m (state es) e
   -- a growth that isn't granted refuses a join that is fair, and nothing else
   pub memory : (e : Step) → IsRefusedForMemory m e
   -- a refused call changes nothing, and its reason is the first test that is true
   pub refused : (c : Call) (why : Why) → (serve m c.granted c.step).1 ≡ Refused why
       → (refusal m c ≡ Some why) × ((serve m c.granted c.step).0 ≡ m)
-  -- who has arrived, and takes no step, sees its own sense in the word exactly if its round has ended
-  pub waits : (later : List Call) (p : ℕ) → Rests m later p → (party (state es) p).status ≡ Arrived
-      → Waits (state es) (state (history m later ++ es)) (word (played m later))
-  -- a member that is in, and takes no step, keeps the round from ending
-  pub keeps : (later : List Call) (p : ℕ) → Rests m later p → (party (state es) p).status ≡ In
-      → (state (history m later ++ es)).round ≡ (state es).round
+  -- whatever calls follow, this run goes on: its laws say what a party sees that makes no step in them
+  pub goes_on : (later : List Call) → IsSchedule later → GoesOn m es later
 
 -- the theorem: the laws hold after every schedule, for any number of counters from 1 to 32767
 abbrev pub EverySchedule : Type 0

@@ -10,6 +10,7 @@ pub mod LedgerSeats
 pub mod ThreadNumbers
 pub mod ChildSlot
 pub mod Machine
+pub mod EveryRun
 pub mod EverySchedule
 pub mod Serving
 pub mod Entries

@@ -8,6 +8,7 @@ ghost use Rattle.spindle_parts.specs.Machine.{initial};
 ghost use Rattle.spindle_parts.specs.Registers.{shown, IsReached, IsTidy};
 ghost use Rattle.spindle_parts.specs.Contents.{configuration};
 ghost use Rattle.spindle_parts.specs.Serving.{Replies, IsServed};
+ghost use Rattle.spindle_parts.specs.EveryRun.{EveryRun};
 ghost use Rattle.spindle_parts.specs.EverySchedule.{EverySchedule};
 
 use crate::fault::Fault;
@@ -159,7 +160,14 @@ impl Machine {
     }
 }
 
-/// What is true after every schedule, for every number of parties, rounds and counters.
+/// What is true of every run of the model: of any events, of any parties, each allowed where it stands.
+///
+/// The machine's accepted steps are a run; the rule of a round table says that running threads make one.
+pub fn every_run()
+    ensures { EveryRun }
+{}
+
+/// What is true after every schedule, for every number of parties, rounds and counters: its accepted steps are a run.
 pub fn every_schedule()
     ensures { EverySchedule }
 {}
