@@ -1,14 +1,13 @@
 -- The exchanges with which numbers are claimed.
-use Rattle.std.proofs.Common.{◌≡◌, ◌≢◌, inl, inr, ⊎_elim, ℕ, ◌+◌, ◌*◌, ◌/◌, ◌%◌, ◌<◌, ◌≤◌, Bool, true, false, eqb, eq-eqb, ne_eqb, List, [], ◌∷◌, ◌++◌, length, get_or, set, sym, refl, ap, ◌∙◌, subst, arith, Option, Some, None, if◌then◌else◌, ◌==◌}
+use Rattle.std.proofs.Common.{◌≡◌, ◌≢◌, inl, inr, ⊎_elim, ℕ, ◌+◌, ◌*◌, ◌/◌, ◌%◌, ◌<◌, ◌≤◌, Bool, true, false, eq-eqb, ne_eqb, List, [], ◌∷◌, ◌++◌, length, get_or, set, sym, refl, ap, ◌∙◌, subst, arith, Option, Some, None, if◌then◌else◌}
 use mathlib.Core.Logic.{dite}
-use mathlib.Core.Option.{none}
 use native.Mathlib.Decide.{ℕ_discrete}
-use prog.Atomic.{either}
 use Rattle.atomic_table.specs.Table as table
-use Rattle.atomic_table.specs.Table.{Me, Act, step, stepped, Allows, Valid, carried_after}
+use Rattle.atomic_table.specs.Table.{Me, Act, stepped, Valid, carried_after}
 use Rattle.spindle_parts.specs.State.{State, Party, Round, put, party, Free}
-use Rattle.spindle_parts.specs.Steps.{Take, Begin, Allowed}
+use Rattle.spindle_parts.specs.Steps.{Event, Take, Begin, Allowed}
 use Rattle.spindle_parts.specs.Runs.{state}
+use Rattle.spindle_parts.specs.EverySchedule.{only}
 use Rattle.spindle_parts.proofs.Parties.{put_here, put_else}
 use Rattle.spindle_parts.proofs.Soundness.{sound}
 use Rattle.spindle_rounds.specs.declared.round_table.view.Standing.TheVariants.{Inside}
@@ -17,6 +16,7 @@ use Rattle.spindle_rounds.specs.RoundSlots.{Discipline, Lawful}
 use Rattle.spindle_rounds.specs.RoundRule.{Began, deeds, Stands, Counters, IsWithin, home_of}
 use Rattle.spindle_rounds.specs.RoundSteps.{claimed, claiming, start_of, beginning, round_of}
 use Rattle.spindle_rounds.specs.RoundConditions.{MayClaim}
+use Rattle.spindle_rounds.specs.RoundRuns.{Exchange, claim_of}
 use Rattle.spindle_rounds.proofs.RoundMoves.{Rule, SeatOf, Before, begins_by, moves_with, still_laid}
 use Rattle.spindle_rounds.proofs.RoundNumbers.{or_false, or_right, true_or, with_some, taken_first, then_begun, first_party, last_party, last_round, last_words, was_free, range_taken, begun_here}
 
@@ -35,11 +35,11 @@ module _ {X N : Type 0} (D : Discipline X N) (law : Lawful D) (t slots id : ℕ)
   claimer x = record (beginning i k old new x me.0) { from = from; to = to }
 
   -- the exchange succeeds
-  pub takes : (s : table.State X (View N)) → Before D law t slots id me i s → get_or s.words i 0 ≡ old
-      → (x : Option N) × (a : Act X) × Valid s.homes me.1 a × Rule D t (stepped s i new id me.1 (claimer x) a) × D.took k me.1 x (carried_after me.1 a)
-  takes s b hit = let r = b.rule in let at = b.at in let S : State = state r.run in let h = sound r.run r.is_run in let seat = r.seats id me.0 at in let shows = seat.0 in let st = subst (Stands S id) inside_q shows.stands in let knows = shows.inside q inside_q in
+  pub takes : (run : List Event) (s : table.State X (View N)) → Before D law t slots id me i run s → get_or s.words i 0 ≡ old
+      → (x : Option N) × (a : Act X) × Valid s.homes me.1 a × Rule D t (claim_of id k some ++ run) (stepped s i new id me.1 (claimer x) a) × D.took k me.1 x (carried_after me.1 a)
+  takes run s b hit = let r = b.rule in let at = b.at in let S : State = state run in let h = sound run r.is_run in let seat = r.seats id me.0 at in let shows = seat.0 in let st = subst (Stands S id) inside_q shows.stands in let knows = shows.inside q inside_q in
       let shown : S.published ≡ Some n = (knows.number n known).0 in let c = r.words.counters n shown in let is_free = take.free S s.words c hit in let S' : State = then_begun S id k some take.mine in
-      let b' = law.begins S S' s.homes s.views id me.0 me.1 k claimer r.slots (begun_here S id k some take.mine r.run refl r.is_run n (is_free k take.mine) shown) at (λ o. (refl, refl, refl)) in
+      let b' = law.begins S S' s.homes s.views id me.0 me.1 k claimer r.slots (begun_here S id k some take.mine run refl r.is_run n (is_free k take.mine) shown) at (λ o. (refl, refl, refl)) in
       let first = first_party S id k some take.mine in let last = last_party S id k some take.mine in let own : S.round ≡ round_of me.0.standing = st.1 ∙ sym (ap round_of inside_q) in
       let took : Allowed S (Take id some) = ((λ z. cc), st.0, knows.seen ∙ unseen, (k, take.mine), is_free) in
       let began : Allowed (taken_first S id k some take.mine) (Begin id k) = (ap (λ (z : Party). z.status) first ∙ st.0, knows.seen ∙ unseen, ap (λ (z : Party). z.running) first ∙ (shows.claim ∙ idle), ap (λ (z : Party). z.taken k) first ∙ or_right ((party S id).taken k) (some k) take.mine) in
@@ -48,7 +48,7 @@ module _ {X N : Type 0} (D : Discipline X N) (law : Lawful D) (t slots id : ℕ)
         b'.0,
         b'.1,
         b'.2,
-        moves_with D t s r i new id me (claimer b'.0) b'.1 (Begin id k ∷ Take id some ∷ []) at (refl, (refl, tt)) (began, (took, r.is_run))
+        moves_with D t run s r i new id me (claimer b'.0) b'.1 (Begin id k ∷ Take id some ∷ []) at (refl, (refl, tt)) (began, (took, r.is_run))
             (last_words S id k some take.mine t s.words i new take.high r.words (λ m e. let same : n ≡ m = (let z = shown in cc) in subst (Counters t S' (set s.words i new)) same (take.less S id s.words c r.words.wide hit)))
             record {
               stands = subst (Stands S' id) (sym inside_q) (ap (λ (z : Party). z.status) last ∙ st.0, st.1);
@@ -69,15 +69,12 @@ module _ {X N : Type 0} (D : Discipline X N) (law : Lawful D) (t slots id : ℕ)
                 unread = knows.unread;
               };
             }
-            ((λ z. Began (sym own z) k ∷ seat.1 z) ∙ sym (ap (λ (b : Bool). (if b then Began S.round k ∷ [] else []) ++ ((if b then [] else []) ++ deeds id r.run)) (eq-eqb id id refl))) refl
-            (still_laid D t s r i new id me (claimer b'.0) (Begin id k ∷ Take id some ∷ []) at (inr refl) refl refl (λ _. refl) (inr (λ z. cc))) b'.3,
+            ((λ z. Began (sym own z) k ∷ seat.1 z) ∙ sym (ap (λ (b : Bool). (if b then Began S.round k ∷ [] else []) ++ ((if b then [] else []) ++ deeds id run)) (eq-eqb id id refl))) refl
+            (still_laid D t run s r i new id me (claimer b'.0) (Begin id k ∷ Take id some ∷ []) at (inr refl) refl refl (λ _. refl) (inr (λ z. cc))) b'.3,
         b'.4,
       )
 
 -- the front of a range
-abbrev pub only : ℕ → ℕ → Bool
-only k j = j == k
-
 pub one_of : (k j : ℕ) → only k j ≡ true → j ≡ k
 one_of k j e = dite (ℕ_discrete j k) (λ z. z) (λ n. let a = ne_eqb j k n in absurd cc)
 
@@ -97,6 +94,6 @@ front t n i old from to low small left empty = let k : ℕ = old % 4294967296 in
 
 module _ {X N : Type 0} (D : Discipline X N) (law : Lawful D) (t : ℕ) where
   pub claims : (slots id : ℕ) (me : SeatOf D t) (i old : ℕ) → i < t → MayClaim me.0 → old < 18446744073709551616 → old % 4294967296 < old / 4294967296
-      → Allows (Rule D t) slots id me (40 + 8 * i) (λ x. either (eqb x old) (old + 1) x) (claimed D (step slots (40 + 8 * i) old (old + 1) none) me)
-  claims slots id me i old low may small left = begins_by D law t slots id me (40 + 8 * i) old (old + 1) start_of (claiming (40 + 8 * i))
+      → Exchange D t slots id me (40 + 8 * i) old (old + 1) (claim_of id (start_of old) (only (start_of old))) (claimed D)
+  claims slots id me i old low may small left = begins_by D law t slots id me (40 + 8 * i) old (old + 1) (claim_of id (start_of old) (only (start_of old))) start_of (claiming (40 + 8 * i))
       (takes D law t slots id me may.0.0 may.1.0 (40 + 8 * i) old (old + 1) (old % 4294967296) me.0.from me.0.to (only (old % 4294967296)) (front t may.1.0 i old me.0.from me.0.to low small left may.0.3) may.0.1 may.1.1 may.0.2 may.0.3 may.2)

@@ -1,13 +1,12 @@
 -- The steps that can end a round: an exit, and the closer's stores.
-use Rattle.std.proofs.Common.{◌≡◌, ◌≢◌, ◌⊎◌, inl, ⊎_elim, ℕ, ◌+◌, ◌*◌, ◌-◌, ◌<◌, ◌≤◌, Bool, true, false, eqb, eq-eqb, ne_eqb, le-ltb, lt-ltb, List, [], ◌∷◌, get_or, set, length-set, get_or-set_same, get_or-set_other, sym, refl, ap, ◌∙◌, subst, arith, Option, Some, None, if◌then◌else◌, ◌==◌, ◌&&◌}
+use Rattle.std.proofs.Common.{◌≡◌, ◌≢◌, ◌⊎◌, inl, ⊎_elim, ℕ, ◌+◌, ◌*◌, ◌-◌, ◌<◌, ◌≤◌, Bool, true, false, eq-eqb, ne_eqb, le-ltb, lt-ltb, List, [], ◌∷◌, get_or, set, length-set, get_or-set_same, get_or-set_other, sym, refl, ap, ◌∙◌, subst, arith, Option, Some, None, if◌then◌else◌, ◌==◌, ◌&&◌}
 use mathlib.Core.Option.{none, some}
 use lib.ListN.{get_elem?}
-use prog.Atomic.{either}
 use Rattle.atomic_table.specs.Table as table
-use Rattle.atomic_table.specs.Table.{Me, step, keeps, stepped, Allows}
+use Rattle.atomic_table.specs.Table.{Me, step, keeps, stepped}
 use Rattle.atomic_table.proofs.Lists.{at_set}
 use Rattle.spindle_parts.specs.State.{State, Out, Arrived, Party, Round, put_party, now, party, inside, members, waking, weight_in, weight_member, is_in, is_member, Free}
-use Rattle.spindle_parts.specs.Steps.{Exit, Clear, End, after, arrived, Allowed, with_status, closer_after}
+use Rattle.spindle_parts.specs.Steps.{Event, Exit, Clear, End, after, arrived, Allowed, with_status, closer_after}
 use Rattle.spindle_parts.specs.Runs.{state, IsRun}
 use Rattle.spindle_parts.specs.BarrierWord.{word}
 use Rattle.spindle_parts.specs.Trail.{trace}
@@ -24,6 +23,7 @@ use Rattle.spindle_rounds.specs.declared.round_table.view.Kind.TheVariants as ki
 use Rattle.spindle_rounds.specs.RoundRule.{deeds, Stands, Shows, Words, Laid, InRange, InRest, IsLeft, StandsFor, number_of}
 use Rattle.spindle_rounds.specs.RoundSteps.{exited, exiting, exit_word, ends, ending, turned_word, clears, clearing, cleared, outside, noted, round_of, standing, after_end, count_of, most_of, sense_of}
 use Rattle.spindle_rounds.specs.RoundConditions.{MayExit}
+use Rattle.spindle_rounds.specs.RoundRuns.{Exchange, Store}
 use Rattle.spindle_rounds.proofs.RoundQuiet.{quiet_run}
 use Rattle.spindle_rounds.proofs.RoundMoves.{Rule, SeatOf, Before, exchanges, stores, moves, moves_with, stands_on}
 use Rattle.spindle_rounds.proofs.RoundWords.{word_fields, status_words, by_equal}
@@ -53,11 +53,11 @@ gone s s' p v st x w look stands out = record {
 
 module _ {X N : Type 0} (D : Discipline X N) (law : Lawful D) (t : ℕ) where
   pub exits : (slots id : ℕ) (me : SeatOf D t) (q old : ℕ) → me.0.standing ≡ Inside q → me.0.claim ≡ None → me.0.to ≤ me.0.from → (me.0.leader ≡ false) ⊎ (me.0.known.unpublished ≡ true)
-      → Allows (Rule D t) slots id me 0 (λ x. either (eqb x old) (exit_word old) x) (exited (step slots 0 old (exit_word old) none) me)
-  exits slots id me q old inside_q idle empty free = exchanges D law t slots id me 0 old (exit_word old) exiting (λ s b hit. subst (λ (z : ℕ). Rule D t (stepped s 0 (exit_word old) id me.1 (exiting z me.0) keeps)) (sym hit) (owed s b hit))
+      → Exchange D t slots id me 0 old (exit_word old) (Exit id ∷ []) exited
+  exits slots id me q old inside_q idle empty free = exchanges D law t slots id me 0 old (exit_word old) (Exit id ∷ []) exiting (λ run s b hit. subst (λ (z : ℕ). Rule D t (Exit id ∷ run) (stepped s 0 (exit_word old) id me.1 (exiting z me.0) keeps)) (sym hit) (owed run s b hit))
     where
-      owed : (s : table.State X (View N)) → Before D law t slots id me 0 s → get_or s.words 0 0 ≡ old → Rule D t (stepped s 0 (exit_word old) id me.1 (exiting old me.0) keeps)
-      owed s b hit = let r = b.rule in let at = b.at in let S : State = state r.run in let h = sound r.run r.is_run in let seat = r.seats id me.0 at in let shows = seat.0 in
+      owed : (run : List Event) (s : table.State X (View N)) → Before D law t slots id me 0 run s → get_or s.words 0 0 ≡ old → Rule D t (Exit id ∷ run) (stepped s 0 (exit_word old) id me.1 (exiting old me.0) keeps)
+      owed run s b hit = let r = b.rule in let at = b.at in let S : State = state run in let h = sound run r.is_run in let seat = r.seats id me.0 at in let shows = seat.0 in
           let st = subst (Stands S id) inside_q shows.stands in let f = word_fields S h old (sym hit ∙ r.words.barrier) in let is : old ≡ word S = sym hit ∙ r.words.barrier in
           let ps : List Party = put_party S.parties id (with_status Out (party S id)) in let look = look_here S.parties id (with_status Out (party S id)) in let open_now = no_closer S h id st.0 in
           let c₀ = total_put weight_in refl S.parties id (with_status Out (party S id)) in let c₁ = total_put weight_member refl S.parties id (with_status Out (party S id)) in let b₀ = ap is_in st.0 in let b₁ = ap is_member st.0 in let le = inside_le_members ps in
@@ -81,15 +81,15 @@ module _ {X N : Type 0} (D : Discipline X N) (law : Lawful D) (t : ℕ) where
                 (λ some. gone S s' id me.0 Away _ shows look (ap (λ (z : Party). z.status) look, λ e. let a = ap (λ (z : Bool). if z then Some id else S.closer) (ne_eqb (inside ps) 0 (λ z. some (omega arith))) in cc) (λ _ e. cc))),
             refl,
           )) in
-          moves D law t s r 0 (exit_word old) id me (exiting old me.0) (Exit id ∷ []) at (refl, tt) (tt, tt) (refl, refl, refl) (ok, r.is_run) both.0 both.1
-          (seat.1 ∙ sym (no_deed id (deeds id r.run))) refl (inl refl) refl both.2 (inl (omega arith))
+          moves D law t run s r 0 (exit_word old) id me (exiting old me.0) (Exit id ∷ []) at (refl, tt) (tt, tt) (refl, refl, refl) (ok, r.is_run) both.0 both.1
+          (seat.1 ∙ sym (no_deed id (deeds id run))) refl (inl refl) refl both.2 (inl (omega arith))
 
   -- the same, the word being computed elsewhere
-  pub exits_to : (slots id : ℕ) (me : SeatOf D t) (old new : ℕ) → MayExit me.0 → new ≡ exit_word old → Allows (Rule D t) slots id me 0 (λ x. either (eqb x old) new x) (exited (step slots 0 old new none) me)
-  exits_to slots id me old new may is = subst (λ (z : ℕ). Allows (Rule D t) slots id me 0 (λ x. either (eqb x old) z x) (exited (step slots 0 old z none) me)) (sym is) (exits slots id me may.0.0 old may.0.1 may.0.2 may.0.3 may.1)
+  pub exits_to : (slots id : ℕ) (me : SeatOf D t) (old new : ℕ) → MayExit me.0 → new ≡ exit_word old → Exchange D t slots id me 0 old new (Exit id ∷ []) exited
+  exits_to slots id me old new may is = subst (λ (z : ℕ). Exchange D t slots id me 0 old z (Exit id ∷ []) exited) (sym is) (exits slots id me may.0.0 old may.0.1 may.0.2 may.0.3 may.1)
 
-  pub ends_round : (slots id : ℕ) (me : SeatOf D t) (q n : ℕ) (member : Bool) → me.0.standing ≡ Closing q member true (Some n) → Allows (Rule D t) slots id me 0 (λ _. turned_word n) (λ _. ends (step slots 0 (turned_word n) 0 none) me (turned_word n))
-  ends_round slots id me q n member closes = stores D law t slots id me 0 (turned_word n) ending (step slots 0 (turned_word n) 0 none) owed
+  pub ends_round : (slots id : ℕ) (me : SeatOf D t) (q n : ℕ) (member : Bool) → me.0.standing ≡ Closing q member true (Some n) → Store D t slots id me 0 (turned_word n) (End id ∷ []) ends
+  ends_round slots id me q n member closes = stores D law t slots id me 0 (turned_word n) (End id ∷ []) ending (step slots 0 (turned_word n) 0 none) owed
     where
       over : (S : State) → Sound S → Shows S id me.0 → (S.closer ≡ Some id) → S.published ≡ None → S.round ≡ q → (m : Bool) → (party S id).status ≡ (if m then Arrived else Out) → let x = after_end me.0.leader (Closing q m true (Some n)) in Shows (after S (End id)) id (noted (trace 0 kind.End (turned_word n) (turned_word n)) (standing x.1 x.0 me.0))
       over S h shows c hidden own true st = let look = look_wake S.parties id in record {
@@ -117,14 +117,14 @@ module _ {X N : Type 0} (D : Discipline X N) (law : Lawful D) (t : ℕ) where
       keeps_stored lead true = refl
       keeps_stored lead false = refl
 
-      owed : (s : table.State X (View N)) → Before D law t slots id me 0 s → Rule D t (stepped s 0 (turned_word n) id me.1 (ending (turned_word n) me.0) keeps)
-      owed s b = let r = b.rule in let at = b.at in let S : State = state r.run in let h = sound r.run r.is_run in let seat = r.seats id me.0 at in let shows = seat.0 in let st = subst (Stands S id) closes shows.stands in
+      owed : (run : List Event) (s : table.State X (View N)) → Before D law t slots id me 0 run s → Rule D t (End id ∷ run) (stepped s 0 (turned_word n) id me.1 (ending (turned_word n) me.0) keeps)
+      owed run s b = let r = b.rule in let at = b.at in let S : State = state run in let h = sound run r.is_run in let seat = r.seats id me.0 at in let shows = seat.0 in let st = subst (Stands S id) closes shows.stands in
           let hidden = st.2 refl in let is : n ≡ word S = sym (st.4 n refl) in let f = word_fields S h n is in let fc = f.count in let fm = f.most in let fs = f.sense in let z = (h.gate.closing id st.0).0 in
           let i = inside_wake S.parties in let m = members_wake S.parties in let few = h.gate.few in
-          moves D law t s r 0 (turned_word n) id me (ending (turned_word n) me.0) (End id ∷ []) at (refl, tt) (tt, tt) (refl, refl, refl) ((st.0, hidden), r.is_run)
+          moves D law t run s r 0 (turned_word n) id me (ending (turned_word n) me.0) (End id ∷ []) at (refl, tt) (tt, tt) (refl, refl, refl) ((st.0, hidden), r.is_run)
           (hidden_words t S (after S (End id)) s.words (turned_word n) r.words hidden hidden (omega arith))
           (subst (λ (z : Standing). let x = after_end me.0.leader z in Shows (after S (End id)) id (noted (trace 0 kind.End (turned_word n) (turned_word n)) (standing x.1 x.0 me.0))) (sym closes) (over S h shows st.0 hidden st.1 member st.3))
-          (seat.1 ∙ sym (no_deed id (deeds id r.run))) refl (inl (ap (λ (z : Standing). (after_end me.0.leader z).0.stored) closes ∙ keeps_stored me.0.leader member)) refl refl (inl (omega arith))
+          (seat.1 ∙ sym (no_deed id (deeds id run))) refl (inl (ap (λ (z : Standing). (after_end me.0.leader z).0.stored) closes ∙ keeps_stored me.0.leader member)) refl refl (inl (omega arith))
 
   -- what the leader has stored stands after a clear: for the numbers of the round that were not begun
   still_stands : (S : State) → Sound S → (c : ℕ) → S.closer ≡ Some c → (ws : List ℕ) → Words t S ws → (u : View N) → Laid t S ws u → Laid t (after S (Clear c)) (set ws 8 0) u
@@ -144,14 +144,14 @@ module _ {X N : Type 0} (D : Discipline X N) (law : Lawful D) (t : ℕ) where
             (λ a. let is : Free S j = ⊎_elim (λ (z : (i : ℕ) × (i < t) × InRange ws i j). k.ranges z.0 j z.1 z.2) (λ (z : InRest ws n j). k.rest j z) (subst (λ (m : ℕ). IsLeft t ws m j) jobs a) in (is.0, is.1)),
           ))
 
-  pub clears_round : (slots id : ℕ) (me : SeatOf D t) (q : ℕ) (member was : Bool) (read : Option ℕ) → me.0.standing ≡ Closing q member was read → Allows (Rule D t) slots id me 8 (λ _. 0) (λ _. clears (step slots 8 0 0 none) me 0)
-  clears_round slots id me q member was read closes = stores D law t slots id me 8 0 clearing (step slots 8 0 0 none) owed
+  pub clears_round : (slots id : ℕ) (me : SeatOf D t) (q : ℕ) (member was : Bool) (read : Option ℕ) → me.0.standing ≡ Closing q member was read → Store D t slots id me 8 0 (Clear id ∷ []) clears
+  clears_round slots id me q member was read closes = stores D law t slots id me 8 0 (Clear id ∷ []) clearing (step slots 8 0 0 none) owed
     where
-      owed : (s : table.State X (View N)) → Before D law t slots id me 8 s → Rule D t (stepped s 8 0 id me.1 (clearing 0 me.0) keeps)
-      owed s b = let r = b.rule in let at = b.at in let S : State = state r.run in let h = sound r.run r.is_run in let seat = r.seats id me.0 at in let shows = seat.0 in let st = subst (Stands S id) closes shows.stands in
-          let w : View N = clearing 0 me.0 in let is : cleared me.0.standing ≡ Closing q member true read = ap cleared closes in let wide = r.words.wide in let ok : IsRun (Clear id ∷ r.run) = (st.0, r.is_run) in
-          let q' = quiet_run (Clear id ∷ []) r.run (tt, tt) ok in let other : (i : ℕ) → i ≢ 8 → get_or (set s.words 8 0) i 0 ≡ get_or s.words i 0 = (λ i n. get_or-set_other s.words 8 i 0 0 n) in
-          moves_with D t s r 8 0 id me w keeps (Clear id ∷ []) at (refl, tt) ok
+      owed : (run : List Event) (s : table.State X (View N)) → Before D law t slots id me 8 run s → Rule D t (Clear id ∷ run) (stepped s 8 0 id me.1 (clearing 0 me.0) keeps)
+      owed run s b = let r = b.rule in let at = b.at in let S : State = state run in let h = sound run r.is_run in let seat = r.seats id me.0 at in let shows = seat.0 in let st = subst (Stands S id) closes shows.stands in
+          let w : View N = clearing 0 me.0 in let is : cleared me.0.standing ≡ Closing q member true read = ap cleared closes in let wide = r.words.wide in let ok : IsRun (Clear id ∷ run) = (st.0, r.is_run) in
+          let q' = quiet_run (Clear id ∷ []) run (tt, tt) ok in let other : (i : ℕ) → i ≢ 8 → get_or (set s.words 8 0) i 0 ≡ get_or s.words i 0 = (λ i n. get_or-set_other s.words 8 i 0 0 n) in
+          moves_with D t run s r 8 0 id me w keeps (Clear id ∷ []) at (refl, tt) ok
           record {
             wide = length-set s.words 8 0 ∙ r.words.wide;
             barrier = other 0 (λ e. omega arith) ∙ r.words.barrier;
@@ -168,7 +168,7 @@ module _ {X N : Type 0} (D : Discipline X N) (law : Lawful D) (t : ℕ) where
             share = shows.share;
             inside = λ q' e. let no : Closing q member true read ≡ Inside q' = sym is ∙ e in absurd cc;
           }
-          (seat.1 ∙ sym (no_deed id (deeds id r.run))) refl
+          (seat.1 ∙ sym (no_deed id (deeds id run))) refl
           (λ v e. ⊎_elim (λ (z : (0 ≡ id) × (w ≡ v)). let l = r.lays me.0 (subst (λ (a : ℕ). get_elem? s.views a ≡ some me.0) (sym z.0) at) in subst (Laid t (after S (Clear id)) (set s.words 8 0)) z.1
           (let k = still_stands S h id st.0 s.words r.words me.0 l in record { stored = k.stored; unstored = k.unstored; current = k.current; left = k.left }))
           (λ (z : (0 ≢ id) × (get_elem? s.views 0 ≡ some v)). still_stands S h id st.0 s.words r.words v (r.lays v z.1)) (at_set s.views id 0 w v e))

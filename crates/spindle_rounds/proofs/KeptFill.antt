@@ -7,7 +7,7 @@ use native.Mathlib.Decide.{ℕ_discrete, dec_le}
 use native.Mathlib.Nat.{div-lt_iff_lt-mul}
 use lib.ListN.{get_elem?}
 use Rattle.atomic_table.specs.Table as table
-use Rattle.atomic_table.specs.Table.{Me, step, keeps, stepped, Allows}
+use Rattle.atomic_table.specs.Table.{Me, step, keeps, stepped}
 use Rattle.atomic_table.proofs.Lists.{at_set}
 use Rattle.spindle_parts.specs.State.{State, Round, now, Free, times}
 use Rattle.spindle_parts.specs.Steps.{Event, Publish, PublishTry, IsPublishable, Allowed, after, by, publish}
@@ -23,15 +23,16 @@ use Rattle.spindle_rounds.specs.RoundSteps.{filled, filling, published, publishe
 use Rattle.spindle_rounds.specs.RoundAnswers.{FilledUpTo}
 use Rattle.spindle_parts.specs.Trail.{trace}
 use Rattle.spindle_rounds.specs.declared.round_table.view.Kind.TheVariants as kind
+use Rattle.spindle_rounds.specs.RoundRuns.{Store}
 use Rattle.spindle_rounds.proofs.RoundMoves.{Rule, SeatOf, Before, stores, moves_with, untrue}
 use Rattle.spindle_rounds.proofs.RoundWords.{by_equal, by_less}
 
 module _ {X N : Type 0} (D : Discipline X N) (law : Lawful D) (t : ℕ) where
-  pub fills : (slots id : ℕ) (me : SeatOf D t) (q j x : ℕ) → j < 3 + t → me.0.standing ≡ Inside q → me.0.known.unpublished ≡ true → Allows (Rule D t) slots id me (16 + 8 * j) (λ _. x) (λ _. filled (step slots (16 + 8 * j) x 0 none) me x)
-  fills slots id me q j x low inside_q alone = let i : ℕ = 16 + 8 * j in stores D law t slots id me i x (filling i) (step slots i x 0 none) (λ s b. let r = b.rule in let at = b.at in let S : State = state r.run in let seat = r.seats id me.0 at in let shows = seat.0 in
+  pub fills : (slots id : ℕ) (me : SeatOf D t) (q j x : ℕ) → j < 3 + t → me.0.standing ≡ Inside q → me.0.known.unpublished ≡ true → Store D t slots id me (16 + 8 * j) x [] filled
+  fills slots id me q j x low inside_q alone = let i : ℕ = 16 + 8 * j in stores D law t slots id me i x [] (filling i) (step slots i x 0 none) (λ run s b. let r = b.rule in let at = b.at in let S : State = state run in let seat = r.seats id me.0 at in let shows = seat.0 in
       let knows = shows.inside q inside_q in let only = knows.unpublished alone in let hidden = only.1 in let w : View N = filling i x me.0 in let wide = r.words.wide in
       let other : (k : ℕ) → k < 16 → get_or (set s.words i x) k 0 ≡ get_or s.words k 0 = (λ k lt. get_or-set_other s.words i k x 0 (λ e. omega arith)) in
-      moves_with D t s r i x id me w keeps [] at tt r.is_run
+      moves_with D t run s r i x id me w keeps [] at tt r.is_run
       record {
         wide = length-set s.words i x ∙ r.words.wide;
         barrier = other 0 (omega arith) ∙ r.words.barrier;
@@ -61,8 +62,8 @@ module _ {X N : Type 0} (D : Discipline X N) (law : Lawful D) (t : ℕ) where
       (λ (h : (0 ≢ id) × (get_elem? s.views 0 ≡ some v)). absurd (h.0 (sym only.0))) (at_set s.views id 0 w v e))
       (law.stays S S s.homes s.views id me.0 w r.slots record { begun = λ _ _. refl; finished = λ _ _. refl; jobs = λ _. refl; published = λ n z. (z, refl); running = λ _ _ _. refl } at (refl, refl, refl)))
 
-  pub fills_range : (slots id : ℕ) (me : SeatOf D t) (q i x : ℕ) → i < t → me.0.standing ≡ Inside q → me.0.known.unpublished ≡ true → Allows (Rule D t) slots id me (40 + 8 * i) (λ _. x) (λ _. filled (step slots (40 + 8 * i) x 0 none) me x)
-  fills_range slots id me q i x low inside_q alone = let at : 16 + 8 * (3 + i) ≡ 40 + 8 * i = omega arith in subst (λ (k : ℕ). Allows (Rule D t) slots id me k (λ _. x) (λ _. filled (step slots k x 0 none) me x)) at (fills slots id me q (3 + i) x (omega arith) inside_q alone)
+  pub fills_range : (slots id : ℕ) (me : SeatOf D t) (q i x : ℕ) → i < t → me.0.standing ≡ Inside q → me.0.known.unpublished ≡ true → Store D t slots id me (40 + 8 * i) x [] filled
+  fills_range slots id me q i x low inside_q alone = let at : 16 + 8 * (3 + i) ≡ 40 + 8 * i = omega arith in subst (λ (k : ℕ). Store D t slots id me k x [] filled) at (fills slots id me q (3 + i) x (omega arith) inside_q alone)
 
 -- one word more is stored
 module _ {N : Type 0} (t n : ℕ) (v : View N) where
@@ -158,8 +159,8 @@ module _ (may_stop : Bool) (S : State) (n id : ℕ) where
 module _ {X N : Type 0} (D : Discipline X N) (law : Lawful D) (t slots id : ℕ) (me : SeatOf D t) (q n : ℕ) (may_stop : Bool) (some_range : 0 < t) (inside_q : me.0.standing ≡ Inside q) (alone : me.0.known.unpublished ≡ true)
     (full : IsFilled t n me.0.known.stored) (low : 2 ≤ n) (high : n ≤ 4294967295) (may : D.may_publish q n me.0.board) where
   -- the published word becomes the number
-  owed : (s : table.State X (View N)) → Before D law t slots id me 8 s → Rule D t (stepped s 8 (publish_word may_stop n) id me.1 (publishing may_stop n me.0) keeps)
-  owed s b = let r = b.rule in let at = b.at in let S : State = state r.run in let x : ℕ = publish_word may_stop n in let h = sound r.run r.is_run in let seat = r.seats id me.0 at in let shows = seat.0 in let st = subst (Stands S id) inside_q shows.stands in
+  owed : (run : List Event) (s : table.State X (View N)) → Before D law t slots id me 8 run s → Rule D t (shows_number may_stop id n ∷ run) (stepped s 8 (publish_word may_stop n) id me.1 (publishing may_stop n me.0) keeps)
+  owed run s b = let r = b.rule in let at = b.at in let S : State = state run in let x : ℕ = publish_word may_stop n in let h = sound run r.is_run in let seat = r.seats id me.0 at in let shows = seat.0 in let st = subst (Stands S id) inside_q shows.stands in
       let only = (shows.inside q inside_q).unpublished alone in let hidden = only.1 in let w : View N = publishing may_stop n me.0 in let wide = r.words.wide in let zero_jobs = h.gate.hidden hidden (no_closer S h id st.0) in
       let e : Event = shows_number may_stop id n in let S' : State = publish S may_stop n in let R : Round = record (now S) { jobs = n; stoppable = may_stop } in let now_is : now S' ≡ R = put_here S.rounds S.round R in let is : S' ≡ after S e = sym (becomes may_stop S n id) in
       let laid = r.lays me.0 (subst (λ (a : ℕ). get_elem? s.views a ≡ some me.0) only.0 at) in let stored : (j : ℕ) → j < 3 + t → get_or s.words (16 + 8 * j) 0 ≡ fill_value t n j = (λ j lt. (laid.stored (16 + 8 * j) (fill_value t n j) (full j lt)).1) in
@@ -167,7 +168,7 @@ module _ {X N : Type 0} (D : Discipline X N) (law : Lawful D) (t slots id : ℕ)
       let all_open = none_begun h.fate (now S) S.parties h.work zero_jobs in
       let free : (k : ℕ) → k < n → Free S' k = (λ k lt. let f = open_is_free h.fate (now S) S.parties h.work k (all_open k) in (subst (λ (z : Round). k < z.jobs) (sym now_is) lt, ap (λ (z : Round). times k z.begun) now_is ∙ f.0, f.1)) in
       let at_rest : (now S).stopped ≡ false = untrue (now S).stopped (λ e. let a = (h.work.stops e).1 in omega arith) in let own : S.round ≡ round_of me.0.standing = st.1 ∙ sym (ap round_of inside_q) in
-      moves_with D t s r 8 x id me w keeps (e ∷ []) at (its_own may_stop S n id, tt) (allows may_stop S n id (only.0, st.0, hidden, low, high), r.is_run)
+      moves_with D t run s r 8 x id me w keeps (e ∷ []) at (its_own may_stop S n id, tt) (allows may_stop S n id (only.0, st.0, hidden, low, high), r.is_run)
       (subst (λ (z : State). Words t z (set s.words 8 x)) is record {
         wide = length-set s.words 8 x ∙ r.words.wide;
         barrier = other 0 (λ e. omega arith) ∙ r.words.barrier;
@@ -191,7 +192,7 @@ module _ {X N : Type 0} (D : Discipline X N) (law : Lawful D) (t slots id : ℕ)
           unread = λ _. refl;
         };
       })
-      ((λ z. Showed (sym own z) n may_stop ∷ seat.1 z) ∙ sym (ap (λ (b : Bool). (if b then deed S e else []) ++ deeds id r.run) (eq-eqb (by e) id (its_own may_stop S n id)) ∙ ap (λ (l : List Deed). l ++ deeds id r.run) (its_deed may_stop S n id))) refl
+      ((λ z. Showed (sym own z) n may_stop ∷ seat.1 z) ∙ sym (ap (λ (b : Bool). (if b then deed S e else []) ++ deeds id run) (eq-eqb (by e) id (its_own may_stop S n id)) ∙ ap (λ (l : List Deed). l ++ deeds id run) (its_deed may_stop S n id))) refl
       (λ v e. ⊎_elim (λ (z : (0 ≡ id) × (w ≡ v)). subst (λ (y : State × View N). Laid t y.0 (set s.words 8 x) y.1) (λ i. (is i, z.1 i)) record {
         stored = λ i y e. absurd cc;
         unstored = λ _. refl;
@@ -202,11 +203,11 @@ module _ {X N : Type 0} (D : Discipline X N) (law : Lawful D) (t slots id : ℕ)
 
 module _ {X N : Type 0} (D : Discipline X N) (law : Lawful D) (t : ℕ) where
   pub publishes : (slots id : ℕ) (me : SeatOf D t) (q n : ℕ) → 0 < t → me.0.standing ≡ Inside q → me.0.known.unpublished ≡ true → IsFilled t n me.0.known.stored → 2 ≤ n → n ≤ 4294967295 → D.may_publish q n me.0.board
-      → Allows (Rule D t) slots id me 8 (λ _. n) (λ _. published (step slots 8 n 0 none) me n)
-  publishes slots id me q n some_range inside_q alone full low high may = stores D law t slots id me 8 n (publishing false) (step slots 8 n 0 none) (owed D law t slots id me q n false some_range inside_q alone full low high may)
+      → Store D t slots id me 8 n (Publish id n ∷ []) published
+  publishes slots id me q n some_range inside_q alone full low high may = stores D law t slots id me 8 n (Publish id n ∷ []) (publishing false) (step slots 8 n 0 none) (owed D law t slots id me q n false some_range inside_q alone full low high may)
 
   -- the same for a round that may stop
   pub publishes_try : (slots id : ℕ) (me : SeatOf D t) (q n : ℕ) → 0 < t → me.0.standing ≡ Inside q → me.0.known.unpublished ≡ true → IsFilled t n me.0.known.stored → 2 ≤ n → n ≤ 4294967295 → D.may_publish q n me.0.board
-      → Allows (Rule D t) slots id me 8 (λ _. n + 4294967296) (λ _. published_try (step slots 8 (n + 4294967296) 0 none) me (n + 4294967296))
-  publishes_try slots id me q n some_range inside_q alone full low high may = stores D law t slots id me 8 (n + 4294967296) (λ x. publishing true (x % 4294967296)) (step slots 8 (n + 4294967296) 0 none)
-      (λ s b. let low_half : (n + 4294967296) % 4294967296 ≡ n = omega arith in subst (λ (m : ℕ). Rule D t (stepped s 8 (n + 4294967296) id me.1 (publishing true m me.0) keeps)) (sym low_half) (owed D law t slots id me q n true some_range inside_q alone full low high may s b))
+      → Store D t slots id me 8 (n + 4294967296) (PublishTry id n ∷ []) published_try
+  publishes_try slots id me q n some_range inside_q alone full low high may = stores D law t slots id me 8 (n + 4294967296) (PublishTry id n ∷ []) (λ x. publishing true (x % 4294967296)) (step slots 8 (n + 4294967296) 0 none)
+      (λ run s b. let low_half : (n + 4294967296) % 4294967296 ≡ n = omega arith in subst (λ (m : ℕ). Rule D t (PublishTry id n ∷ run) (stepped s 8 (n + 4294967296) id me.1 (publishing true m me.0) keeps)) (sym low_half) (owed D law t slots id me q n true some_range inside_q alone full low high may run s b))

@@ -1,10 +1,9 @@
 -- The fetch_add with which a number finishes.
-use Rattle.std.proofs.Common.{◌≡◌, ◌≢◌, ◌⊎◌, inl, inr, ⊎_elim, ℕ, zero, suc, ◌+◌, ◌*◌, ◌%◌, ◌^◌, ◌<◌, ◌≤◌, Bool, true, eq-eqb, List, [], ◌∷◌, ◌++◌, length, length-append, get_or, set, get_or-set_same, get_or-set_other, sym, refl, ap, ◌∙◌, subst, arith, Option, Some, None, if◌then◌else◌}
+use Rattle.std.proofs.Common.{◌≡◌, ◌≢◌, ◌⊎◌, inl, inr, ⊎_elim, ℕ, zero, suc, ◌+◌, ◌*◌, ◌%◌, ◌<◌, ◌≤◌, Bool, true, eq-eqb, List, [], ◌∷◌, ◌++◌, length, length-append, get_or, set, get_or-set_same, get_or-set_other, sym, refl, ap, ◌∙◌, subst, arith, Option, Some, None, if◌then◌else◌}
 use mathlib.Core.Logic.{dite}
-use mathlib.Core.Option.{none, some}
+use mathlib.Core.Option.{some}
 use native.Mathlib.Decide.{ℕ_discrete}
 use lib.ListN.{get_elem?}
-use Rattle.atomic_table.specs.Table.{step, Allows}
 use Rattle.spindle_parts.specs.State.{State, Party, Round, now, party, times, Free, weight_in, weight_member, is_in, is_member}
 use Rattle.spindle_parts.specs.Steps.{Finish, after, ended_by}
 use Rattle.spindle_parts.specs.Runs.{state}
@@ -16,7 +15,8 @@ use Rattle.spindle_rounds.specs.RoundSlots.{Discipline, Lawful, Finishes}
 use Rattle.spindle_rounds.specs.RoundRule.{Ended, ended_in, deeds, Stands, Words, home_of}
 use Rattle.spindle_rounds.specs.RoundSteps.{finished, finishing, round_of, number_or}
 use Rattle.spindle_rounds.specs.RoundConditions.{MayFinish}
-use Rattle.spindle_rounds.proofs.RoundMoves.{Rule, SeatOf, moves_with, still_laid}
+use Rattle.spindle_rounds.specs.RoundRuns.{Addition}
+use Rattle.spindle_rounds.proofs.RoundMoves.{SeatOf, moves_with, still_laid}
 use Rattle.spindle_rounds.proofs.RoundWords.{counts_stay, word_stays, counters_stay}
 use Rattle.spindle_rounds.proofs.RoundChanges.{changed_words, some_published}
 
@@ -110,33 +110,35 @@ few_jobs S h shown = go S.published shown (λ m e. let g = h.gate.shown m e in l
     go (Some m) n f = f m refl
 
 module _ {X N : Type 0} (D : Discipline X N) (law : Lawful D) (t : ℕ) where
-  pub finishes : (slots id : ℕ) (me : SeatOf D t) (k : ℕ) → MayFinish k me.0 → D.may_give k me.0.note me.1 → Allows (Rule D t) slots id me 16 (λ n. (n + 1) % 2 ^ 64) (finished D (step slots 16 1 0 none) me)
-  finishes slots id me k may give s r _ at small = let x : ℕ = get_or s.words 16 0 in let S : State = state r.run in let h = sound r.run r.is_run in let shows = (r.seats id me.0 at).0 in let st = subst (Stands S id) may.0.1 shows.stands in let knows = shows.inside may.0.0 may.0.1 in
-      let runs : (party S id).running ≡ Some k = shows.claim ∙ may.1 in let S' : State = done S id k runs in let w : View N = finishing x me.0 in let ran = (h.work.fits id).ran k runs in
-      let below : k < (now S).jobs = h.work.below k (λ e. cc) in let shown : S.published ≢ None = some_published S h id st.0 (omega arith) in
-      let few = few_finished S h (few_jobs S h shown) in let is = r.words.finished shown in let new : (x + 1) % 18446744073709551616 ≡ length (now S).finished + 1 = omega arith in
-      let alone : (p : ℕ) (u : View N) → p ≢ id → get_elem? s.views p ≡ some u → u.claim ≢ Some k = (λ p u n e c. let a = (h.work.fits p).ran k ((r.seats p u e).0.claim ∙ c) in let b : Ran p ≡ Ran id = sym a ∙ ran in let d : p ≡ id = cc in n d) in
-      let g = law.finishes S S' s.homes s.views id me.0 w me.1 k r.slots (finishes_here S id k runs) at may.1 alone (refl, refl) give in let look = look_here S.parties id (idle S id k runs) in let round = its_round S id k runs in
-      let own : S.round ≡ round_of me.0.standing = st.1 ∙ sym (ap round_of may.0.1) in (
-        w,
-        D.gives,
-        g.0,
-        moves_with D t s r 16 ((x + 1) % 18446744073709551616) id me w D.gives (Finish id ∷ []) at (refl, tt) ((k, runs), r.is_run) (words_after S id k runs t s.words ((x + 1) % 18446744073709551616) r.words shown new)
-            record {
-              stands = subst (Stands S' id) (sym may.0.1) (ap (λ (z : Party). z.status) look ∙ st.0, st.1);
-              leads = shows.leads;
-              claim = ap (λ (z : Party). z.running) look;
-              share = λ j. subst (λ (z : Bool). ((z ≡ true) → (me.0.from ≤ j) × (j < me.0.to)) × ((me.0.from ≤ j) × (j < me.0.to) → z ≡ true)) (sym (taken_same S id k runs id j)) (shows.share j);
-              inside = λ a e. record {
-                number = λ m e. let old = knows.number m e in (old.0, ap (λ (z : Round). z.stoppable) round ∙ old.1);
-                unpublished = knows.unpublished;
-                seen = ap (λ (z : Round). z.seen id) round ∙ knows.seen;
-                emptied = λ m j e l. ⊎_elim (λ (u : (a : ℕ) → Free S a → home_of me.0.threads m a ≡ j → ⊥). inl (λ a f. u a (free_back S id k runs a f))) (λ u. inr (ap (λ (z : Round). z.stopped) round ∙ u)) (knows.emptied m j e l);
-                unread = knows.unread;
-              };
-            }
-            ((λ z. Ended (sym own z) (number_or (may.1 z)) ∷ (r.seats id me.0 at).1 z) ∙ sym (ap (λ (b : Bool). (if b then ended_in S.round (party S id).running else []) ++ deeds id r.run) (eq-eqb id id refl) ∙ ap (λ (o : Option ℕ). ended_in S.round o ++ deeds id r.run) runs)) refl
-            (still_laid D t s r 16 ((x + 1) % 18446744073709551616) id me w (Finish id ∷ []) at (inr refl) refl refl (λ _. refl) (inr shown))
-            g.1,
-        (refl, refl),
-      )
+  pub finishes : (slots id : ℕ) (me : SeatOf D t) (k : ℕ) → MayFinish k me.0 → D.may_give k me.0.note me.1 → Addition D t slots id me 16 (Finish id ∷ []) (finished D)
+  finishes slots id me k may give = record {
+    shows = λ run s r _ at small. let x : ℕ = get_or s.words 16 0 in let S : State = state run in let h = sound run r.is_run in let shows = (r.seats id me.0 at).0 in let st = subst (Stands S id) may.0.1 shows.stands in let knows = shows.inside may.0.0 may.0.1 in
+        let runs : (party S id).running ≡ Some k = shows.claim ∙ may.1 in let S' : State = done S id k runs in let w : View N = finishing x me.0 in let ran = (h.work.fits id).ran k runs in
+        let below : k < (now S).jobs = h.work.below k (λ e. cc) in let shown : S.published ≢ None = some_published S h id st.0 (omega arith) in
+        let few = few_finished S h (few_jobs S h shown) in let is = r.words.finished shown in let new : (x + 1) % 18446744073709551616 ≡ length (now S).finished + 1 = omega arith in
+        let alone : (p : ℕ) (u : View N) → p ≢ id → get_elem? s.views p ≡ some u → u.claim ≢ Some k = (λ p u n e c. let a = (h.work.fits p).ran k ((r.seats p u e).0.claim ∙ c) in let b : Ran p ≡ Ran id = sym a ∙ ran in let d : p ≡ id = cc in n d) in
+        let g = law.finishes S S' s.homes s.views id me.0 w me.1 k r.slots (finishes_here S id k runs) at may.1 alone (refl, refl) give in let look = look_here S.parties id (idle S id k runs) in let round = its_round S id k runs in
+        let own : S.round ≡ round_of me.0.standing = st.1 ∙ sym (ap round_of may.0.1) in (
+          w,
+          D.gives,
+          g.0,
+          moves_with D t run s r 16 ((x + 1) % 18446744073709551616) id me w D.gives (Finish id ∷ []) at (refl, tt) ((k, runs), r.is_run) (words_after S id k runs t s.words ((x + 1) % 18446744073709551616) r.words shown new)
+              record {
+                stands = subst (Stands S' id) (sym may.0.1) (ap (λ (z : Party). z.status) look ∙ st.0, st.1);
+                leads = shows.leads;
+                claim = ap (λ (z : Party). z.running) look;
+                share = λ j. subst (λ (z : Bool). ((z ≡ true) → (me.0.from ≤ j) × (j < me.0.to)) × ((me.0.from ≤ j) × (j < me.0.to) → z ≡ true)) (sym (taken_same S id k runs id j)) (shows.share j);
+                inside = λ a e. record {
+                  number = λ m e. let old = knows.number m e in (old.0, ap (λ (z : Round). z.stoppable) round ∙ old.1);
+                  unpublished = knows.unpublished;
+                  seen = ap (λ (z : Round). z.seen id) round ∙ knows.seen;
+                  emptied = λ m j e l. ⊎_elim (λ (u : (a : ℕ) → Free S a → home_of me.0.threads m a ≡ j → ⊥). inl (λ a f. u a (free_back S id k runs a f))) (λ u. inr (ap (λ (z : Round). z.stopped) round ∙ u)) (knows.emptied m j e l);
+                  unread = knows.unread;
+                };
+              }
+              ((λ z. Ended (sym own z) (number_or (may.1 z)) ∷ (r.seats id me.0 at).1 z) ∙ sym (ap (λ (b : Bool). (if b then ended_in S.round (party S id).running else []) ++ deeds id run) (eq-eqb id id refl) ∙ ap (λ (o : Option ℕ). ended_in S.round o ++ deeds id run) runs)) refl
+              (still_laid D t run s r 16 ((x + 1) % 18446744073709551616) id me w (Finish id ∷ []) at (inr refl) refl refl (λ _. refl) (inr shown))
+              g.1,
+          (refl, refl),
+        );
+  }

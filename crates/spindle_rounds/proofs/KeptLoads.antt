@@ -6,14 +6,16 @@ use mathlib.Core.Option.{none, some}
 use native.Mathlib.Decide.{ℕ_discrete}
 use lib.ListN.{get_elem?}
 use Rattle.atomic_table.specs.Table as table
-use Rattle.atomic_table.specs.Table.{Me, step, keeps, stepped, Allows}
+use Rattle.atomic_table.specs.Table.{Me, step, keeps, stepped}
 use Rattle.spindle_parts.specs.State.{State, In, now, party, Free, IsUsed}
+use Rattle.spindle_parts.specs.Steps.{Event}
 use Rattle.spindle_parts.specs.Runs.{state}
 use Rattle.spindle_parts.proofs.Soundness.{Sound, sound, no_closer}
 use Rattle.spindle_rounds.specs.declared.round_table.view.View.{View}
 use Rattle.spindle_rounds.specs.RoundSlots.{Discipline, Lawful}
 use Rattle.spindle_rounds.specs.RoundRule.{number_of, Stands, Knows, Counters, InRange, InRest, home_of, IsListed, IsEmptied}
 use Rattle.spindle_rounds.specs.RoundSteps.{loaded, loading, learned, learning, searched, searching, reading, list_empty, rest_read, reading_rest, recalled}
+use Rattle.spindle_rounds.specs.RoundRuns.{PlainLoad}
 use Rattle.spindle_rounds.proofs.RoundMoves.{Rule, SeatOf, turns, stays, noted_shows, untrue}
 use Rattle.spindle_rounds.proofs.RoundWords.{by_less, by_equal, word_fields}
 
@@ -63,14 +65,16 @@ low_half false n few = omega arith
 
 module _ {X N : Type 0} (D : Discipline X N) (law : Lawful D) (t : ℕ) where
   -- the barrier word is read
-  pub loads : (slots id : ℕ) (me : SeatOf D t) → Allows (Rule D t) slots id me 0 (λ n. n) (loaded (step slots 0 0 0 none) me)
-  loads slots id me s r _ at _ = let x : ℕ = get_or s.words 0 0 in let S : State = state r.run in let f = word_fields S (sound r.run r.is_run) x r.words.barrier in
-      (loading 0 x me.0, keeps, tt, stays D law t s r 0 id me (loading 0 x me.0) at (refl, refl, refl) (noted_shows S id me.0 _ (r.seats id me.0 at).0) refl refl (inr refl) refl, (refl, refl, f.small))
+  pub loads : (slots id : ℕ) (me : SeatOf D t) → PlainLoad D t slots id me 0 loaded
+  loads slots id me = record {
+    shows = λ run s r _ at _. let x : ℕ = get_or s.words 0 0 in let S : State = state run in let f = word_fields S (sound run r.is_run) x r.words.barrier in
+        (loading 0 x me.0, keeps, tt, stays D law t run s r 0 id me (loading 0 x me.0) at (refl, refl, refl) (noted_shows S id me.0 _ (r.seats id me.0 at).0) refl refl (inr refl) refl, (refl, refl, f.small));
+  }
 
   -- the published word is read
-  pub learns : (slots id : ℕ) (me : SeatOf D t) → Allows (Rule D t) slots id me 8 (λ n. n) (learned (step slots 8 0 0 none) me)
-  learns slots id me = turns D law t slots id me 8 (λ n. n) learning (step slots 8 0 0 none) (λ s b. let r = b.rule in let at = b.at in let x : ℕ = get_or s.words 8 0 in let S : State = state r.run in let h = sound r.run r.is_run in let shows = (r.seats id me.0 at).0 in
-      stays D law t s r 8 id me (learning x me.0) at (refl, refl, refl)
+  pub learns : (slots id : ℕ) (me : SeatOf D t) → PlainLoad D t slots id me 8 learned
+  learns slots id me = turns D law t slots id me 8 (λ n. n) [] learning (step slots 8 0 0 none) (λ run s b. let r = b.rule in let at = b.at in let x : ℕ = get_or s.words 8 0 in let S : State = state run in let h = sound run r.is_run in let shows = (r.seats id me.0 at).0 in
+      stays D law t run s r 8 id me (learning x me.0) at (refl, refl, refl)
       record {
         stands = shows.stands;
         leads = shows.leads;
@@ -118,9 +122,9 @@ module _ {X N : Type 0} (D : Discipline X N) (law : Lawful D) (t : ℕ) where
       unread_yet k none_shown = ⊎_elim (λ (z : (m : ℕ) × (me.0.known.number ≡ Some m)). let a = (k.number z.0 z.1).0 in absurd cc) k.unread (number_or_none me.0.known.number)
 
   -- a place of the ranges or the remainder is read
-  reads : (id : ℕ) (me : SeatOf D t) (word place : ℕ) (empty : Bool) (s : table.State X (View N)) (r : Rule D t s) → get_elem? s.views id ≡ some me.0 → ((n : ℕ) → (state r.run).published ≡ Some n → empty ≡ true → IsEmptied t n (state r.run) place)
-      → Rule D t (stepped s word (get_or s.words word 0) id me.1 (reading word place empty (get_or s.words word 0) me.0) keeps)
-  reads id me word place empty s r at teaches = let S : State = state r.run in let seat = r.seats id me.0 at in let shows = seat.0 in stays D law t s r word id me (reading word place empty (get_or s.words word 0) me.0) at (refl, refl, refl)
+  reads : (id : ℕ) (me : SeatOf D t) (word place : ℕ) (empty : Bool) (run : List Event) (s : table.State X (View N)) (r : Rule D t run s) → get_elem? s.views id ≡ some me.0 → ((n : ℕ) → (state run).published ≡ Some n → empty ≡ true → IsEmptied t n (state run) place)
+      → Rule D t run (stepped s word (get_or s.words word 0) id me.1 (reading word place empty (get_or s.words word 0) me.0) keeps)
+  reads id me word place empty run s r at teaches = let S : State = state run in let seat = r.seats id me.0 at in let shows = seat.0 in stays D law t run s r word id me (reading word place empty (get_or s.words word 0) me.0) at (refl, refl, refl)
       record {
         stands = shows.stands;
         leads = shows.leads;
@@ -136,32 +140,38 @@ module _ {X N : Type 0} (D : Discipline X N) (law : Lawful D) (t : ℕ) where
       } refl refl (inr refl) refl
 
   -- a range is read
-  pub searches : (slots id : ℕ) (me : SeatOf D t) (i : ℕ) → i < t → Allows (Rule D t) slots id me (40 + 8 * i) (λ x. x) (searched (step slots (40 + 8 * i) 0 0 none) me)
-  searches slots id me i low s r d at small = let x : ℕ = get_or s.words (40 + 8 * i) 0 in let empty : Bool = if nat_lt (x % 4294967296) (x / 4294967296) then false else true in let c = r.words.counters in let a = reads id me (40 + 8 * i) i empty s r at
-      (λ n shown e. range_emptied t (state r.run) s.words n i low (c n shown) (by_less (x % 4294967296) (x / 4294967296) (λ b. (if b then false else true) ≡ true → x / 4294967296 ≤ x % 4294967296) (λ _ z. absurd cc) (λ le _. le) e)) in
-      (searching i x me.0, keeps, tt, a, (refl, λ j same. let ij : i ≡ j = omega arith in ap (λ (z : ℕ). searching z x me.0) ij))
+  pub searches : (slots id : ℕ) (me : SeatOf D t) (i : ℕ) → i < t → PlainLoad D t slots id me (40 + 8 * i) searched
+  searches slots id me i low = record {
+    shows = λ run s r _ at _. let x : ℕ = get_or s.words (40 + 8 * i) 0 in let empty : Bool = if nat_lt (x % 4294967296) (x / 4294967296) then false else true in let c = r.words.counters in let a = reads id me (40 + 8 * i) i empty run s r at
+        (λ n shown e. range_emptied t (state run) s.words n i low (c n shown) (by_less (x % 4294967296) (x / 4294967296) (λ b. (if b then false else true) ≡ true → x / 4294967296 ≤ x % 4294967296) (λ _ z. absurd cc) (λ le _. le) e)) in
+        (searching i x me.0, keeps, tt, a, (refl, λ j same. let ij : i ≡ j = omega arith in ap (λ (z : ℕ). searching z x me.0) ij));
+  }
 
   -- the remainder is read, which is no more than the number
-  pub rest_reads : (slots id : ℕ) (me : SeatOf D t) → Allows (Rule D t) slots id me 32 (λ x. x) (rest_read (step slots 32 0 0 none) me)
-  rest_reads slots id me s r _ at _ = let x : ℕ = get_or s.words 32 0 in let seat = r.seats id me.0 at in (
-    reading_rest x me.0,
-    keeps,
-    tt,
-    reads id me 32 me.0.threads (x == 0) s r at
-        (λ n shown e. subst (λ (a : ℕ). IsEmptied t n (state r.run) a) (sym seat.2) (rest_emptied t (state r.run) s.words n (r.words.counters n shown) (by_equal x 0 (λ b. b ≡ true → x ≡ 0) (λ z _. z) (λ _ z. absurd cc) e))),
-    (refl, refl, λ q n inside_q known. let c = r.words.counters n ((seat.0.inside q inside_q).number n known).0 in let few = c.few in let e = div-add-mod' n t in omega arith),
-  )
+  pub rest_reads : (slots id : ℕ) (me : SeatOf D t) → PlainLoad D t slots id me 32 rest_read
+  rest_reads slots id me = record {
+    shows = λ run s r _ at _. let x : ℕ = get_or s.words 32 0 in let seat = r.seats id me.0 at in (
+      reading_rest x me.0,
+      keeps,
+      tt,
+      reads id me 32 me.0.threads (x == 0) run s r at
+          (λ n shown e. subst (λ (a : ℕ). IsEmptied t n (state run) a) (sym seat.2) (rest_emptied t (state run) s.words n (r.words.counters n shown) (by_equal x 0 (λ b. b ≡ true → x ≡ 0) (λ z _. z) (λ _ z. absurd cc) e))),
+      (refl, refl, λ q n inside_q known. let c = r.words.counters n ((seat.0.inside q inside_q).number n known).0 in let few = c.few in let e = div-add-mod' n t in omega arith),
+    );
+  }
 
   -- the published word is read by a member that knows the number
-  pub recalls : (slots id : ℕ) (me : SeatOf D t) → Allows (Rule D t) slots id me 8 (λ x. x) (recalled (step slots 8 0 0 none) me)
-  recalls slots id me s r _ at _ = let x : ℕ = get_or s.words 8 0 in let S : State = state r.run in let seat = r.seats id me.0 at in (
-    loading 8 x me.0,
-    keeps,
-    tt,
-    stays D law t s r 8 id me (loading 8 x me.0) at (refl, refl, refl) (noted_shows S id me.0 _ seat.0) refl refl (inr refl) refl,
-    (
-      refl,
-      λ q n inside_q known. let k = (seat.0.inside q inside_q).number n known in let is : x ≡ number_of (Some n) me.0.known.may_stop = r.words.published ∙ (λ i. number_of (k.0 i) (k.1 i)) in
-          let few = ((sound r.run r.is_run).gate.shown n k.0).2 in let low = low_half me.0.known.may_stop n few in (ap (λ (z : ℕ). loading 8 z me.0) is, ap (λ (z : ℕ). z % 4294967296) is ∙ low),
-    ),
-  )
+  pub recalls : (slots id : ℕ) (me : SeatOf D t) → PlainLoad D t slots id me 8 recalled
+  recalls slots id me = record {
+    shows = λ run s r _ at _. let x : ℕ = get_or s.words 8 0 in let S : State = state run in let seat = r.seats id me.0 at in (
+      loading 8 x me.0,
+      keeps,
+      tt,
+      stays D law t run s r 8 id me (loading 8 x me.0) at (refl, refl, refl) (noted_shows S id me.0 _ seat.0) refl refl (inr refl) refl,
+      (
+        refl,
+        λ q n inside_q known. let k = (seat.0.inside q inside_q).number n known in let is : x ≡ number_of (Some n) me.0.known.may_stop = r.words.published ∙ (λ i. number_of (k.0 i) (k.1 i)) in
+            let few = ((sound run r.is_run).gate.shown n k.0).2 in let low = low_half me.0.known.may_stop n few in (ap (λ (z : ℕ). loading 8 z me.0) is, ap (λ (z : ℕ). z % 4294967296) is ∙ low),
+      ),
+    );
+  }

@@ -1,9 +1,7 @@
 -- The store with which the first number of a share begins.
 use Rattle.std.proofs.Common.{◌≡◌, ◌≢◌, ◌⊎◌, inl, inr, ⊎_elim, ℕ, ◌+◌, ◌*◌, ◌<◌, ◌≤◌, Bool, true, false, eq-eqb, List, [], ◌∷◌, ◌++◌, length, get_or, set, get_or-set_other, sym, refl, ap, ◌∙◌, subst, arith, Option, Some, None, if◌then◌else◌}
 use mathlib.Core.Logic.{dite}
-use mathlib.Core.Option.{none}
 use native.Mathlib.Decide.{ℕ_discrete}
-use Rattle.atomic_table.specs.Table.{step, Allows}
 use Rattle.spindle_parts.specs.State.{State, Party, Round, put, now, party, times, Free, weight_in, weight_member, is_in, is_member}
 use Rattle.spindle_parts.specs.Steps.{Begin, after}
 use Rattle.spindle_parts.specs.Runs.{state}
@@ -15,7 +13,8 @@ use Rattle.spindle_rounds.specs.RoundSlots.{Discipline, Lawful, Begins}
 use Rattle.spindle_rounds.specs.RoundRule.{Began, deeds, Stands, Words, home_of}
 use Rattle.spindle_rounds.specs.RoundSteps.{shared, sharing, round_of}
 use Rattle.spindle_rounds.specs.RoundConditions.{MayBegin}
-use Rattle.spindle_rounds.proofs.RoundMoves.{Rule, SeatOf, moves_with, still_laid, some_of}
+use Rattle.spindle_rounds.specs.RoundRuns.{Store}
+use Rattle.spindle_rounds.proofs.RoundMoves.{SeatOf, moves_with, still_laid, some_of}
 use Rattle.spindle_rounds.proofs.RoundWords.{counts_stay, word_stays, counters_stay}
 use Rattle.spindle_rounds.proofs.RoundChanges.{changed_words, some_published}
 
@@ -77,33 +76,35 @@ module _ (S : State) (h : Sound S) (id k : ℕ) (held : (party S id).taken k ≡
   }
 
 module _ {X N : Type 0} (D : Discipline X N) (law : Lawful D) (t : ℕ) where
-  pub shares : (slots id : ℕ) (me : SeatOf D t) (i new : ℕ) → t ≤ i → MayBegin me.0 → me.0.from < me.0.to → Allows (Rule D t) slots id me (40 + 8 * i) (λ _. new) (λ _. shared D (step slots (40 + 8 * i) new 0 none) me new)
-  shares slots id me i new high may some s r _ at _ = let word_at : ℕ = 40 + 8 * i in let q = may.0.0 in let k : ℕ = me.0.from in let S : State = state r.run in let h = sound r.run r.is_run in let seat = r.seats id me.0 at in let shows = seat.0 in
-      let st = subst (Stands S id) may.0.1 shows.stands in let knows = shows.inside q may.0.1 in let held : (party S id).taken k ≡ true = (shows.share k).1 (omega arith, some) in let S' : State = begun S h id k held in
-      let is_shown : S.published ≢ None = some_published S h id st.0 (let a = in_round S h id k held in omega arith) in let n = some_of S.published is_shown in let w : Option N → View N = (λ x. sharing word_at new x me.0) in
-      let b = law.begins S S' s.homes s.views id me.0 me.1 k w r.slots (begins_here S h id k held n.0 n.1) at (λ o. (refl, refl, refl)) in let last = its_party S h id k held in let round = its_round S h id k held in
-      let own : S.round ≡ round_of me.0.standing = st.1 ∙ sym (ap round_of may.0.1) in (
-        w b.0,
-        b.1,
-        b.2,
-        moves_with D t s r word_at new id me (w b.0) b.1 (Begin id k ∷ []) at (refl, tt) ((st.0, knows.seen ∙ may.2, shows.claim ∙ may.1, held), r.is_run) (words_after S h id k held t word_at new s.words (omega arith) r.words)
-            record {
-              stands = subst (Stands S' id) (sym may.0.1) (ap (λ (z : Party). z.status) last ∙ st.0, st.1);
-              leads = shows.leads;
-              claim = ap (λ (z : Party). z.running) last;
-              share = λ j. let old = shows.share j in subst (λ (f : ℕ → Bool). ((f j ≡ true) → (k + 1 ≤ j) × (j < me.0.to)) × ((k + 1 ≤ j) × (j < me.0.to) → f j ≡ true)) (sym (ap (λ (z : Party). z.taken) last))
-                  (dite (ℕ_discrete j k)
-                  (λ e. ((λ on. let a = put_here (party S id).taken k false in let b = ap (put (party S id).taken k false) e in absurd cc), (λ z. let z₀ = z.0 in absurd (omega arith))))
-                  (λ apart. let same = put_else (party S id).taken k false j apart in ((λ on. let z = old.0 (sym same ∙ on) in let z₀ = z.0 in (omega arith, z.1)), (λ z. let z₀ = z.0 in same ∙ old.1 (omega arith, z.1)))));
-              inside = λ a e. record {
-                number = λ m e. let old = knows.number m e in (old.0, ap (λ (z : Round). z.stoppable) round ∙ old.1);
-                unpublished = knows.unpublished;
-                seen = ap (λ (z : Round). z.seen id) round ∙ knows.seen;
-                emptied = λ m j e l. ⊎_elim (λ (u : (a : ℕ) → Free S a → home_of me.0.threads m a ≡ j → ⊥). inl (λ a f. u a (free_back S h id k held a f))) (λ u. inr (ap (λ (z : Round). z.stopped) round ∙ u)) (knows.emptied m j e l);
-                unread = knows.unread;
-              };
-            }
-            ((λ z. Began (sym own z) k ∷ seat.1 z) ∙ sym (ap (λ (b : Bool). (if b then Began S.round k ∷ [] else []) ++ deeds id r.run) (eq-eqb id id refl))) refl
-            (still_laid D t s r word_at new id me (w b.0) (Begin id k ∷ []) at (inr refl) refl refl (λ _. refl) (inr is_shown)) b.3,
-        (b.0, refl, b.4),
-      )
+  pub shares : (slots id : ℕ) (me : SeatOf D t) (i new : ℕ) → t ≤ i → MayBegin me.0 → me.0.from < me.0.to → Store D t slots id me (40 + 8 * i) new (Begin id me.0.from ∷ []) (shared D)
+  shares slots id me i new high may some = record {
+    shows = λ run s r _ at _. let word_at : ℕ = 40 + 8 * i in let q = may.0.0 in let k : ℕ = me.0.from in let S : State = state run in let h = sound run r.is_run in let seat = r.seats id me.0 at in let shows = seat.0 in
+        let st = subst (Stands S id) may.0.1 shows.stands in let knows = shows.inside q may.0.1 in let held : (party S id).taken k ≡ true = (shows.share k).1 (omega arith, some) in let S' : State = begun S h id k held in
+        let is_shown : S.published ≢ None = some_published S h id st.0 (let a = in_round S h id k held in omega arith) in let n = some_of S.published is_shown in let w : Option N → View N = (λ x. sharing word_at new x me.0) in
+        let b = law.begins S S' s.homes s.views id me.0 me.1 k w r.slots (begins_here S h id k held n.0 n.1) at (λ o. (refl, refl, refl)) in let last = its_party S h id k held in let round = its_round S h id k held in
+        let own : S.round ≡ round_of me.0.standing = st.1 ∙ sym (ap round_of may.0.1) in (
+          w b.0,
+          b.1,
+          b.2,
+          moves_with D t run s r word_at new id me (w b.0) b.1 (Begin id k ∷ []) at (refl, tt) ((st.0, knows.seen ∙ may.2, shows.claim ∙ may.1, held), r.is_run) (words_after S h id k held t word_at new s.words (omega arith) r.words)
+              record {
+                stands = subst (Stands S' id) (sym may.0.1) (ap (λ (z : Party). z.status) last ∙ st.0, st.1);
+                leads = shows.leads;
+                claim = ap (λ (z : Party). z.running) last;
+                share = λ j. let old = shows.share j in subst (λ (f : ℕ → Bool). ((f j ≡ true) → (k + 1 ≤ j) × (j < me.0.to)) × ((k + 1 ≤ j) × (j < me.0.to) → f j ≡ true)) (sym (ap (λ (z : Party). z.taken) last))
+                    (dite (ℕ_discrete j k)
+                    (λ e. ((λ on. let a = put_here (party S id).taken k false in let b = ap (put (party S id).taken k false) e in absurd cc), (λ z. let z₀ = z.0 in absurd (omega arith))))
+                    (λ apart. let same = put_else (party S id).taken k false j apart in ((λ on. let z = old.0 (sym same ∙ on) in let z₀ = z.0 in (omega arith, z.1)), (λ z. let z₀ = z.0 in same ∙ old.1 (omega arith, z.1)))));
+                inside = λ a e. record {
+                  number = λ m e. let old = knows.number m e in (old.0, ap (λ (z : Round). z.stoppable) round ∙ old.1);
+                  unpublished = knows.unpublished;
+                  seen = ap (λ (z : Round). z.seen id) round ∙ knows.seen;
+                  emptied = λ m j e l. ⊎_elim (λ (u : (a : ℕ) → Free S a → home_of me.0.threads m a ≡ j → ⊥). inl (λ a f. u a (free_back S h id k held a f))) (λ u. inr (ap (λ (z : Round). z.stopped) round ∙ u)) (knows.emptied m j e l);
+                  unread = knows.unread;
+                };
+              }
+              ((λ z. Began (sym own z) k ∷ seat.1 z) ∙ sym (ap (λ (b : Bool). (if b then Began S.round k ∷ [] else []) ++ deeds id run) (eq-eqb id id refl))) refl
+              (still_laid D t run s r word_at new id me (w b.0) (Begin id k ∷ []) at (inr refl) refl refl (λ _. refl) (inr is_shown)) b.3,
+          (b.0, refl, b.4),
+        );
+  }

@@ -1,10 +1,9 @@
 -- A round is stopped, a member sees it, and puts its share back.
-use Rattle.std.proofs.Common.{◌≡◌, ◌≢◌, ◌⊎◌, inl, inr, ⊎_elim, ℕ, ◌+◌, ◌*◌, ◌<◌, ◌≤◌, Bool, true, false, eqb, eq-eqb, List, [], ◌∷◌, length, get_or, set, get_or-set_same, get_or-set_other, sym, refl, ap, ◌∙◌, subst, arith, None, ◌==◌}
+use Rattle.std.proofs.Common.{◌≡◌, ◌≢◌, ◌⊎◌, inl, inr, ⊎_elim, ℕ, ◌+◌, ◌*◌, ◌<◌, ◌≤◌, Bool, true, false, eq-eqb, List, [], ◌∷◌, length, get_or, set, get_or-set_same, get_or-set_other, sym, refl, ap, ◌∙◌, subst, arith, None, if◌then◌else◌, ◌==◌, ◌++◌}
 use mathlib.Core.Logic.{dite}
 use mathlib.Core.Option.{none}
 use native.Mathlib.Decide.{ℕ_discrete}
-use prog.Atomic.{either}
-use Rattle.atomic_table.specs.Table.{step, keeps, Allows}
+use Rattle.atomic_table.specs.Table.{step, keeps, stepped}
 use Rattle.spindle_parts.specs.State.{State, Party, Round, put, no_set, now, party, Free, times, weight_in, weight_member, is_in, is_member}
 use Rattle.spindle_parts.specs.Steps.{Stop, See, PutBack, after}
 use Rattle.spindle_parts.specs.Runs.{state}
@@ -20,6 +19,7 @@ use Rattle.spindle_rounds.specs.RoundRule.{deeds, Stands, Shows, IsShare, Words,
 use Rattle.spindle_rounds.specs.RoundSteps.{stops, stopping, saw, seeing, putting, start_of, end_of}
 use Rattle.spindle_rounds.specs.RoundSteps as steps
 use Rattle.spindle_rounds.specs.RoundConditions.{MayStop, MaySee, MayPutBack}
+use Rattle.spindle_rounds.specs.RoundRuns.{Load, Store, Exchange}
 use Rattle.spindle_rounds.proofs.RoundMoves.{Rule, SeatOf, stores, exchanges, moves, stays, untrue}
 use Rattle.spindle_rounds.proofs.RoundNumbers.{true_or}
 use Rattle.spindle_rounds.proofs.RoundWords.{counts_stay, word_stays, counters_stay}
@@ -73,51 +73,55 @@ module _ {N : Type 0} (S : State) (id q : ℕ) (v : View N) (shows : Shows S id 
   }
 
 module _ {X N : Type 0} (D : Discipline X N) (law : Lawful D) (t : ℕ) where
-  pub halts : (slots id : ℕ) (me : SeatOf D t) (k : ℕ) → MayStop k me.0 → Allows (Rule D t) slots id me 24 (λ _. 1) (λ _. stops (step slots 24 1 0 none) me 1)
-  halts slots id me k may = stores D law t slots id me 24 1 stopping (step slots 24 1 0 none) (λ s b. let r = b.rule in let at = b.at in let S : State = state r.run in let seat = r.seats id me.0 at in let shows = seat.0 in
+  pub halts : (slots id : ℕ) (me : SeatOf D t) (k : ℕ) → MayStop k me.0 → Store D t slots id me 24 1 (Stop id ∷ []) stops
+  halts slots id me k may = stores D law t slots id me 24 1 (Stop id ∷ []) stopping (step slots 24 1 0 none) (λ run s b. let r = b.rule in let at = b.at in let S : State = state run in let seat = r.seats id me.0 at in let shows = seat.0 in
       let number = (shows.inside may.0.0.0 may.0.0.1).number may.1.0 may.1.1 in let seen : ℕ → Bool = put (now S).seen id true in let w : View N = stopping 1 me.0 in
-      moves D law t s r 24 1 id me w (Stop id ∷ []) at (refl, tt) (tt, tt) (refl, refl, refl) (((k, shows.claim ∙ may.0.1), number.1 ∙ may.2), r.is_run)
+      moves D law t run s r 24 1 id me w (Stop id ∷ []) at (refl, tt) (tt, tt) (refl, refl, refl) (((k, shows.claim ∙ may.0.1), number.1 ∙ may.2), r.is_run)
       (words_after S true seen t s.words 1 r.words (λ _. refl) (λ e. absurd cc) (λ e. absurd cc))
       (sees_stop S id may.0.0.0 me.0 shows may.0.0.1 w.trail)
-      (seat.1 ∙ sym (no_deed id (deeds id r.run))) refl (inr refl) refl refl (inr (λ e. let a = number.0 in cc)))
+      (seat.1 ∙ sym (no_deed id (deeds id run))) refl (inr refl) refl refl (inr (λ e. let a = number.0 in cc)))
 
   -- the word says whether the round was stopped
-  pub sees : (slots id : ℕ) (me : SeatOf D t) → MaySee me.0 → Allows (Rule D t) slots id me 24 (λ x. x) (saw (step slots 24 0 0 none) me)
-  sees slots id me may s r _ at _ = let x : ℕ = get_or s.words 24 0 in let S : State = state r.run in let h = sound r.run r.is_run in let seat = r.seats id me.0 at in let shows = seat.0 in let st = subst (Stands S id) may.0.1 shows.stands in
-      let knows = shows.inside may.0.0 may.0.1 in let number = knows.number may.1.0 may.1.1 in let says = r.words.stopped (λ e. let a = number.0 in cc) in let w : View N = seeing x me.0 in ⊎_elim
-      (λ (on : (now S).stopped ≡ true). let one : x ≡ 1 = says.0 on in let seen : ℕ → Bool = put (now S).seen id true in (
-        w,
-        keeps,
-        tt,
-        moves D law t s r 24 x id me w (See id ∷ []) at (refl, tt) (tt, tt) (refl, refl, refl) ((st.0, on), r.is_run)
-            (subst (λ (z : Round). Words t record { round = S.round; parties = S.parties; closer = S.closer; published = S.published; rounds = put S.rounds S.round z } (set s.words 24 x)) (λ i. record (now S) { stopped = sym on i; seen = seen })
-            (words_after S true seen t s.words x r.words (λ _. one) (λ e. absurd cc) (λ e. absurd cc)))
-            (subst (λ (z : Round × Bool). let u : View N = record w { known = record w.known { seen_stop = z.1 } } in Shows record { round = S.round; parties = S.parties; closer = S.closer; published = S.published; rounds = put S.rounds S.round z.0 } id u) (λ i. (record (now S) { stopped = sym on i; seen = seen }, sym (eq-eqb x 1 one) i))
-            (sees_stop S id may.0.0 me.0 shows may.0.1 w.trail))
-            (seat.1 ∙ sym (no_deed id (deeds id r.run))) refl (inr refl) refl refl (inr (λ e. let a = number.0 in cc)),
-        (refl, refl, omega arith),
-      ))
-      (λ (off : (now S).stopped ≡ false). let zero_read : x ≡ 0 = says.1 off in (
-        w,
-        keeps,
-        tt,
-        stays D law t s r 24 id me w at (refl, refl, refl)
-            record {
-              stands = shows.stands;
-              leads = shows.leads;
-              claim = shows.claim;
-              share = shows.share;
-              inside = λ a e. record {
-                number = knows.number;
-                unpublished = knows.unpublished;
-                seen = untrue ((now S).seen id) (λ e. let a = h.work.saw id e in cc) ∙ sym (ap (λ (z : ℕ). z == 1) zero_read);
-                emptied = knows.emptied;
-                unread = knows.unread;
-              };
-            }
-            refl refl (inr refl) refl,
-        (refl, refl, omega arith),
-      )) (true_or (now S).stopped)
+  pub sees : (slots id : ℕ) (me : SeatOf D t) → MaySee me.0 → Load D t slots id me 24 (λ found. if found == 1 then See id ∷ [] else []) saw
+  sees slots id me may = record {
+    shows = λ run s r _ at _. let x : ℕ = get_or s.words 24 0 in let S : State = state run in let h = sound run r.is_run in let seat = r.seats id me.0 at in let shows = seat.0 in let st = subst (Stands S id) may.0.1 shows.stands in
+        let knows = shows.inside may.0.0 may.0.1 in let number = knows.number may.1.0 may.1.1 in let says = r.words.stopped (λ e. let a = number.0 in cc) in let w : View N = seeing x me.0 in ⊎_elim
+        (λ (on : (now S).stopped ≡ true). let one : x ≡ 1 = says.0 on in let seen : ℕ → Bool = put (now S).seen id true in (
+          w,
+          keeps,
+          tt,
+          subst (λ b. Rule D t ((if b then See id ∷ [] else []) ++ run) (stepped s 24 x id me.1 w keeps)) (sym (eq-eqb x 1 one))
+              (moves D law t run s r 24 x id me w (See id ∷ []) at (refl, tt) (tt, tt) (refl, refl, refl) ((st.0, on), r.is_run)
+              (subst (λ (z : Round). Words t record { round = S.round; parties = S.parties; closer = S.closer; published = S.published; rounds = put S.rounds S.round z } (set s.words 24 x)) (λ i. record (now S) { stopped = sym on i; seen = seen })
+              (words_after S true seen t s.words x r.words (λ _. one) (λ e. absurd cc) (λ e. absurd cc)))
+              (subst (λ (z : Round × Bool). let u : View N = record w { known = record w.known { seen_stop = z.1 } } in Shows record { round = S.round; parties = S.parties; closer = S.closer; published = S.published; rounds = put S.rounds S.round z.0 } id u) (λ i. (record (now S) { stopped = sym on i; seen = seen }, sym (eq-eqb x 1 one) i))
+              (sees_stop S id may.0.0 me.0 shows may.0.1 w.trail))
+              (seat.1 ∙ sym (no_deed id (deeds id run))) refl (inr refl) refl refl (inr (λ e. let a = number.0 in cc))),
+          (refl, refl, omega arith),
+        ))
+        (λ (off : (now S).stopped ≡ false). let zero_read : x ≡ 0 = says.1 off in (
+          w,
+          keeps,
+          tt,
+          subst (λ b. Rule D t ((if b then See id ∷ [] else []) ++ run) (stepped s 24 x id me.1 w keeps)) (sym (ap (λ (z : ℕ). z == 1) zero_read))
+              (stays D law t run s r 24 id me w at (refl, refl, refl)
+              record {
+                stands = shows.stands;
+                leads = shows.leads;
+                claim = shows.claim;
+                share = shows.share;
+                inside = λ a e. record {
+                  number = knows.number;
+                  unpublished = knows.unpublished;
+                  seen = untrue ((now S).seen id) (λ e. let a = h.work.saw id e in cc) ∙ sym (ap (λ (z : ℕ). z == 1) zero_read);
+                  emptied = knows.emptied;
+                  unread = knows.unread;
+                };
+              }
+              refl refl (inr refl) refl),
+          (refl, refl, omega arith),
+        )) (true_or (now S).stopped);
+  }
 
 -- A share goes back.
 module _ (S : State) (h : Sound S) (id from to : ℕ) (share : IsShare (party S id).taken from to) where
@@ -201,13 +205,13 @@ module _ (S : State) (h : Sound S) (id from to : ℕ) (share : IsShare (party S 
 
 module _ {X N : Type 0} (D : Discipline X N) (law : Lawful D) (t : ℕ) where
   pub puts : (slots id : ℕ) (me : SeatOf D t) (i old new : ℕ) → i < t → MayPutBack me.0 → end_of old ≤ start_of old → start_of new ≡ me.0.from → end_of new ≡ me.0.to
-      → Allows (Rule D t) slots id me (40 + 8 * i) (λ x. either (eqb x old) new x) (steps.put (step slots (40 + 8 * i) old new none) me)
-  puts slots id me i old new low may vacant start_is end_is = let word_at : ℕ = 40 + 8 * i in exchanges D law t slots id me word_at old new (putting word_at) (λ s b hit. let r = b.rule in let at = b.at in let S : State = state r.run in let h = sound r.run r.is_run in
+      → Exchange D t slots id me (40 + 8 * i) old new (PutBack id ∷ []) steps.put
+  puts slots id me i old new low may vacant start_is end_is = let word_at : ℕ = 40 + 8 * i in exchanges D law t slots id me word_at old new (PutBack id ∷ []) (putting word_at) (λ run s b hit. let r = b.rule in let at = b.at in let S : State = state run in let h = sound run r.is_run in
       let seat = r.seats id me.0 at in let shows = seat.0 in let q = may.0.0 in let st = subst (Stands S id) may.0.1 shows.stands in let knows = shows.inside q may.0.1 in let seen : (now S).seen id ≡ true = knows.seen ∙ may.2 in
       let stopped = h.work.saw id seen in let shown : S.published ≢ None = some_published S h id st.0 (h.work.stops stopped).1 in let S' : State = given S h id me.0.from me.0.to shows.share in
       let y : Party = emptied S h id me.0.from me.0.to shows.share in let look = look_here S.parties id y in let w : View N = putting word_at (get_or s.words word_at 0) me.0 in let wide = r.words.wide in
       let other : (j : ℕ) → j < 32 → get_or (set s.words word_at new) j 0 ≡ get_or s.words j 0 = (λ j lt. get_or-set_other s.words word_at j new 0 (λ e. omega arith)) in
-      moves D law t s r word_at new id me w (PutBack id ∷ []) at (refl, tt) (tt, tt) (refl, refl, refl) ((st.0, seen, shows.claim ∙ may.1), r.is_run)
+      moves D law t run s r word_at new id me w (PutBack id ∷ []) at (refl, tt) (tt, tt) (refl, refl, refl) ((st.0, seen, shows.claim ∙ may.1), r.is_run)
       (changed_words t S S' s.words word_at new (omega arith) r.words refl refl
       (word_stays S S' refl (counts_stay weight_in refl (λ x y e. ap is_in e) S.parties id y refl) (counts_stay weight_member refl (λ x y e. ap is_member e) S.parties id y refl))
       (λ some. other 16 (omega arith) ∙ r.words.finished some) (λ some. ((λ on. other 24 (omega arith) ∙ (r.words.stopped some).0 on), (λ off. other 24 (omega arith) ∙ (r.words.stopped some).1 off)))
@@ -225,4 +229,4 @@ module _ {X N : Type 0} (D : Discipline X N) (law : Lawful D) (t : ℕ) where
           unread = knows.unread;
         };
       }
-      (seat.1 ∙ sym (no_deed id (deeds id r.run))) refl (inr refl) refl refl (inr shown))
+      (seat.1 ∙ sym (no_deed id (deeds id run))) refl (inr refl) refl refl (inr shown))

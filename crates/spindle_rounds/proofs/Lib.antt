@@ -8,6 +8,7 @@ pub mod KeptFill
 pub mod RoundNumbers
 pub mod KeptClaims
 pub mod RoundOpening
+pub mod RoundTrails
 pub mod KeptSteals
 pub mod RoundSearch
 pub mod RoundChanges

@@ -1,12 +1,12 @@
 -- What every kind of step on a round table shares: the other seats show what they showed, and the leader's stores stand.
-use Rattle.std.proofs.Common.{◌≡◌, ◌≢◌, ◌⊎◌, inl, inr, ⊎_elim, ℕ, zero, suc, ◌+◌, ◌*◌, ◌/◌, ◌%◌, ◌<◌, ◌≤◌, Bool, true, false, eqb, eq-eqb, ne_eqb, List, [], ◌∷◌, ◌++◌, length, get_or, set, length-set, get_or-set_other, sym, refl, ap, ◌∙◌, subst, arith, Option, Some, None, if◌then◌else◌}
+use Rattle.std.proofs.Common.{◌≡◌, ◌≢◌, ◌⊎◌, inl, inr, ⊎_elim, ℕ, zero, suc, ◌+◌, ◌*◌, ◌/◌, ◌%◌, ◌<◌, ◌≤◌, Bool, true, false, eq-eqb, ne_eqb, List, [], ◌∷◌, ◌++◌, length, get_or, set, length-set, get_or-set_other, sym, refl, ap, ◌∙◌, subst, arith, Option, Some, None, if◌then◌else◌, ◌==◌}
 use mathlib.Core.Logic.{dite}
-use mathlib.Core.Option.{none, some, some-ne-none}
+use mathlib.Core.Option.{some, some-ne-none}
 use native.Mathlib.Decide.{ℕ_discrete}
 use lib.ListN.{get_elem?}
 use lib.Seq.{set-get_or}
 use Rattle.atomic_table.specs.Table as table
-use Rattle.atomic_table.specs.Table.{Me, Act, Step, step, keeps, stepped, Allows, Valid, homes_after, carried_after}
+use Rattle.atomic_table.specs.Table.{Me, Act, Step, step, keeps, stepped, Allows, Valid, Splits, homes_after, carried_after}
 use Rattle.atomic_table.proofs.Lists.{at_set}
 use Rattle.spindle_parts.specs.State.{State, Status, Out, In, Arrived, Party, Round, waking, now, party, times, Free, absent}
 use Rattle.spindle_parts.specs.Steps.{Event, Allowed, by, after, with_status}
@@ -21,7 +21,8 @@ use Rattle.spindle_rounds.specs.declared.round_table.view.View.{View}
 use prog.Atomic.{either}
 use Rattle.spindle_rounds.specs.RoundSteps.{noted, missing, Turns, Exchanges, Begun}
 use Rattle.spindle_rounds.specs.RoundSlots.{Discipline, Lawful, SameSlots}
-use Rattle.spindle_rounds.specs.RoundRule.{deed, deeds, deeds_of, Stands, Knows, Shows, IsShare, InRange, InRest, IsLeft, Words, Shown, home_of, Laid, StandsFor, stored_at}
+use Rattle.spindle_rounds.specs.RoundRule.{deed, deeds, deeds_of, Stands, Knows, Shows, IsShare, InRange, InRest, IsLeft, Words, ShownBy, Shown, home_of, Laid, StandsFor, stored_at}
+use Rattle.spindle_rounds.specs.RoundRuns.{Adds, Exchange}
 use Rattle.spindle_rounds.proofs.RoundQuiet.{AllQuiet, quiet_run}
 
 pub untrue : (b : Bool) → (b ≡ true → ⊥) → b ≡ false
@@ -121,26 +122,25 @@ stands_on t r r' ws ws' jobs begun same h k = let b = begun k in subst (λ (n : 
         (λ (z : InRest xs r.jobs k). inr (subst (λ (x : ℕ). (r.jobs ≤ k + x) × (k < r.jobs)) (e 32 (omega arith)) z))
 
 module _ {X N : Type 0} (D : Discipline X N) (t : ℕ) where
-  abbrev pub Rule : table.State X (View N) → Type 0
-  Rule = Shown D t
+  abbrev pub Rule : List Event → table.State X (View N) → Type 0
+  Rule = ShownBy D t
 
   abbrev pub SeatOf : Type 0
   SeatOf = Me X (View N)
 
   -- the seat's few new events, the word i changed to x, and the view w
-  pub moves_with : (s : table.State X (View N)) (r : Rule s) (i x id : ℕ) (me : SeatOf) (w : View N) (a : Act X) (new : List Event) → get_elem? s.views id ≡ some me.0 → AllBy id new → IsRun (new ++ r.run)
-      → Words t (state (new ++ r.run)) (set s.words i x) → Shows (state (new ++ r.run)) id w → deeds_of w.trail ≡ deeds id (new ++ r.run) → w.threads ≡ me.0.threads
-      → ((v : View N) → get_elem? (set s.views id w) 0 ≡ some v → Laid t (state (new ++ r.run)) (set s.words i x) v)
-      → D.clause (state (new ++ r.run)) (homes_after s.homes me.1 a) (set s.views id w) → Rule (stepped s i x id me.1 w a)
-  moves_with s r i x id me w a new at all ok words mine worked same_threads lays slots = record {
+  pub moves_with : (run : List Event) (s : table.State X (View N)) (r : Rule run s) (i x id : ℕ) (me : SeatOf) (w : View N) (a : Act X) (new : List Event) → get_elem? s.views id ≡ some me.0 → AllBy id new → IsRun (new ++ run)
+      → Words t (state (new ++ run)) (set s.words i x) → Shows (state (new ++ run)) id w → deeds_of w.trail ≡ deeds id (new ++ run) → w.threads ≡ me.0.threads
+      → ((v : View N) → get_elem? (set s.views id w) 0 ≡ some v → Laid t (state (new ++ run)) (set s.words i x) v)
+      → D.clause (state (new ++ run)) (homes_after s.homes me.1 a) (set s.views id w) → Rule (new ++ run) (stepped s i x id me.1 w a)
+  moves_with run s r i x id me w a new at all ok words mine worked same_threads lays slots = record {
     slots = slots;
-    run = new ++ r.run;
     is_run = ok;
     words = words;
-    seats = λ q v e. ⊎_elim (λ (h : (q ≡ id) × (w ≡ v)). subst (λ (z : ℕ × View N). Shows (state (new ++ r.run)) z.0 z.1 × (deeds_of z.1.trail ≡ deeds z.0 (new ++ r.run)) × (z.1.threads ≡ t)) (λ j. (sym h.0 j, h.1 j)) (mine, worked, same_threads ∙ (r.seats id me.0 at).2))
-        (λ (h : (q ≢ id) × (get_elem? s.views q ≡ some v)). let old = r.seats q v h.1 in let o = others_run id q v h.0 new r.run all ok (old.0, old.1) in (o.0, o.1, old.2)) (at_set s.views id q w v e);
+    seats = λ q v e. ⊎_elim (λ (h : (q ≡ id) × (w ≡ v)). subst (λ (z : ℕ × View N). Shows (state (new ++ run)) z.0 z.1 × (deeds_of z.1.trail ≡ deeds z.0 (new ++ run)) × (z.1.threads ≡ t)) (λ j. (sym h.0 j, h.1 j)) (mine, worked, same_threads ∙ (r.seats id me.0 at).2))
+        (λ (h : (q ≢ id) × (get_elem? s.views q ≡ some v)). let old = r.seats q v h.1 in let o = others_run id q v h.0 new run all ok (old.0, old.1) in (o.0, o.1, old.2)) (at_set s.views id q w v e);
     lays = lays;
-    beyond = λ q le. nobody_run id q (λ e. let lt = lt_of_at s.views id me.0 at in let same = length-set s.views id w in absurd (omega arith)) new r.run all ok (r.beyond q (let same = length-set s.views id w in omega arith));
+    beyond = λ q le. nobody_run id q (λ e. let lt = lt_of_at s.views id me.0 at in let same = length-set s.views id w in absurd (omega arith)) new run all ok (r.beyond q (let same = length-set s.views id w in omega arith));
   }
     where
       lt_of_at : (l : List (View N)) (j : ℕ) (v : View N) → get_elem? l j ≡ some v → j < length l
@@ -149,20 +149,20 @@ module _ {X N : Type 0} (D : Discipline X N) (t : ℕ) where
       lt_of_at (y ∷ ys) (suc j) v e = let h = lt_of_at ys j v e in omega arith
 
   -- what the leader has stored stays: at a step on the first two words, or in a published round
-  pub still_laid : (s : table.State X (View N)) (r : Rule s) (i x id : ℕ) (me : SeatOf) (w : View N) (new : List Event) → get_elem? s.views id ≡ some me.0
-      → ((w.known.stored ≡ []) ⊎ (w.known.stored ≡ me.0.known.stored)) → w.laid ≡ me.0.laid → (state (new ++ r.run)).published ≡ (state r.run).published
-      → ((state r.run).published ≢ None → (state (new ++ r.run)).round ≡ (state r.run).round)
-      → ((i < 16) × ((q : ℕ) → ((state (new ++ r.run)).rounds q).jobs ≡ ((state r.run).rounds q).jobs) × ((q k : ℕ) → times k ((state (new ++ r.run)).rounds q).begun ≡ times k ((state r.run).rounds q).begun)) ⊎ ((state r.run).published ≢ None)
-      → (v : View N) → get_elem? (set s.views id w) 0 ≡ some v → Laid t (state (new ++ r.run)) (set s.words i x) v
-  still_laid s r i x id me w new at stored laid published round where_it_is v e = ⊎_elim
-      (λ (h : (0 ≡ id) × (w ≡ v)). let l = r.lays me.0 (subst (λ (z : ℕ). get_elem? s.views z ≡ some me.0) (sym h.0) at) in subst (Laid t (state (new ++ r.run)) (set s.words i x)) h.1 (on me.0 w l stored laid))
+  pub still_laid : (run : List Event) (s : table.State X (View N)) (r : Rule run s) (i x id : ℕ) (me : SeatOf) (w : View N) (new : List Event) → get_elem? s.views id ≡ some me.0
+      → ((w.known.stored ≡ []) ⊎ (w.known.stored ≡ me.0.known.stored)) → w.laid ≡ me.0.laid → (state (new ++ run)).published ≡ (state run).published
+      → ((state run).published ≢ None → (state (new ++ run)).round ≡ (state run).round)
+      → ((i < 16) × ((q : ℕ) → ((state (new ++ run)).rounds q).jobs ≡ ((state run).rounds q).jobs) × ((q k : ℕ) → times k ((state (new ++ run)).rounds q).begun ≡ times k ((state run).rounds q).begun)) ⊎ ((state run).published ≢ None)
+      → (v : View N) → get_elem? (set s.views id w) 0 ≡ some v → Laid t (state (new ++ run)) (set s.words i x) v
+  still_laid run s r i x id me w new at stored laid published round where_it_is v e = ⊎_elim
+      (λ (h : (0 ≡ id) × (w ≡ v)). let l = r.lays me.0 (subst (λ (z : ℕ). get_elem? s.views z ≡ some me.0) (sym h.0) at) in subst (Laid t (state (new ++ run)) (set s.words i x)) h.1 (on me.0 w l stored laid))
       (λ (h : (0 ≢ id) × (get_elem? s.views 0 ≡ some v)). on v v (r.lays v h.1) (inr refl) refl) (at_set s.views id 0 w v e)
     where
       S : State
-      S = state r.run
+      S = state run
 
       S' : State
-      S' = state (new ++ r.run)
+      S' = state (new ++ run)
 
       on : (u u' : View N) → Laid t S s.words u → (u'.known.stored ≡ []) ⊎ (u'.known.stored ≡ u.known.stored) → u'.laid ≡ u.laid → Laid t S' (set s.words i x) u'
       on u u' l st la = record {
@@ -179,20 +179,20 @@ module _ {X N : Type 0} (D : Discipline X N) (t : ℕ) where
 
 module _ {X N : Type 0} (D : Discipline X N) (law : Lawful D) (t : ℕ) where
   -- a step at which no number begins, finishes or is published, and nothing is cleared
-  pub moves : (s : table.State X (View N)) (r : Rule D t s) (i x id : ℕ) (me : SeatOf D t) (w : View N) (new : List Event) → get_elem? s.views id ≡ some me.0 → AllBy id new → AllQuiet new → SameSlots me.0 w → IsRun (new ++ r.run)
-      → Words t (state (new ++ r.run)) (set s.words i x) → Shows (state (new ++ r.run)) id w → deeds_of w.trail ≡ deeds id (new ++ r.run) → w.threads ≡ me.0.threads
-      → ((w.known.stored ≡ []) ⊎ (w.known.stored ≡ me.0.known.stored)) → w.laid ≡ me.0.laid → (state (new ++ r.run)).published ≡ (state r.run).published → (i < 16) ⊎ ((state r.run).published ≢ None) → Rule D t (stepped s i x id me.1 w keeps)
-  moves s r i x id me w new at all quiets slots ok words mine worked same_threads stored laid published where_it_is = let q = quiet_run new r.run quiets ok in
-      moves_with D t s r i x id me w keeps new at all ok words mine worked same_threads
-      (still_laid D t s r i x id me w new at stored laid published (λ is. let z = some_of (state r.run).published is in (q.published z.0 (published ∙ z.1)).1) (⊎_elim (λ (low : i < 16). inl (low, q.jobs, q.begun)) inr where_it_is))
-      (law.stays (state r.run) (state (new ++ r.run)) s.homes s.views id me.0 w r.slots q at slots)
+  pub moves : (run : List Event) (s : table.State X (View N)) (r : Rule D t run s) (i x id : ℕ) (me : SeatOf D t) (w : View N) (new : List Event) → get_elem? s.views id ≡ some me.0 → AllBy id new → AllQuiet new → SameSlots me.0 w → IsRun (new ++ run)
+      → Words t (state (new ++ run)) (set s.words i x) → Shows (state (new ++ run)) id w → deeds_of w.trail ≡ deeds id (new ++ run) → w.threads ≡ me.0.threads
+      → ((w.known.stored ≡ []) ⊎ (w.known.stored ≡ me.0.known.stored)) → w.laid ≡ me.0.laid → (state (new ++ run)).published ≡ (state run).published → (i < 16) ⊎ ((state run).published ≢ None) → Rule D t (new ++ run) (stepped s i x id me.1 w keeps)
+  moves run s r i x id me w new at all quiets slots ok words mine worked same_threads stored laid published where_it_is = let q = quiet_run new run quiets ok in
+      moves_with D t run s r i x id me w keeps new at all ok words mine worked same_threads
+      (still_laid D t run s r i x id me w new at stored laid published (λ is. let z = some_of (state run).published is in (q.published z.0 (published ∙ z.1)).1) (⊎_elim (λ (low : i < 16). inl (low, q.jobs, q.begun)) inr where_it_is))
+      (law.stays (state run) (state (new ++ run)) s.homes s.views id me.0 w r.slots q at slots)
 
   -- a step that leaves the word, and no event
-  pub stays : (s : table.State X (View N)) (r : Rule D t s) (i id : ℕ) (me : SeatOf D t) (w : View N) → get_elem? s.views id ≡ some me.0 → SameSlots me.0 w → Shows (state r.run) id w → deeds_of w.trail ≡ deeds_of me.0.trail → w.threads ≡ me.0.threads
-      → ((w.known.stored ≡ []) ⊎ (w.known.stored ≡ me.0.known.stored)) → w.laid ≡ me.0.laid → Rule D t (stepped s i (get_or s.words i 0) id me.1 w keeps)
-  stays s r i id me w at slots mine same same_threads stored laid = let here = set-get_or s.words i 0 in
-      subst (λ (ws : List ℕ). Rule D t record { words = ws; homes = s.homes; views = set s.views id w }) (sym here) (subst (λ (ws : List ℕ). Rule D t record { words = ws; homes = s.homes; views = set s.views id w }) (set-get_or s.words 0 0)
-      (moves s r 0 (get_or s.words 0 0) id me w [] at tt tt slots r.is_run (subst (Words t (state r.run)) (sym (set-get_or s.words 0 0)) r.words) mine (same ∙ (r.seats id me.0 at).1) same_threads stored laid refl (inl (omega arith))))
+  pub stays : (run : List Event) (s : table.State X (View N)) (r : Rule D t run s) (i id : ℕ) (me : SeatOf D t) (w : View N) → get_elem? s.views id ≡ some me.0 → SameSlots me.0 w → Shows (state run) id w → deeds_of w.trail ≡ deeds_of me.0.trail → w.threads ≡ me.0.threads
+      → ((w.known.stored ≡ []) ⊎ (w.known.stored ≡ me.0.known.stored)) → w.laid ≡ me.0.laid → Rule D t run (stepped s i (get_or s.words i 0) id me.1 w keeps)
+  stays run s r i id me w at slots mine same same_threads stored laid = let here = set-get_or s.words i 0 in
+      subst (λ (ws : List ℕ). Rule D t run record { words = ws; homes = s.homes; views = set s.views id w }) (sym here) (subst (λ (ws : List ℕ). Rule D t run record { words = ws; homes = s.homes; views = set s.views id w }) (set-get_or s.words 0 0)
+      (moves run s r 0 (get_or s.words 0 0) id me w [] at tt tt slots r.is_run (subst (Words t (state run)) (sym (set-get_or s.words 0 0)) r.words) mine (same ∙ (r.seats id me.0 at).1) same_threads stored laid refl (inl (omega arith))))
 
 -- one step more in the trail
 pub noted_shows : {N : Type 0} (s : State) (p : ℕ) (v : View N) (x : Trace Kind) → Shows s p v → Shows s p (noted x v)
@@ -201,46 +201,58 @@ noted_shows s p v x w = record { stands = w.stands; leads = w.leads; claim = w.c
 -- What a step owes, by the shape of what it tells.
 module _ {X N : Type 0} (D : Discipline X N) (law : Lawful D) (t slots id : ℕ) (me : SeatOf D t) (i : ℕ) where
   -- the table before the step, x being what the word holds
-  pub record Before (s : table.State X (View N)) : Type 0 where
-    pub rule : Rule D t s
+  pub record Before (run : List Event) (s : table.State X (View N)) : Type 0 where
+    pub rule : Rule D t run s
     pub at : get_elem? s.views id ≡ some me.0
     pub small : get_or s.words i 0 < 18446744073709551616
 
   -- a load, or a change of any word whatever it holds
-  pub turns : (g : ℕ → ℕ) (f : ℕ → View N → View N) (st : Step X) → ((s : table.State X (View N)) → Before s → Rule D t (stepped s i (g (get_or s.words i 0)) id me.1 (f (get_or s.words i 0) me.0) keeps)) → Allows (Rule D t) slots id me i g (Turns f st me)
-  turns g f st owed s r _ at small = (f (get_or s.words i 0) me.0, keeps, tt, owed s record { rule = r; at = at; small = small }, (refl, refl))
+  pub turns : (g : ℕ → ℕ) (new : List Event) (f : ℕ → View N → View N) (st : Step X) → ((run : List Event) (s : table.State X (View N)) → Before run s → Rule D t (new ++ run) (stepped s i (g (get_or s.words i 0)) id me.1 (f (get_or s.words i 0) me.0) keeps))
+      → Adds D t slots id me i g (λ _. new) (Turns f st me)
+  turns g new f st owed = record { shows = λ run s r _ at small. (f (get_or s.words i 0) me.0, keeps, tt, owed run s record { rule = r; at = at; small = small }, (refl, refl)) }
 
-  pub stores : (new : ℕ) (f : ℕ → View N → View N) (st : Step X) → ((s : table.State X (View N)) → Before s → Rule D t (stepped s i new id me.1 (f new me.0) keeps)) → Allows (Rule D t) slots id me i (λ _. new) (λ _. Turns f st me new)
-  stores new f st owed s r _ at small = (f new me.0, keeps, tt, owed s record { rule = r; at = at; small = small }, (refl, refl))
+  pub stores : (x : ℕ) (new : List Event) (f : ℕ → View N → View N) (st : Step X) → ((run : List Event) (s : table.State X (View N)) → Before run s → Rule D t (new ++ run) (stepped s i x id me.1 (f x me.0) keeps))
+      → Adds D t slots id me i (λ _. x) (λ _. new) (λ _. Turns f st me x)
+  stores x new f st owed = record { shows = λ run s r _ at small. (f x me.0, keeps, tt, owed run s record { rule = r; at = at; small = small }, (refl, refl)) }
 
   -- an exchange that finds another value
-  pub misses : (s : table.State X (View N)) (r : Rule D t s) → get_elem? s.views id ≡ some me.0 → (old new : ℕ) → get_or s.words i 0 ≢ old
-      → Rule D t (stepped s i (either (eqb (get_or s.words i 0) old) new (get_or s.words i 0)) id me.1 (missing i (get_or s.words i 0) me.0) keeps)
-  misses s r at old new miss = let x : ℕ = get_or s.words i 0 in subst (λ b. Rule D t (stepped s i (either b new x) id me.1 (missing i x me.0) keeps)) (sym (ne_eqb x old miss))
-      (stays D law t s r i id me (missing i x me.0) at (refl, refl, refl) (noted_shows (state r.run) id me.0 _ (r.seats id me.0 at).0) refl refl (inr refl) refl)
+  pub misses : (run : List Event) (s : table.State X (View N)) (r : Rule D t run s) → get_elem? s.views id ≡ some me.0 → (old to : ℕ) (new : List Event) → get_or s.words i 0 ≢ old
+      → let x : ℕ = get_or s.words i 0 in Rule D t ((if x == old then new else []) ++ run) (stepped s i (either (x == old) to x) id me.1 (missing i x me.0) keeps)
+  misses run s r at old to new miss = let x : ℕ = get_or s.words i 0 in subst (λ b. Rule D t ((if b then new else []) ++ run) (stepped s i (either b to x) id me.1 (missing i x me.0) keeps)) (sym (ne_eqb x old miss))
+      (stays D law t run s r i id me (missing i x me.0) at (refl, refl, refl) (noted_shows (state run) id me.0 _ (r.seats id me.0 at).0) refl refl (inr refl) refl)
 
-  pub exchanges : (old new : ℕ) (f : ℕ → View N → View N) → ((s : table.State X (View N)) → Before s → get_or s.words i 0 ≡ old → Rule D t (stepped s i new id me.1 (f (get_or s.words i 0) me.0) keeps))
-      → Allows (Rule D t) slots id me i (λ x. either (eqb x old) new x) (Exchanges f (step slots i old new none) me)
-  exchanges old new f owed s r _ at small = let x : ℕ = get_or s.words i 0 in dite (ℕ_discrete x old)
-      (λ hit. (
-        f x me.0,
-        keeps,
-        tt,
-        subst (λ b. Rule D t (stepped s i (either b new x) id me.1 (f x me.0) keeps)) (sym (eq-eqb x old hit)) (owed s record { rule = r; at = at; small = small } hit),
-        (refl, (λ _. refl), λ not. absurd (not hit)),
-      ))
-      (λ miss. (missing i x me.0, keeps, tt, misses s r at old new miss, (refl, (λ hit. absurd (miss hit)), λ _. refl)))
+  -- an exchange that finds what it expects
+  pub hits : (run : List Event) (s : table.State X (View N)) (old to : ℕ) (new : List Event) (w : View N) (a : Act X) → get_or s.words i 0 ≡ old → Rule D t (new ++ run) (stepped s i to id me.1 w a)
+      → let x : ℕ = get_or s.words i 0 in Rule D t ((if x == old then new else []) ++ run) (stepped s i (either (x == old) to x) id me.1 w a)
+  hits run s old to new w a hit r = let x : ℕ = get_or s.words i 0 in subst (λ b. Rule D t ((if b then new else []) ++ run) (stepped s i (either b to x) id me.1 w a)) (sym (eq-eqb x old hit)) r
+
+  pub exchanges : (old to : ℕ) (new : List Event) (f : ℕ → View N → View N) → ((run : List Event) (s : table.State X (View N)) → Before run s → get_or s.words i 0 ≡ old → Rule D t (new ++ run) (stepped s i to id me.1 (f (get_or s.words i 0) me.0) keeps))
+      → Exchange D t slots id me i old to new (Exchanges f)
+  exchanges old to new f owed = record {
+    shows = λ run s r _ at small. let x : ℕ = get_or s.words i 0 in dite (ℕ_discrete x old)
+        (λ hit. (f x me.0, keeps, tt, hits run s old to new (f x me.0) keeps hit (owed run s record { rule = r; at = at; small = small } hit), (refl, (λ _. refl), λ not. absurd (not hit))))
+        (λ miss. (missing i x me.0, keeps, tt, misses run s r at old to new miss, (refl, (λ hit. absurd (miss hit)), λ _. refl)));
+  }
 
   -- an exchange with which a number begins
-  pub begins_by : (old new : ℕ) (number : ℕ → ℕ) (f : ℕ → Option N → View N → View N)
-      → ((s : table.State X (View N)) → Before s → get_or s.words i 0 ≡ old → (x : Option N) × (a : Act X) × Valid s.homes me.1 a × Rule D t (stepped s i new id me.1 (f old x me.0) a) × D.took (number old) me.1 x (carried_after me.1 a))
-      → Allows (Rule D t) slots id me i (λ x. either (eqb x old) new x) (Begun D number f (step slots i old new none) me)
-  begins_by old new number f owed s r _ at small = let x : ℕ = get_or s.words i 0 in dite (ℕ_discrete x old)
-      (λ hit. let o = owed s record { rule = r; at = at; small = small } hit in (
-        f old o.0 me.0,
-        o.1,
-        o.2,
-        subst (λ b. Rule D t (stepped s i (either b new x) id me.1 (f old o.0 me.0) o.1)) (sym (eq-eqb x old hit)) o.3,
-        ((λ _. (o.0, (λ j. f (sym hit j) o.0 me.0), subst (λ (z : ℕ). D.took (number z) me.1 o.0 (carried_after me.1 o.1)) (sym hit) o.4)), λ not. absurd (not hit)),
-      ))
-      (λ miss. (missing i x me.0, keeps, tt, misses s r at old new miss, ((λ hit. absurd (miss hit)), λ _. (refl, refl))))
+  pub begins_by : (old to : ℕ) (new : List Event) (number : ℕ → ℕ) (f : ℕ → Option N → View N → View N)
+      → ((run : List Event) (s : table.State X (View N)) → Before run s → get_or s.words i 0 ≡ old → (x : Option N) × (a : Act X) × Valid s.homes me.1 a × Rule D t (new ++ run) (stepped s i to id me.1 (f old x me.0) a) × D.took (number old) me.1 x (carried_after me.1 a))
+      → Exchange D t slots id me i old to new (Begun D number f)
+  begins_by old to new number f owed = record {
+    shows = λ run s r _ at small. let x : ℕ = get_or s.words i 0 in dite (ℕ_discrete x old)
+        (λ hit. let o = owed run s record { rule = r; at = at; small = small } hit in (
+          f old o.0 me.0,
+          o.1,
+          o.2,
+          hits run s old to new (f old o.0 me.0) o.1 hit o.3,
+          ((λ _. (o.0, (λ j. f (sym hit j) o.0 me.0), subst (λ (z : ℕ). D.took (number z) me.1 o.0 (carried_after me.1 o.1)) (sym hit) o.4)), λ not. absurd (not hit)),
+        ))
+        (λ miss. (missing i x me.0, keeps, tt, misses run s r at old to new miss, ((λ hit. absurd (miss hit)), λ _. (refl, refl))));
+  }
+
+-- so the rule stands after the step
+pub kept : {X N : Type 0} {D : Discipline X N} {t slots id : ℕ} {me : Me X (View N)} {i : ℕ} {f : ℕ → ℕ} {new : ℕ → List Event} {says : ℕ → Me X (View N) → Type 0} → Adds D t slots id me i f new says → Allows (Shown D t) slots id me i f says
+kept {i = i} {new = new} a s r wide at small = let o = a.shows r.run s r.by_run wide at small in (o.0, o.1, o.2, record { run = new (get_or s.words i 0) ++ r.run; by_run = o.3 }, o.4)
+
+pub kept_split : {X N : Type 0} {D : Discipline X N} {t id : ℕ} {v left right : View N} → ((run : List Event) → Splits (ShownBy D t run) id v left right) → Splits (Shown D t) id v left right
+kept_split a s r at = record { run = r.run; by_run = a r.run s r.by_run at }

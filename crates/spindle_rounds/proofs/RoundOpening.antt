@@ -5,6 +5,7 @@ use lib.ListN.{get_elem?}
 use Rattle.atomic_table.specs.Table.{opening, Splits}
 use Rattle.atomic_table.proofs.Lists.{set_again}
 use Rattle.spindle_parts.specs.State.{State, Party, party, absent, fresh}
+use Rattle.spindle_parts.specs.Steps.{Event}
 use Rattle.spindle_parts.specs.Runs.{state}
 use Rattle.spindle_rounds.specs.declared.round_table.view.View.{View}
 use Rattle.spindle_rounds.specs.RoundSlots.{Discipline, Lawful}
@@ -38,9 +39,8 @@ module _ {N : Type 0} where
   blank_laid t s ws leads hidden = record { stored = λ i x e. absurd cc; unstored = λ _. refl; current = λ is. absurd (is hidden); left = λ q e. absurd cc }
 
 module _ {X N : Type 0} (D : Discipline X N) (law : Lawful D) (t : ℕ) where
-  pub opens : (ws : List ℕ) (xs : List X) → length ws ≡ 40 + 16 * t → ((i : ℕ) → get_or ws i 0 ≡ 0) → D.starts xs → Rule D t (opening ws xs (outsider t true))
+  pub opens : (ws : List ℕ) (xs : List X) → length ws ≡ 40 + 16 * t → ((i : ℕ) → get_or ws i 0 ≡ 0) → D.starts xs → Rule D t [] (opening ws xs (outsider t true))
   opens ws xs wide zeros starts = record {
-    run = [];
     is_run = tt;
     words = record { wide = wide; barrier = zeros 0; published = zeros 8; finished = λ n. absurd (n refl); stopped = λ n. absurd (n refl); counters = λ n e. absurd cc; barren = λ _. refl };
     seats = go;
@@ -53,14 +53,13 @@ module _ {X N : Type 0} (D : Discipline X N) (law : Lawful D) (t : ℕ) where
       go zero v e = subst (λ (z : View N). Shows fresh 0 z × (deeds_of z.trail ≡ deeds 0 []) × (z.threads ≡ t)) (some-injective (outsider t true) v e) (blank_shows fresh t 0 true ((λ _. refl), (λ e. absurd cc)) refl (λ c. cc), refl, refl)
       go (suc p) v e = absurd (some-ne-none v (sym e))
 
-  pub splits : (id : ℕ) (v : View N) → Splits (Rule D t) id v v (outsider v.threads false)
-  splits id v s r at = let same = set_again s.views id v at in let new : View N = outsider v.threads false in subst (λ (l : List (View N)). Rule D t record { words = s.words; homes = s.homes; views = l ++ new ∷ [] }) (sym same) record {
-    run = r.run;
+  pub splits : (id : ℕ) (v : View N) (run : List Event) → Splits (Rule D t run) id v v (outsider v.threads false)
+  splits id v run s r at = let same = set_again s.views id v at in let new : View N = outsider v.threads false in subst (λ (l : List (View N)). Rule D t run record { words = s.words; homes = s.homes; views = l ++ new ∷ [] }) (sym same) record {
     is_run = r.is_run;
     words = r.words;
     seats = λ p u e. ⊎_elim (r.seats p u) (λ (z : (p ≡ length s.views) × (new ≡ u)). let b = r.beyond p (let z₀ = z.0 in omega arith) in let some_seat = some_there s.views id v at in let z₀ = z.0 in
-        subst (λ (y : View N). Shows (state r.run) p y × (deeds_of y.trail ≡ deeds p r.run) × (y.threads ≡ t)) z.1 (blank_shows (state r.run) v.threads p false ((λ e. absurd cc), (λ _ e. omega arith)) b.0 b.1, sym b.2, (r.seats id v at).2)) (at_end s.views new u p e);
+        subst (λ (y : View N). Shows (state run) p y × (deeds_of y.trail ≡ deeds p run) × (y.threads ≡ t)) z.1 (blank_shows (state run) v.threads p false ((λ e. absurd cc), (λ _ e. omega arith)) b.0 b.1, sym b.2, (r.seats id v at).2)) (at_end s.views new u p e);
     lays = λ u e. ⊎_elim (r.lays u) (λ (z : (0 ≡ length s.views) × (new ≡ u)). let some_seat = some_there s.views id v at in let z₀ = z.0 in absurd (omega arith)) (at_end s.views new u 0 e);
     beyond = λ p le. r.beyond p (let n = length-append s.views (new ∷ []) in omega arith);
-    slots = law.splits (state r.run) s.homes s.views new r.slots (refl, refl, refl);
+    slots = law.splits (state run) s.homes s.views new r.slots (refl, refl, refl);
   }

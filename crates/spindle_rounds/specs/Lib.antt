@@ -5,6 +5,8 @@ pub mod RoundSlots
 pub mod RoundRule
 pub mod RoundSteps
 pub mod RoundConditions
+pub mod RoundRuns
+pub mod RoundTrails
 pub mod RoundAnswers
 pub mod RoundViews
 pub mod Seats

@@ -172,12 +172,16 @@ pub record Laid {N : Type 0} (t : ℕ) (s : State) (ws : List ℕ) (v : View N) 
   pub current : s.published ≢ None → v.laid ≡ Some s.round
   pub left : (q : ℕ) → v.laid ≡ Some q → s.published ≡ None → StandsFor t (s.rounds q) ws
 
--- there is a run whose last state the words and all seats show
-pub record Shown {S N : Type 0} (D : Discipline S N) (t : ℕ) (s : table.State S (View N)) : Type 0 where
-  pub run : List Event
+-- the words and all seats show the last state of the run
+pub record ShownBy {S N : Type 0} (D : Discipline S N) (t : ℕ) (run : List Event) (s : table.State S (View N)) : Type 0 where
   pub is_run : IsRun run
   pub words : Words t (state run) s.words
   pub seats : (p : ℕ) (v : View N) → get_elem? s.views p ≡ some v → Shows (state run) p v × (deeds_of v.trail ≡ deeds p run) × (v.threads ≡ t)
   pub lays : (v : View N) → get_elem? s.views 0 ≡ some v → Laid t (state run) s.words v
   pub beyond : (p : ℕ) → length s.views ≤ p → (party (state run) p ≡ absent) × ((state run).closer ≢ Some p) × (deeds p run ≡ [])
   pub slots : D.clause (state run) s.homes s.views
+
+-- there is a run that the table shows
+pub record Shown {S N : Type 0} (D : Discipline S N) (t : ℕ) (s : table.State S (View N)) : Type 0 where
+  pub run : List Event
+  pub by_run : ShownBy D t run s

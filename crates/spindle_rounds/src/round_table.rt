@@ -23,6 +23,7 @@ use std::alloc::Global;
 use std::marker::PhantomData;
 
 pub mod plays;
+pub mod runs;
 pub mod slots;
 pub mod view;
 

@@ -1,7 +1,8 @@
 -- A look keeps the table's rule.
 use Rattle.std.proofs.Common.{rules, arith}
+use Rattle.spindle_rounds.proofs.RoundMoves.{kept}
 use Rattle.spindle_rounds.proofs.KeptBarrier.{looks}
 use Rattle.spindle_rounds.proofs.barrier.Barrier.look.Goals as goal
 
 pub load-word-requires : goal.load-word-requires
-load-word-requires g c = (search rules, omega arith, looks g.D.Slots.discipline g.met.D.Slots.lawful _ _ _ _ _ _ c.requires.waiting.2)
+load-word-requires g c = (search rules, omega arith, kept (looks g.D.Slots.discipline g.met.D.Slots.lawful _ _ _ _ _ _ c.requires.waiting.2))

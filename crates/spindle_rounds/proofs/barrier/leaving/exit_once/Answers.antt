@@ -2,16 +2,17 @@
 use Rattle.std.proofs.Common.{rules, ◌≡◌, ◌*◌, ◌-◌, sym, ap, ◌∙◌, subst, eq-eqb, ne_eqb, if◌then◌else◌}
 use Rattle.spindle_rounds.specs.RoundSteps.{exit_word, most_of, sense_of}
 use Rattle.spindle_rounds.specs.RoundConditions.{MayExit}
+use Rattle.spindle_rounds.proofs.RoundMoves.{kept}
 use Rattle.spindle_rounds.proofs.KeptLoads.{loads}
 use Rattle.spindle_rounds.proofs.KeptEnding.{exits_to}
 use Rattle.spindle_rounds.proofs.barrier.leaving.exit_once.Goals as goal
 use Rattle.spindle_rounds.proofs.barrier.leaving.exit_once.Goals.{then-most-eq1, else-most-eq1}
 
 pub load-word-requires : goal.load-word-requires
-load-word-requires g c = (search rules, search rules, loads g.D.Slots.discipline g.met.D.Slots.lawful _ _ _ _)
+load-word-requires g c = (search rules, search rules, kept (loads g.D.Slots.discipline g.met.D.Slots.lawful _ _ _ _))
 
 pub compare_exchange-requires : goal.compare_exchange-requires
 compare_exchange-requires g c = let n = c.load-word.result in let is : c.if-most-eq1.less ≡ exit_word n = elim c.if-most-eq1.branch [
   | then-most-eq1 w ↦ w.less-is ∙ sym (ap (λ b. if b then 2147483648 * (1 - sense_of n) else n - 65537) (eq-eqb (most_of n) 1 w.if-most-eq1.true))
   | else-most-eq1 w ↦ w.less-is ∙ (w.saturating_sub-less.ensures ∙ sym (ap (λ b. if b then 2147483648 * (1 - sense_of n) else n - 65537) (ne_eqb (most_of n) 1 w.if-most-eq1.false)))
-] in (search rules, search rules, exits_to g.D.Slots.discipline g.met.D.Slots.lawful _ _ _ _ _ _ (subst MayExit (sym c.load-word.ensures.2.1) c.requires.free) is)
+] in (search rules, search rules, kept (exits_to g.D.Slots.discipline g.met.D.Slots.lawful _ _ _ _ _ _ (subst MayExit (sym c.load-word.ensures.2.1) c.requires.free) is))

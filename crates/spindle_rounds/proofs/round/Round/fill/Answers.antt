@@ -4,17 +4,18 @@ use Rattle.spindle_rounds.specs.RoundSteps.{filling}
 use Rattle.spindle_rounds.specs.RoundConditions.{MayFill}
 use Rattle.spindle_rounds.specs.RoundAnswers.{FilledUpTo}
 use Rattle.spindle_rounds.specs.RoundRule.{fill_value}
+use Rattle.spindle_rounds.proofs.RoundMoves.{kept}
 use Rattle.spindle_rounds.proofs.KeptFill.{fills, fills_range, filled_first, filled_more}
 use Rattle.spindle_rounds.proofs.round.Round.fill.Goals as goal
 
 pub store-requires : goal.store-requires
-store-requires g c = let l = c.requires.leads in (search rules, omega arith, fills g.D.Slots.discipline g.met.D.Slots.lawful _ _ _ _ _ 0 _ (omega arith) l.0.1 l.1)
+store-requires g c = let l = c.requires.leads in (search rules, omega arith, kept (fills g.D.Slots.discipline g.met.D.Slots.lawful _ _ _ _ _ 0 _ (omega arith) l.0.1 l.1))
 
 pub store-requires-2 : goal.store-requires-2
-store-requires-2 g c = let l = subst MayFill (sym c.store.ensures.2.1) c.requires.leads in (search rules, omega arith, fills g.D.Slots.discipline g.met.D.Slots.lawful _ _ _ _ _ 1 _ (omega arith) l.0.1 l.1)
+store-requires-2 g c = let l = subst MayFill (sym c.store.ensures.2.1) c.requires.leads in (search rules, omega arith, kept (fills g.D.Slots.discipline g.met.D.Slots.lawful _ _ _ _ _ 1 _ (omega arith) l.0.1 l.1))
 
 pub store-requires-3 : goal.store-requires-3
-store-requires-3 g c = let l = subst MayFill (sym c.store-2.ensures.2.1) (subst MayFill (sym c.store.ensures.2.1) c.requires.leads) in (search rules, omega arith, fills g.D.Slots.discipline g.met.D.Slots.lawful _ _ _ _ _ 2 _ (omega arith) l.0.1 l.1)
+store-requires-3 g c = let l = subst MayFill (sym c.store-2.ensures.2.1) (subst MayFill (sym c.store.ensures.2.1) c.requires.leads) in (search rules, omega arith, kept (fills g.D.Slots.discipline g.met.D.Slots.lawful _ _ _ _ _ 2 _ (omega arith) l.0.1 l.1))
 
 pub loop-i-init : goal.loop-i-init
 loop-i-init g c = let t = c.args.self.now.init.threads in let n = c.args.jobs in let v = c.args.seat.now.me.0 in let e = c.store-3.ensures.2.1 in (
@@ -26,7 +27,7 @@ loop-i-init g c = let t = c.args.self.now.init.threads in let n = c.args.jobs in
 
 pub store-requires-in-loop-i : goal.store-requires-in-loop-i
 store-requires-in-loop-i g c = let i = c.loop-i.i in let f = c.loop-i.invariant.3 in let l = subst MayFill (sym f.2) c.requires.leads in
-    (search rules, omega arith, fills_range g.D.Slots.discipline g.met.D.Slots.lawful _ _ _ _ _ i _ (omega arith) l.0.1 l.1)
+    (search rules, omega arith, kept (fills_range g.D.Slots.discipline g.met.D.Slots.lawful _ _ _ _ _ i _ (omega arith) l.0.1 l.1))
 
 pub loop-i-preserved : goal.loop-i-preserved
 loop-i-preserved g c = let i = c.loop-i.i in let t = c.args.self.now.init.threads in let n = c.args.jobs in let v = c.args.seat.now.me.0 in let f = c.loop-i.invariant in let e = c.store-in-loop-i.ensures in

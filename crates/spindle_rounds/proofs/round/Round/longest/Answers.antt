@@ -2,13 +2,14 @@
 use Rattle.std.proofs.Common.{rules, arith, ◌≡◌, ◌∙◌, ℕ, ◌+◌, List, [], ◌∷◌, ◌++◌, length, ap, sym, refl, subst}
 use Rattle.spindle_rounds.specs.RoundSteps.{searching}
 use Rattle.spindle_rounds.specs.RoundAnswers.{IsBest}
+use Rattle.spindle_rounds.proofs.RoundMoves.{kept}
 use Rattle.spindle_rounds.proofs.KeptLoads.{searches}
 use Rattle.spindle_rounds.proofs.RoundSearch.{length_more, searched_more, best_last, best_stays}
 use Rattle.spindle_rounds.proofs.round.Round.longest.Goals as goal
 use Rattle.spindle_rounds.proofs.round.Round.longest.Goals.{then-length, else-length}
 
 pub load-found-requires : goal.load-found-requires
-load-found-requires g c = (search rules, omega arith, searches g.D.Slots.discipline g.met.D.Slots.lawful _ _ _ _ _ (omega arith))
+load-found-requires g c = (search rules, omega arith, kept (searches g.D.Slots.discipline g.met.D.Slots.lawful _ _ _ _ _ (omega arith)))
 
 pub loop-i-init : goal.loop-i-init
 loop-i-init g c = (refl, refl, ([], refl, refl, ((λ some. absurd (omega arith)), (λ z j lt. absurd (omega arith)))))

@@ -1,7 +1,8 @@
 -- The store of a stop keeps the table's rule.
 use Rattle.std.proofs.Common.{rules, arith}
+use Rattle.spindle_rounds.proofs.RoundMoves.{kept}
 use Rattle.spindle_rounds.proofs.KeptStops.{halts}
 use Rattle.spindle_rounds.proofs.round.Round.stop.Goals as goal
 
 pub store-requires : goal.store-requires
-store-requires g c = (search rules, omega arith, halts g.D.Slots.discipline g.met.D.Slots.lawful _ _ _ _ _ c.requires.own)
+store-requires g c = (search rules, omega arith, kept (halts g.D.Slots.discipline g.met.D.Slots.lawful _ _ _ _ _ c.requires.own))

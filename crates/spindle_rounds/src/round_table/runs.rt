@@ -1,0 +1,28 @@
+//! What the rule of a round table says to its users, and what each step does to the run shown.
+//!
+//! Together: a table opens with the empty run; each step of any thread is of one of the kinds, and
+//! puts its own events, or none, before the run that the table showed; so at every moment the table
+//! shows a run of the model, and the laws of every run hold of it.
+ghost use Rattle.spindle_rounds.specs.RoundRuns.{EveryStep};
+ghost use Rattle.spindle_rounds.specs.RoundTrails.{EveryMoment};
+
+use crate::round_table::slots::Slots;
+use spindle_parts::steps::every_run;
+
+/// What each kind of step adds to the run that a table shows, whatever run that is.
+///
+/// A store to fill, a load that sees no stop, and an exchange that finds another value add nothing;
+/// a claim adds a take and a begin; every other step adds the one event of its name.
+pub fn every_step<D: Slots>()
+    ensures { EveryStep D.discipline }
+{}
+
+/// What a table shows at every moment: a run of the model, whose last state words and seats show.
+///
+/// What began and finished in it is what the trails of all seats tell together. So no two of them
+/// tell of one job.
+pub fn every_moment<D: Slots>()
+    ensures { EveryMoment D.discipline }
+{
+    every_run();
+}
