@@ -71,9 +71,17 @@ abbrev pub total : (ℕ → ℕ) → ℕ → ℕ
 total f zero = 0
 total f (suc n) = total f n + f n
 
+-- the credits of all seats
+abbrev pub credits_of : List Account → ℕ
+credits_of views = sum_by (λ v. v.credit) views
+
 -- the requests that stand: the unfilled places and the credits of all seats
 abbrev pub standing : ℕ → List Account → ℕ
-standing slots views = total (unfilled views) slots + sum_by (λ v. v.credit) views
+standing slots views = total (unfilled views) slots + credits_of views
+
+-- the unfilled places that the words of the slots show
+abbrev pub shown_places : ℕ → List ℕ → ℕ
+shown_places slots words = total (λ i. slice_index words (place_word i)) slots
 
 -- the books balance: requests are those that stand, as the words count
 pub record Balanced (slots : ℕ) (s : State (Unit {0}) Account) : Type 0 where
@@ -84,6 +92,13 @@ pub record Balanced (slots : ℕ) (s : State (Unit {0}) Account) : Type 0 where
       → slice_index s.words (place_word i) ≡ unfilled s.views i % 2 ^ 64
   pub requests : slice_index s.words 0 ≡ standing slots s.views % 2 ^ 64
   pub flags : (word : ℕ) → IsFlag word → slice_index s.words word ≤ 1
+
+-- Requests are the unfilled places and all credits: by the trails of the seats, and by the words of the slots.
+-- Each seat's credit is that of its own trail
+pub record BooksBalance (slots : ℕ) (s : State (Unit {0}) Account) : Type 0 where
+  pub by_trails : slice_index s.words 0 ≡ standing slots s.views % 2 ^ 64
+  pub by_words : slice_index s.words 0 ≡ (shown_places slots s.words + credits_of s.views) % 2 ^ 64
+  pub credits : (p : ℕ) (v : Account) → get_elem? s.views p ≡ some v → IsCredit v
 
 -- no word has wrapped
 pub record IsExact (slots : ℕ) (s : State (Unit {0}) Account) : Type 0 where

@@ -52,6 +52,13 @@ pub record IsNumbering (threads : ℕ) (s : State (Unit {0}) View) : Type 0 wher
   pub narrow : (i : ℕ) → slice_index s.words i < 4294967296
   pub wide : length s.words ≡ 8 * word_count threads
 
+-- Two seats that have a number have different ones, 0 is the leader's alone, and each is below the lock's threads
+pub record NumbersDiffer (threads : ℕ) (views : List View) : Type 0 where
+  pub differ : (p q j k : ℕ) → p ≢ q → HasNumber views p j → HasNumber views q k → j ≢ k
+  pub leader : HasNumber views 0 0
+  pub others : (p k : ℕ) → p ≢ 0 → HasNumber views p k → 0 < k
+  pub below : (p k : ℕ) → HasNumber views p k → k < threads
+
 abbrev pub leader_view : View
 leader_view = record { holding = Leads; trail = [] }
 

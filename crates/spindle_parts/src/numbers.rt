@@ -3,7 +3,8 @@
 //! Bit 0 of word 0 is set from the start and is the leader's. The words stand a cache line apart, since threads with
 //! numbers of different words change them.
 ghost use Rattle.std.specs.Prelude.{◌≡◌, ℕ, ◌%◌, ◌<◌, ◌≤◌, IfOk, OnErr, IsErrOf, []};
-ghost use Rattle.spindle_parts.specs.ThreadNumbers.{IsSeatOf, IsTake, IsExchange, IsSameSeat, leader_view, outsider_view, holding_after, giving};
+ghost use Rattle.atomic_table.specs.Table.{State};
+ghost use Rattle.spindle_parts.specs.ThreadNumbers.{IsNumbering, NumbersDiffer, IsSeatOf, IsTake, IsExchange, IsSameSeat, leader_view, outsider_view, holding_after, giving};
 ghost use Rattle.spindle_parts.specs.declared.numbers.plays.Holding.TheVariants.{Nothing, Has};
 ghost use Rattle.std.specs.Int.{bit_at};
 ghost use Rattle.spindle_parts.specs.declared.fault.Fault.TheVariants.{Memory};
@@ -142,3 +143,10 @@ impl Numbers {
             .fetch_and::<Gives>(seat, LINE * (number / BITS), !bit);
     }
 }
+
+/// Between any two steps on a numbers table two seats that have a number have different ones, 0 is
+/// the leader's alone, and each is below the threads.
+pub fn numbers_differ()
+    ensures { (threads : ℕ) (s : State (Unit {0}) View) → IsNumbering threads s
+        → NumbersDiffer threads s.views }
+{}

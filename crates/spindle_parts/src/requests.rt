@@ -13,7 +13,7 @@
 //! steps requests are the unfilled places and the credits of all seats together, modulo 2^64 since
 //! a word wraps, and exactly while these are fewer than 2^64.
 ghost use Rattle.std.specs.Prelude.{◌≡◌, ◌≢◌, ℕ, ◌+◌, ◌*◌, ◌^◌, ◌<◌, ◌≤◌, [], IfOk, OnErr, IsErrOf, if◌then◌else◌};
-ghost use Rattle.spindle_parts.specs.Ledger.{place_word, IsFlag, standing, Balanced, IsExact};
+ghost use Rattle.spindle_parts.specs.Ledger.{place_word, IsFlag, standing, Balanced, BooksBalance, IsExact};
 ghost use Rattle.spindle_parts.specs.declared.requests.plays.Account.{Account};
 ghost use Rattle.atomic_table.specs.Table.{State};
 ghost use Rattle.spindle_parts.specs.LedgerSteps.{TookBy, blank, loading, announcing, asking, subtracting, installing, taking, missing, closing};
@@ -236,6 +236,12 @@ impl Requests {
         words.compare_exchange::<Takes>(seat, PLACES + LINE * slot, unfilled, unfilled - 1)
     }
 }
+
+/// Between any two steps on a ledger requests are the unfilled places and the credits of all seats,
+/// as the words count.
+pub fn books_balance()
+    ensures { (slots : ℕ) (s : State (Unit {0}) Account) → Balanced slots s → BooksBalance slots s }
+{}
 
 /// While fewer than 2^64 requests stand, the words show requests and unfilled places as they are.
 pub fn exact_while_few()
