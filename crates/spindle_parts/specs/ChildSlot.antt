@@ -19,8 +19,8 @@ abbrev pub shown_value : {T : Type 0} → Option (Option T) → Option T
 shown_value None = None
 shown_value (Some value) = value
 
--- It is empty where the word is free, takes where no guard is out, and marks where guards are out and may still come.
--- Else it waits: another thread has the value, or guards are out and none may come
+-- It is empty where the word is free, takes where no guard is out, and marks where guards are out
+-- and may still come. Else it waits: another thread has the value, or guards are out and none may come
 abbrev pub IsClearing : ℕ → Clearing → Type 0
 IsClearing word Empty = word ≡ FREE
 IsClearing word Take = (word ≢ FREE) × (word % 4 < TAKEN) × (readers word ≡ 0)
