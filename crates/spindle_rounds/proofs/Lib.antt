@@ -20,3 +20,4 @@ pub mod KeptLeaving
 pub mod KeptEnding
 pub mod BarrierClients
 pub mod Workers
+pub mod PartyWork

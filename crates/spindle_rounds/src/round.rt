@@ -12,6 +12,7 @@ use std::alloc::Global;
 pub mod claim;
 pub mod claiming;
 pub mod finishing;
+pub mod party;
 pub mod publishing;
 pub mod source;
 pub mod stealing;
