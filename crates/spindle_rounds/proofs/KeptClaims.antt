@@ -14,7 +14,9 @@ use Rattle.spindle_rounds.specs.declared.round_table.view.Standing.TheVariants.{
 use Rattle.spindle_rounds.specs.declared.round_table.view.View.{View}
 use Rattle.spindle_rounds.specs.RoundSlots.{Discipline, Lawful}
 use Rattle.spindle_rounds.specs.RoundRule.{Began, deeds, Stands, Counters, IsWithin, home_of}
-use Rattle.spindle_rounds.specs.RoundSteps.{claimed, claiming, start_of, beginning, round_of}
+use Rattle.spindle_rounds.specs.Words.{remainder_at, range_at, words_of, high_half, start_of}
+use Rattle.spindle_rounds.specs.RoundSteps.{round_of, beginning, claiming}
+use Rattle.spindle_rounds.specs.RoundTells.{ClaimTells}
 use Rattle.spindle_rounds.specs.RoundConditions.{MayClaim}
 use Rattle.spindle_rounds.specs.RoundRuns.{Exchange, claim_of}
 use Rattle.spindle_rounds.proofs.RoundMoves.{Rule, SeatOf, Before, begins_by, moves_with, still_laid}
@@ -22,10 +24,10 @@ use Rattle.spindle_rounds.proofs.RoundNumbers.{or_false, or_right, true_or, with
 
 -- a set of free numbers, which counters that hold the word `old` lose where the word becomes `new`
 pub record Taking (t n i old new k from to : ℕ) (some : ℕ → Bool) : Type 0 where
-  pub high : 32 ≤ i
+  pub high : remainder_at ≤ i
   pub mine : some k ≡ true
   pub free : (S : State) (ws : List ℕ) → Counters t S ws n → get_or ws i 0 ≡ old → (j : ℕ) → some j ≡ true → Free S j
-  pub less : (S : State) (id : ℕ) (ws : List ℕ) → Counters t S ws n → length ws ≡ 40 + 16 * t → get_or ws i 0 ≡ old → Counters t (then_begun S id k some mine) (set ws i new) n
+  pub less : (S : State) (id : ℕ) (ws : List ℕ) → Counters t S ws n → length ws ≡ words_of t → get_or ws i 0 ≡ old → Counters t (then_begun S id k some mine) (set ws i new) n
   pub kept : (j : ℕ) → (some j ≡ true → j ≢ k → (from ≤ j) × (j < to)) × ((from ≤ j) × (j < to) → (some j ≡ true) × (j ≢ k))
 
 module _ {X N : Type 0} (D : Discipline X N) (law : Lawful D) (t slots id : ℕ) (me : SeatOf D t) (q n i old new k from to : ℕ) (some : ℕ → Bool) (take : Taking t n i old new k from to some)
@@ -81,19 +83,19 @@ one_of k j e = dite (ℕ_discrete j k) (λ z. z) (λ n. let a = ne_eqb j k n in 
 pub other_than : (k j : ℕ) → only k j ≡ false → j ≢ k
 other_than k j e z = let a = eq-eqb j k z in absurd cc
 
-front : (t n i old from to : ℕ) → i < t → old < 18446744073709551616 → old % 4294967296 < old / 4294967296 → to ≤ from → Taking t n (40 + 8 * i) old (old + 1) (old % 4294967296) from to (only (old % 4294967296))
-front t n i old from to low small left empty = let k : ℕ = old % 4294967296 in let some : ℕ → Bool = only k in let mine : some k ≡ true = eq-eqb k k refl in let within : (j : ℕ) → some j ≡ true → IsWithin old j = (λ j e. let z = one_of k j e in (omega arith, omega arith)) in record {
+front : (t n i old from to : ℕ) → i < t → old < 18446744073709551616 → old % high_half < old / high_half → to ≤ from → Taking t n (range_at i) old (old + 1) (old % high_half) from to (only (old % high_half))
+front t n i old from to low small left empty = let k : ℕ = old % high_half in let some : ℕ → Bool = only k in let mine : some k ≡ true = eq-eqb k k refl in let within : (j : ℕ) → some j ≡ true → IsWithin old j = (λ j e. let z = one_of k j e in (omega arith, omega arith)) in record {
   high = omega arith;
   mine = mine;
   free = λ S ws c hit j e. c.ranges i j low (subst (λ (w : ℕ). IsWithin w j) (sym hit) (within j e));
   less = λ S id ws c wide hit. range_taken S id k some mine t n i old (old + 1) ws c low (omega arith) hit within
       (λ j z. let z₀ = z.0 in let z₁ = z.1 in ((omega arith, omega arith), ne_eqb j k (λ e. omega arith)))
-      (λ j out z. let z₀ = z.0 in let z₁ = z.1 in let apart = other_than k j out in (omega arith, omega arith));
+      (λ j out z. let z₀ = z.0 in let z₁ = z.1 in let apart = other_than k j out in (omega arith, omega arith)) (omega arith);
   kept = λ j. ((λ e apart. absurd (apart (one_of k j e))), (λ z. let z₀ = z.0 in let z₁ = z.1 in absurd (omega arith)));
 }
 
 module _ {X N : Type 0} (D : Discipline X N) (law : Lawful D) (t : ℕ) where
-  pub claims : (slots id : ℕ) (me : SeatOf D t) (i old : ℕ) → i < t → MayClaim me.0 → old < 18446744073709551616 → old % 4294967296 < old / 4294967296
-      → Exchange D t slots id me (40 + 8 * i) old (old + 1) (claim_of id (start_of old) (only (start_of old))) (claimed D)
-  claims slots id me i old low may small left = begins_by D law t slots id me (40 + 8 * i) old (old + 1) (claim_of id (start_of old) (only (start_of old))) start_of (claiming (40 + 8 * i))
-      (takes D law t slots id me may.0.0 may.1.0 (40 + 8 * i) old (old + 1) (old % 4294967296) me.0.from me.0.to (only (old % 4294967296)) (front t may.1.0 i old me.0.from me.0.to low small left may.0.3) may.0.1 may.1.1 may.0.2 may.0.3 may.2)
+  pub claims : (slots id : ℕ) (me : SeatOf D t) (i old : ℕ) → i < t → MayClaim me.0 → old < 18446744073709551616 → old % high_half < old / high_half
+      → Exchange D t slots id me (range_at i) old (old + 1) (claim_of id (start_of old) (only (start_of old))) (ClaimTells D)
+  claims slots id me i old low may small left = begins_by D law t slots id me (range_at i) old (old + 1) (claim_of id (start_of old) (only (start_of old))) start_of (claiming (range_at i))
+      (takes D law t slots id me may.0.0 may.1.0 (range_at i) old (old + 1) (old % high_half) me.0.from me.0.to (only (old % high_half)) (front t may.1.0 i old me.0.from me.0.to low small left may.0.3) may.0.1 may.1.1 may.0.2 may.0.3 may.2)

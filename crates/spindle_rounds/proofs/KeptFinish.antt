@@ -13,7 +13,9 @@ use Rattle.spindle_parts.proofs.Soundness.{Sound, sound}
 use Rattle.spindle_rounds.specs.declared.round_table.view.View.{View}
 use Rattle.spindle_rounds.specs.RoundSlots.{Discipline, Lawful, Finishes}
 use Rattle.spindle_rounds.specs.RoundRule.{Ended, ended_in, deeds, Stands, Words, home_of}
-use Rattle.spindle_rounds.specs.RoundSteps.{finished, finishing, round_of, number_or}
+use Rattle.spindle_rounds.specs.Words.{finished_at, stopped_at, remainder_at, range_at, most_jobs}
+use Rattle.spindle_rounds.specs.RoundSteps.{round_of, number_or, finishing}
+use Rattle.spindle_rounds.specs.RoundTells.{FinishTells}
 use Rattle.spindle_rounds.specs.RoundConditions.{MayFinish}
 use Rattle.spindle_rounds.specs.RoundRuns.{Addition}
 use Rattle.spindle_rounds.proofs.RoundMoves.{SeatOf, moves_with, still_laid}
@@ -54,13 +56,13 @@ module _ (S : State) (id k : ℕ) (runs : (party S id).running ≡ Some k) where
     after = (let a = ap (λ (z : Round). times k z.finished) its_round in let b = times_same k (now S).finished in omega arith);
   }
 
-  pub words_after : (t : ℕ) (ws : List ℕ) (x : ℕ) → Words t S ws → S.published ≢ None → x ≡ length (now S).finished + 1 → Words t done (set ws 16 x)
-  words_after t ws x w shown is = let wide = w.wide in let other : (j : ℕ) → j ≢ 16 → get_or (set ws 16 x) j 0 ≡ get_or ws j 0 = (λ j n. get_or-set_other ws 16 j x 0 n) in
-      changed_words t S done ws 16 x (omega arith) w refl (ap (λ (z : Round). z.stoppable) its_round)
+  pub words_after : (t : ℕ) (ws : List ℕ) (x : ℕ) → Words t S ws → S.published ≢ None → x ≡ length (now S).finished + 1 → Words t done (set ws finished_at x)
+  words_after t ws x w shown is = let wide = w.wide in let other : (j : ℕ) → j ≢ finished_at → get_or (set ws finished_at x) j 0 ≡ get_or ws j 0 = (λ j n. get_or-set_other ws finished_at j x 0 n) in
+      changed_words t S done ws finished_at x (omega arith) w refl (ap (λ (z : Round). z.stoppable) its_round)
       (word_stays S done refl (counts_stay weight_in refl (λ x y e. ap is_in e) S.parties id idle refl) (counts_stay weight_member refl (λ x y e. ap is_member e) S.parties id idle refl))
-      (λ _. get_or-set_same ws 16 x 0 (omega arith) ∙ (is ∙ (sym (length-append (now S).finished (k ∷ [])) ∙ sym (ap (λ (z : Round). length z.finished) its_round))))
-      (λ on. let e = ap (λ (z : Round). z.stopped) its_round in ((λ yes. other 24 (λ z. omega arith) ∙ (w.stopped on).0 (sym e ∙ yes)), (λ no. other 24 (λ z. omega arith) ∙ (w.stopped on).1 (sym e ∙ no))))
-      (λ n e. counters_stay t S done ws (set ws 16 x) n (other 32 (λ z. omega arith)) (λ i lt. other (40 + 8 * i) (λ z. omega arith)) free_on free_back (λ on. sym (ap (λ (z : Round). z.stopped) its_round) ∙ on) (w.counters n e))
+      (λ _. get_or-set_same ws finished_at x 0 (omega arith) ∙ (is ∙ (sym (length-append (now S).finished (k ∷ [])) ∙ sym (ap (λ (z : Round). length z.finished) its_round))))
+      (λ on. let e = ap (λ (z : Round). z.stopped) its_round in ((λ yes. other stopped_at (λ z. omega arith) ∙ (w.stopped on).0 (sym e ∙ yes)), (λ no. other stopped_at (λ z. omega arith) ∙ (w.stopped on).1 (sym e ∙ no))))
+      (λ n e. counters_stay t S done ws (set ws finished_at x) n (other remainder_at (λ z. omega arith)) (λ i lt. other (range_at i) (λ z. omega arith)) free_on free_back (λ on. sym (ap (λ (z : Round). z.stopped) its_round) ∙ on) (w.counters n e))
 
 -- how often the numbers below n stand in a list
 abbrev spread : ℕ → List ℕ → ℕ
@@ -89,7 +91,7 @@ spread_few zero l once = omega arith
 spread_few (suc n) l once = let a = spread_few n l once in let b = once n in omega arith
 
 -- no more numbers have finished than there are jobs
-few_finished : (S : State) → Sound S → (now S).jobs ≤ 4294967295 → length (now S).finished < 18446744073709551615
+few_finished : (S : State) → Sound S → (now S).jobs ≤ most_jobs → length (now S).finished < 18446744073709551615
 few_finished S h few = let l : List ℕ = (now S).finished in let n : ℕ = (now S).jobs in let a = spread_all n l (λ k lt. below k lt) in let b = spread_few n l (λ k. let e = h.work.finished k in let c = over_le (h.fate k) in omega arith) in omega arith
   where
     over_le : (f : Fate) → over f ≤ 1
@@ -102,17 +104,17 @@ few_finished S h few = let l : List ℕ = (now S).finished in let n : ℕ = (now
     below k lt = h.work.below k (λ e. let a = h.work.finished k in let c = ap over e in omega arith)
 
 -- and no round has more jobs than a published one may have
-few_jobs : (S : State) → Sound S → S.published ≢ None → (now S).jobs ≤ 4294967295
+few_jobs : (S : State) → Sound S → S.published ≢ None → (now S).jobs ≤ most_jobs
 few_jobs S h shown = go S.published shown (λ m e. let g = h.gate.shown m e in let g₀ = g.0 in let g₂ = g.2 in omega arith)
   where
-    go : (o : Option ℕ) → o ≢ None → ((m : ℕ) → o ≡ Some m → (now S).jobs ≤ 4294967295) → (now S).jobs ≤ 4294967295
+    go : (o : Option ℕ) → o ≢ None → ((m : ℕ) → o ≡ Some m → (now S).jobs ≤ most_jobs) → (now S).jobs ≤ most_jobs
     go None n f = absurd (n refl)
     go (Some m) n f = f m refl
 
 module _ {X N : Type 0} (D : Discipline X N) (law : Lawful D) (t : ℕ) where
-  pub finishes : (slots id : ℕ) (me : SeatOf D t) (k : ℕ) → MayFinish k me.0 → D.may_give k me.0.note me.1 → Addition D t slots id me 16 (Finish id ∷ []) (finished D)
+  pub finishes : (slots id : ℕ) (me : SeatOf D t) (k : ℕ) → MayFinish k me.0 → D.may_give k me.0.note me.1 → Addition D t slots id me finished_at (Finish id ∷ []) (FinishTells D)
   finishes slots id me k may give = record {
-    shows = λ run s r _ at small. let x : ℕ = get_or s.words 16 0 in let S : State = state run in let h = sound run r.is_run in let shows = (r.seats id me.0 at).0 in let st = subst (Stands S id) may.0.1 shows.stands in let knows = shows.inside may.0.0 may.0.1 in
+    shows = λ run s r _ at small. let x : ℕ = get_or s.words finished_at 0 in let S : State = state run in let h = sound run r.is_run in let shows = (r.seats id me.0 at).0 in let st = subst (Stands S id) may.0.1 shows.stands in let knows = shows.inside may.0.0 may.0.1 in
         let runs : (party S id).running ≡ Some k = shows.claim ∙ may.1 in let S' : State = done S id k runs in let w : View N = finishing x me.0 in let ran = (h.work.fits id).ran k runs in
         let below : k < (now S).jobs = h.work.below k (λ e. cc) in let shown : S.published ≢ None = some_published S h id st.0 (omega arith) in
         let few = few_finished S h (few_jobs S h shown) in let is = r.words.finished shown in let new : (x + 1) % 18446744073709551616 ≡ length (now S).finished + 1 = omega arith in
@@ -122,7 +124,7 @@ module _ {X N : Type 0} (D : Discipline X N) (law : Lawful D) (t : ℕ) where
           w,
           D.gives,
           g.0,
-          moves_with D t run s r 16 ((x + 1) % 18446744073709551616) id me w D.gives (Finish id ∷ []) at (refl, tt) ((k, runs), r.is_run) (words_after S id k runs t s.words ((x + 1) % 18446744073709551616) r.words shown new)
+          moves_with D t run s r finished_at ((x + 1) % 18446744073709551616) id me w D.gives (Finish id ∷ []) at (refl, tt) ((k, runs), r.is_run) (words_after S id k runs t s.words ((x + 1) % 18446744073709551616) r.words shown new)
               record {
                 stands = subst (Stands S' id) (sym may.0.1) (ap (λ (z : Party). z.status) look ∙ st.0, st.1);
                 leads = shows.leads;

@@ -11,7 +11,9 @@ use Rattle.spindle_parts.proofs.Soundness.{Sound, sound}
 use Rattle.spindle_rounds.specs.declared.round_table.view.View.{View}
 use Rattle.spindle_rounds.specs.RoundSlots.{Discipline, Lawful, Begins}
 use Rattle.spindle_rounds.specs.RoundRule.{Began, deeds, Stands, Words, home_of}
-use Rattle.spindle_rounds.specs.RoundSteps.{shared, sharing, round_of}
+use Rattle.spindle_rounds.specs.Words.{finished_at, stopped_at, remainder_at, range_at}
+use Rattle.spindle_rounds.specs.RoundSteps.{round_of, sharing}
+use Rattle.spindle_rounds.specs.RoundTells.{ShareTells}
 use Rattle.spindle_rounds.specs.RoundConditions.{MayBegin}
 use Rattle.spindle_rounds.specs.RoundRuns.{Store}
 use Rattle.spindle_rounds.proofs.RoundMoves.{SeatOf, moves_with, still_laid, some_of}
@@ -54,13 +56,13 @@ module _ (S : State) (h : Sound S) (id k : ℕ) (held : (party S id).taken k ≡
   free_back j f = let c = ap (λ (z : Round). times j z.begun) its_round in let n : j ≢ k = (λ e. let a = times_same k (now S).begun in let b = ap (λ (z : ℕ). times z ((now S).begun ++ k ∷ [])) e in let d = f.1 in absurd (omega arith)) in
       (subst (λ (z : Round). j < z.jobs) its_round f.0, sym (times_else j (now S).begun k n) ∙ (sym c ∙ f.1), λ a. sym (taken_else j a n) ∙ f.2 a)
 
-  pub words_after : (t i x : ℕ) (ws : List ℕ) → 40 + 8 * t ≤ i → Words t S ws → Words t begun (set ws i x)
-  words_after t i x ws high w = let other : (j : ℕ) → j < 40 + 8 * t → get_or (set ws i x) j 0 ≡ get_or ws j 0 = (λ j lt. get_or-set_other ws i j x 0 (λ e. omega arith)) in
+  pub words_after : (t i x : ℕ) (ws : List ℕ) → range_at t ≤ i → Words t S ws → Words t begun (set ws i x)
+  words_after t i x ws high w = let other : (j : ℕ) → j < range_at t → get_or (set ws i x) j 0 ≡ get_or ws j 0 = (λ j lt. get_or-set_other ws i j x 0 (λ e. omega arith)) in
       changed_words t S begun ws i x (omega arith) w refl (ap (λ (z : Round). z.stoppable) its_round)
       (word_stays S begun refl (counts_stay weight_in refl (λ x y e. ap is_in e) S.parties id without refl) (counts_stay weight_member refl (λ x y e. ap is_member e) S.parties id without refl))
-      (λ is. other 16 (omega arith) ∙ (w.finished is ∙ sym (ap (λ (z : Round). length z.finished) its_round)))
-      (λ is. let e = ap (λ (z : Round). z.stopped) its_round in ((λ on. other 24 (omega arith) ∙ (w.stopped is).0 (sym e ∙ on)), (λ on. other 24 (omega arith) ∙ (w.stopped is).1 (sym e ∙ on))))
-      (λ n e. counters_stay t S begun ws (set ws i x) n (other 32 (omega arith)) (λ j lt. other (40 + 8 * j) (omega arith)) free_on free_back (λ on. sym (ap (λ (z : Round). z.stopped) its_round) ∙ on) (w.counters n e))
+      (λ is. other finished_at (omega arith) ∙ (w.finished is ∙ sym (ap (λ (z : Round). length z.finished) its_round)))
+      (λ is. let e = ap (λ (z : Round). z.stopped) its_round in ((λ on. other stopped_at (omega arith) ∙ (w.stopped is).0 (sym e ∙ on)), (λ on. other stopped_at (omega arith) ∙ (w.stopped is).1 (sym e ∙ on))))
+      (λ n e. counters_stay t S begun ws (set ws i x) n (other remainder_at (omega arith)) (λ j lt. other (range_at j) (omega arith)) free_on free_back (λ on. sym (ap (λ (z : Round). z.stopped) its_round) ∙ on) (w.counters n e))
 
   -- to the slots, k begins
   pub begins_here : (n : ℕ) → S.published ≡ Some n → Begins S begun k
@@ -76,9 +78,9 @@ module _ (S : State) (h : Sound S) (id k : ℕ) (held : (party S id).taken k ≡
   }
 
 module _ {X N : Type 0} (D : Discipline X N) (law : Lawful D) (t : ℕ) where
-  pub shares : (slots id : ℕ) (me : SeatOf D t) (i new : ℕ) → t ≤ i → MayBegin me.0 → me.0.from < me.0.to → Store D t slots id me (40 + 8 * i) new (Begin id me.0.from ∷ []) (shared D)
+  pub shares : (slots id : ℕ) (me : SeatOf D t) (i new : ℕ) → t ≤ i → MayBegin me.0 → me.0.from < me.0.to → Store D t slots id me (range_at i) new (Begin id me.0.from ∷ []) (ShareTells D)
   shares slots id me i new high may some = record {
-    shows = λ run s r _ at _. let word_at : ℕ = 40 + 8 * i in let q = may.0.0 in let k : ℕ = me.0.from in let S : State = state run in let h = sound run r.is_run in let seat = r.seats id me.0 at in let shows = seat.0 in
+    shows = λ run s r _ at _. let word_at : ℕ = range_at i in let q = may.0.0 in let k : ℕ = me.0.from in let S : State = state run in let h = sound run r.is_run in let seat = r.seats id me.0 at in let shows = seat.0 in
         let st = subst (Stands S id) may.0.1 shows.stands in let knows = shows.inside q may.0.1 in let held : (party S id).taken k ≡ true = (shows.share k).1 (omega arith, some) in let S' : State = begun S h id k held in
         let is_shown : S.published ≢ None = some_published S h id st.0 (let a = in_round S h id k held in omega arith) in let n = some_of S.published is_shown in let w : Option N → View N = (λ x. sharing word_at new x me.0) in
         let b = law.begins S S' s.homes s.views id me.0 me.1 k w r.slots (begins_here S h id k held n.0 n.1) at (λ o. (refl, refl, refl)) in let last = its_party S h id k held in let round = its_round S h id k held in

@@ -2,8 +2,10 @@
 use Rattle.std.proofs.Common.{◌≡◌, ◌⊎◌, inl, inr, ⊎_elim, ℕ, ◌+◌, ◌-◌, ◌*◌, ◌/◌, ◌%◌, ◌<◌, ◌≤◌, true, false, eq-eqb, ne_eqb, div-add-mod', List, get_or, set, get_or-set_same, get_or-set_other, sym, refl, ap, subst, arith, if◌then◌else◌, nat_lt}
 use Rattle.spindle_parts.specs.EverySchedule.{only}
 use Rattle.spindle_rounds.specs.RoundSlots.{Discipline, Lawful}
-use Rattle.spindle_rounds.specs.RoundRule.{InRange, InRest, IsWithin}
-use Rattle.spindle_rounds.specs.RoundSteps.{stolen, stealing, stolen_from, start_of, end_of, length_of, half_of, range_word, rested, resting, number_or}
+use Rattle.spindle_rounds.specs.RoundRule.{InRange, InRemainder, IsWithin}
+use Rattle.spindle_rounds.specs.Words.{remainder_at, range_at, high_half, start_of, end_of, length_of, range_word}
+use Rattle.spindle_rounds.specs.RoundSteps.{half_of, stolen_from, stealing, claiming_remainder, number_or}
+use Rattle.spindle_rounds.specs.RoundTells.{StealTells, RemainderClaimTells}
 use Rattle.spindle_rounds.specs.RoundConditions.{MayClaim}
 use Rattle.spindle_rounds.specs.RoundRuns.{Exchange, claim_of, last_half}
 use Rattle.spindle_rounds.proofs.RoundMoves.{SeatOf, begins_by}
@@ -34,55 +36,56 @@ half_no : (old j : ℕ) → j < stolen_from old → last_half old j ≡ false
 half_no old j lt = by_less j (stolen_from old) (λ b. (if b then false else nat_lt j (end_of old)) ≡ false) (λ _. refl) (λ le. absurd (omega arith))
 
 half : (t n i old : ℕ) → i < t → old < 18446744073709551616 → start_of old < end_of old
-    → Taking t n (40 + 8 * i) old (range_word (start_of old) (stolen_from old)) (stolen_from old) (stolen_from old + 1) (end_of old) (last_half old)
+    → Taking t n (range_at i) old (range_word (start_of old) (stolen_from old)) (stolen_from old) (stolen_from old + 1) (end_of old) (last_half old)
 half t n i old low small left = let w = half_within old left in let w₀ = w.0 in let w₁ = w.1 in let k : ℕ = stolen_from old in let a : ℕ = start_of old in let z : ℕ = end_of old in let new : ℕ = range_word a k in
-    let a_is : old % 4294967296 ≡ a = refl in let z_is : old / 4294967296 ≡ z = refl in let a_small : a < 4294967296 = omega arith in
-    let start_is : new % 4294967296 ≡ a = shrunk a k a_small in let end_is : new / 4294967296 ≡ k = shrunk_end a k a_small in
+    let a_is : old % high_half ≡ a = refl in let z_is : old / high_half ≡ z = refl in let a_small : a < high_half = omega arith in
+    let start_is : new % high_half ≡ a = shrunk a k a_small in let end_is : new / high_half ≡ k = shrunk_end a k a_small in
     let within : (j : ℕ) → last_half old j ≡ true → IsWithin old j = (λ j e. let h = half_in old j e in let h₀ = h.0 in let h₁ = h.1 in (omega arith, omega arith)) in record {
       high = omega arith;
       mine = half_yes old k (omega arith) w₁;
       free = λ S ws c hit j e. c.ranges i j low (subst (λ (w : ℕ). IsWithin w j) (sym hit) (within j e));
       less = λ S id ws c wide hit. range_taken S id k (last_half old) (half_yes old k (omega arith) w₁) t n i old new ws c low (omega arith) hit within
           (λ j y. let y₀ = y.0 in let y₁ = y.1 in ((omega arith, omega arith), half_no old j (omega arith)))
-          (λ j out y. let y₀ = y.0 in let y₁ = y.1 in ⊎_elim (λ (lt : j < k). (omega arith, omega arith)) (λ (le : z ≤ j). absurd (omega arith)) (half_out old j out));
+          (λ j out y. let y₀ = y.0 in let y₁ = y.1 in ⊎_elim (λ (lt : j < k). (omega arith, omega arith)) (λ (le : z ≤ j). absurd (omega arith)) (half_out old j out)) (omega arith);
       kept = λ j. ((λ e apart. let h = half_in old j e in let h₀ = h.0 in let h₁ = h.1 in (omega arith, h₁)), (λ y. let y₀ = y.0 in let y₁ = y.1 in (half_yes old j (omega arith) y₁, λ e. omega arith)));
     }
   where
-    shrunk : (a k : ℕ) → a < 4294967296 → range_word a k % 4294967296 ≡ a
+    shrunk : (a k : ℕ) → a < high_half → range_word a k % high_half ≡ a
     shrunk a k lt = omega arith
 
-    shrunk_end : (a k : ℕ) → a < 4294967296 → range_word a k / 4294967296 ≡ k
+    shrunk_end : (a k : ℕ) → a < high_half → range_word a k / high_half ≡ k
     shrunk_end a k lt = omega arith
 
 -- The remainder's last number.
 
-last_one : (t n old from to k : ℕ) → k ≡ n - old → 0 < old → to ≤ from → Taking t n 32 old (old - 1) k from to (only k)
+last_one : (t n old from to k : ℕ) → k ≡ n - old → 0 < old → to ≤ from → Taking t n remainder_at old (old - 1) k from to (only k)
 last_one t n old from to k is some empty = let mine : only k k ≡ true = eq-eqb k k refl in let e = div-add-mod' n t in record {
   high = omega arith;
   mine = mine;
-  free = λ S ws c hit j on. let same = one_of k j on in let few = c.few in let hit' = hit in c.rest j (omega arith, omega arith);
-  less = λ S id ws c wide hit. let ws' : List ℕ = set ws 32 (old - 1) in let few = c.few in let now_is : get_or ws' 32 0 ≡ old - 1 = get_or-set_same ws 32 (old - 1) 0 (omega arith) in
-      let other : (i : ℕ) → get_or ws' (40 + 8 * i) 0 ≡ get_or ws (40 + 8 * i) 0 = (λ i. get_or-set_other ws 32 (40 + 8 * i) (old - 1) 0 (λ z. omega arith)) in
-      let rest_k : InRest ws n k = (let h = hit in (omega arith, omega arith)) in
+  free = λ S ws c hit j on. let same = one_of k j on in let few = c.few in let hit' = hit in c.remainder j (omega arith, omega arith);
+  less = λ S id ws c wide hit. let ws' : List ℕ = set ws remainder_at (old - 1) in let few = c.few in let now_is : get_or ws' remainder_at 0 ≡ old - 1 = get_or-set_same ws remainder_at (old - 1) 0 (omega arith) in
+      let other : (i : ℕ) → get_or ws' (range_at i) 0 ≡ get_or ws (range_at i) 0 = (λ i. get_or-set_other ws remainder_at (range_at i) (old - 1) 0 (λ z. omega arith)) in
+      let rest_k : InRemainder ws n k = (let h = hit in (omega arith, omega arith)) in
       taken_counters S id k (only k) mine t n ws ws' c
-      (λ i j lt z. let z' : InRange ws i j = subst (λ (w : ℕ). IsWithin w j) (other i) z in (z', ne_eqb j k (λ same. c.rest_apart i j lt z' (subst (InRest ws n) (sym same) rest_k))))
+      (λ i j lt z. let z' : InRange ws i j = subst (λ (w : ℕ). IsWithin w j) (other i) z in (z', ne_eqb j k (λ same. c.remainder_apart i j lt z' (subst (InRemainder ws n) (sym same) rest_k))))
       (λ j z. let h = hit in let z₀ = z.0 in let z₁ = z.1 in ((omega arith, z₁), ne_eqb j k (λ same. omega arith)))
       (λ i j lt out z. subst (λ (w : ℕ). IsWithin w j) (sym (other i)) z)
       (λ j out z. let h = hit in let apart = other_than k j out in let z₀ = z.0 in let z₁ = z.1 in (omega arith, z₁))
-      (let h = hit in omega arith);
+      (let h = hit in omega arith)
+      (λ i lt. subst (λ (w : ℕ). start_of w ≤ end_of w) (sym (other i)) (c.ordered i lt));
   kept = λ j. ((λ on apart. absurd (apart (one_of k j on))), (λ z. let z₀ = z.0 in let z₁ = z.1 in absurd (omega arith)));
 }
 
 module _ {X N : Type 0} (D : Discipline X N) (law : Lawful D) (t : ℕ) where
   pub steals : (slots id : ℕ) (me : SeatOf D t) (i old first : ℕ) → i < t → MayClaim me.0 → old < 18446744073709551616 → start_of old < end_of old → first ≡ stolen_from old
-      → Exchange D t slots id me (40 + 8 * i) old (range_word (start_of old) first) (claim_of id (stolen_from old) (last_half old)) (stolen D)
-  steals slots id me i old first low may small left is = let word : ℕ = 40 + 8 * i in let rest : ℕ → ℕ = range_word (start_of old) in
-      subst (λ (k : ℕ). Exchange D t slots id me word old (rest k) (claim_of id (stolen_from old) (last_half old)) (stolen D)) (sym is)
+      → Exchange D t slots id me (range_at i) old (range_word (start_of old) first) (claim_of id (stolen_from old) (last_half old)) (StealTells D)
+  steals slots id me i old first low may small left is = let word : ℕ = range_at i in let rest : ℕ → ℕ = range_word (start_of old) in
+      subst (λ (k : ℕ). Exchange D t slots id me word old (rest k) (claim_of id (stolen_from old) (last_half old)) (StealTells D)) (sym is)
       (begins_by D law t slots id me word old (rest (stolen_from old)) (claim_of id (stolen_from old) (last_half old)) stolen_from (stealing word)
       (takes D law t slots id me may.0.0 may.1.0 word old (rest (stolen_from old)) (stolen_from old) (stolen_from old + 1) (end_of old) (last_half old) (half t may.1.0 i old low small left) may.0.1 may.1.1 may.0.2 may.0.3 may.2))
 
   pub rests : (slots id : ℕ) (me : SeatOf D t) (old : ℕ) → MayClaim me.0 → 0 < old
-      → let k : ℕ = number_or me.0.known.number - old in Exchange D t slots id me 32 old (old - 1) (claim_of id k (only k)) (rested D)
+      → let k : ℕ = number_or me.0.known.number - old in Exchange D t slots id me remainder_at old (old - 1) (claim_of id k (only k)) (RemainderClaimTells D)
   rests slots id me old may some = let n : ℕ = number_or me.0.known.number in let is : n ≡ may.1.0 = ap number_or may.1.1 in
-      begins_by D law t slots id me 32 old (old - 1) (claim_of id (n - old) (only (n - old))) (λ found. n - found) (resting n)
+      begins_by D law t slots id me remainder_at old (old - 1) (claim_of id (n - old) (only (n - old))) (λ found. n - found) (claiming_remainder n)
       (takes D law t slots id me may.0.0 may.1.0 32 old (old - 1) (n - old) me.0.from me.0.to (only (n - old)) (last_one t may.1.0 old me.0.from me.0.to (n - old) (ap (λ (z : ℕ). z - old) is) some may.0.3) may.0.1 may.1.1 may.0.2 may.0.3 may.2)

@@ -15,6 +15,7 @@ pub mod RoundChanges
 pub mod KeptShares
 pub mod KeptFinish
 pub mod KeptStops
+pub mod RoundFilled
 pub mod RoundClients
 pub mod KeptLeaving
 pub mod KeptEnding

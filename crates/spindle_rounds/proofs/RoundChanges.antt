@@ -4,16 +4,17 @@ use Rattle.spindle_parts.specs.State.{State, In, now, party}
 use Rattle.spindle_parts.specs.BarrierWord.{word}
 use Rattle.spindle_parts.proofs.Soundness.{Sound, no_closer}
 use Rattle.spindle_rounds.specs.RoundRule.{Counters, Words, number_of}
+use Rattle.spindle_rounds.specs.Words.{barrier_at, published_at, finished_at, stopped_at}
 
 -- the word i becomes x, while the number published and the barrier word stay
-pub changed_words : (t : ℕ) (S S' : State) (ws : List ℕ) (i x : ℕ) → 16 ≤ i → Words t S ws → S'.published ≡ S.published → (now S').stoppable ≡ (now S).stoppable → word S ≡ word S'
-    → (S.published ≢ None → get_or (set ws i x) 16 0 ≡ length (now S').finished)
-    → (S.published ≢ None → ((now S').stopped ≡ true → get_or (set ws i x) 24 0 ≡ 1) × ((now S').stopped ≡ false → get_or (set ws i x) 24 0 ≡ 0))
+pub changed_words : (t : ℕ) (S S' : State) (ws : List ℕ) (i x : ℕ) → finished_at ≤ i → Words t S ws → S'.published ≡ S.published → (now S').stoppable ≡ (now S).stoppable → word S ≡ word S'
+    → (S.published ≢ None → get_or (set ws i x) finished_at 0 ≡ length (now S').finished)
+    → (S.published ≢ None → ((now S').stopped ≡ true → get_or (set ws i x) stopped_at 0 ≡ 1) × ((now S').stopped ≡ false → get_or (set ws i x) stopped_at 0 ≡ 0))
     → ((n : ℕ) → S.published ≡ Some n → Counters t S' (set ws i x) n) → Words t S' (set ws i x)
 changed_words t S S' ws i x high w shown may same_word finished stopped counters = record {
   wide = length-set ws i x ∙ w.wide;
-  barrier = get_or-set_other ws i 0 x 0 (λ e. omega arith) ∙ (w.barrier ∙ same_word);
-  published = get_or-set_other ws i 8 x 0 (λ e. omega arith) ∙ (w.published ∙ (λ j. number_of (sym shown j) (sym may j)));
+  barrier = get_or-set_other ws i barrier_at x 0 (λ e. omega arith) ∙ (w.barrier ∙ same_word);
+  published = get_or-set_other ws i published_at x 0 (λ e. omega arith) ∙ (w.published ∙ (λ j. number_of (sym shown j) (sym may j)));
   finished = λ some. finished (λ e. some (shown ∙ e));
   stopped = λ some. stopped (λ e. some (shown ∙ e));
   counters = λ n e. counters n (sym shown ∙ e);

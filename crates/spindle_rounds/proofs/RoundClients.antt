@@ -3,8 +3,6 @@ use Rattle.std.proofs.Common.{◌≡◌, ◌≢◌, inl, inr, ℕ, zero, suc, �
 use mathlib.Core.Logic.{dite}
 use native.Mathlib.Decide.{ℕ_discrete}
 use Rattle.atomic_table.specs.Table.{Me}
-use Rattle.spindle_parts.specs.declared.trail.Trace.{Trace}
-use Rattle.spindle_rounds.specs.declared.round_table.view.Kind.{Kind}
 use Rattle.spindle_rounds.specs.declared.round_table.view.Standing.TheVariants.{Inside}
 use Rattle.spindle_rounds.specs.declared.round_table.view.View.{View}
 use Rattle.spindle_rounds.specs.declared.round.claim.Claim.{Claim}
@@ -15,27 +13,15 @@ use Rattle.spindle_rounds.specs.declared.round.stopping.PutBack.{PutBack}
 use Rattle.spindle_rounds.specs.declared.round.stopping.PutBack.TheVariants as back
 use Rattle.spindle_rounds.specs.Spans.{Span}
 use Rattle.spindle_rounds.specs.RoundSlots.{Discipline}
-use Rattle.spindle_rounds.specs.RoundRule.{Deed, Began, Ended, Showed, IsListed, deeds_of, deed_of}
-use Rattle.spindle_rounds.specs.RoundSteps.{beginning, range_word, list_empty, searching, reading_rest, recalling, missing, claiming, stealing, resting, sharing, finishing, stopping, seeing, putting, publishing, learning, round_of, start_of, end_of}
+use Rattle.spindle_rounds.specs.RoundRule.{Showed, IsListed}
+use Rattle.spindle_rounds.specs.Words.{remainder_at, range_at, high_half, most_jobs, start_of, end_of, range_word}
+use Rattle.spindle_rounds.specs.RoundSteps.{round_of, missing, learning, publishing, list_empty, searching, reading_remainder, recalling, beginning, claiming, stealing, claiming_remainder, sharing, finishing, stopping, seeing, putting_back}
 use Rattle.spindle_rounds.specs.RoundConditions.{MayPublish, MayClaim, MayBegin, MayFinish, MayPutBack, MayArrive, IsItsShare, IsDone}
-use Rattle.spindle_rounds.specs.RoundAnswers.{searching_all, OwnClaimed, StolenBy, RestClaimed, SharedBy, FinishedBy, SeenBy, LeftOver, PutBy, FilledBy}
+use Rattle.spindle_rounds.specs.RoundAnswers.{searching_all, OwnClaimedBy, StolenBy, RemainderClaimedBy, SharedBy, FinishedBy, SeenBy, LeftOverBy, PutBy, FilledBy}
 use Rattle.spindle_rounds.specs.RoundViews.{shown_of, published_of, AtWork, Onward, SeesAsBefore, SharesAsBefore, AfterClaim, AfterSteal}
 use Rattle.spindle_rounds.proofs.RoundWords.{by_less, by_equal}
 use Rattle.spindle_rounds.proofs.RoundSearch.{may_still}
-
--- deeds without a publish show nothing more
-shown_join : (xs ys : List Deed) → shown_of (xs ++ ys) ≡ shown_of xs ++ shown_of ys
-shown_join [] ys = refl
-shown_join (Began r k ∷ xs) ys = shown_join xs ys
-shown_join (Ended r k ∷ xs) ys = shown_join xs ys
-shown_join (Showed r n b ∷ xs) ys = ap (λ (l : List Deed). Showed r n b ∷ l) (shown_join xs ys)
-
-deeds_join : (xs ys : List (Trace Kind)) → deeds_of (xs ++ ys) ≡ deeds_of xs ++ deeds_of ys
-deeds_join [] ys = refl
-deeds_join (x ∷ xs) ys = ap (λ (l : List Deed). deed_of x.kind ++ l) (deeds_join xs ys) ∙ sym (append_assoc (deed_of x.kind) (deeds_of xs) (deeds_of ys))
-
-shown_more : (xs ys : List (Trace Kind)) → deeds_of xs ≡ [] → published_of (xs ++ ys) ≡ published_of ys
-shown_more xs ys none = ap shown_of (deeds_join xs ys ∙ ap (λ (l : List Deed). l ++ deeds_of ys) none)
+use Rattle.spindle_rounds.proofs.RoundFilled.{filled_stands, filled_quiet}
 
 -- Going on.
 
@@ -86,11 +72,11 @@ module _ {N : Type 0} where
   pub searched_empty : (n i x : ℕ) (v : View N) → v.known.number ≡ Some n → end_of x ≤ start_of x → IsListed i (searching i x v).known.emptied
   searched_empty n i x v known le = now_listed v.known.number n i (if nat_lt (start_of x) (end_of x) then false else true) v.known.emptied known (read_empty x le)
 
-  pub rest_on : (x : ℕ) (v : View N) → Onward v (reading_rest x v)
+  pub rest_on : (x : ℕ) (v : View N) → Onward v (reading_remainder x v)
   rest_on x v = record { leader = refl; threads = refl; standing = refl; number = refl; may_stop = refl; unpublished = refl; emptied = λ j l. more_listed v.known.number (x == 0) v.threads j v.known.emptied l; laid = refl; board = refl; published = refl }
 
   -- and an empty remainder
-  pub rest_empty : (n x : ℕ) (v : View N) → v.known.number ≡ Some n → x ≡ 0 → IsListed v.threads (reading_rest x v).known.emptied
+  pub rest_empty : (n x : ℕ) (v : View N) → v.known.number ≡ Some n → x ≡ 0 → IsListed v.threads (reading_remainder x v).known.emptied
   rest_empty n x v known zero_read = now_listed v.known.number n v.threads (x == 0) v.known.emptied known (ap (λ (z : ℕ). z == 0) zero_read)
 
   pub all_searched_on : (i : ℕ) (xs : List ℕ) (v : View N) → Onward v (searching_all i xs v) × SeesAsBefore v (searching_all i xs v) × SharesAsBefore v (searching_all i xs v) × ((searching_all i xs v).claim ≡ v.claim)
@@ -131,7 +117,7 @@ module _ {N : Type 0} where
   pub saw_on : (found : ℕ) (v : View N) → Onward v (seeing found v)
   saw_on found v = record { leader = refl; threads = refl; standing = refl; number = refl; may_stop = refl; unpublished = refl; emptied = λ i l. l; laid = refl; board = refl; published = refl }
 
-  pub put_on : (i found : ℕ) (v : View N) → Onward v (putting i found v)
+  pub put_on : (i found : ℕ) (v : View N) → Onward v (putting_back i found v)
   put_on i found v = record { leader = refl; threads = refl; standing = refl; number = refl; may_stop = refl; unpublished = refl; emptied = λ i l. l; laid = refl; board = refl; published = refl }
 
 -- Claims.
@@ -140,30 +126,30 @@ module _ {S N : Type 0} (D : Discipline S N) (m w : Me S (View N)) (may : MayCla
   abbrev inside : (q : ℕ) × (m.0.standing ≡ Inside q)
   inside = (may.0.0, may.0.1)
 
-  pub own_claimed : (i : ℕ) (r : Claim) → OwnClaimed D i r m w → AfterClaim r m.0 w.0
-  own_claimed i (claim.Job c) a = let v : View N = searching i a.0 m.0 in let u : View N = claiming (40 + 8 * i) a.0 a.1 v in subst (AfterClaim (claim.Job c) m.0) (sym a.2)
-      (onward_then m.0 v u (searched_on i a.0 m.0) (began_on (40 + 8 * i) (start_of a.0) a.0 (a.0 + 1) a.1 v), refl, (refl, refl), (inside, ap (λ (k : ℕ). Some k) (sym a.4)))
+  pub own_claimed : (i : ℕ) (r : Claim) → OwnClaimedBy D i r m w → AfterClaim r m.0 w.0
+  own_claimed i (claim.Job c) a = let v : View N = searching i a.0 m.0 in let u : View N = claiming (range_at i) a.0 a.1 v in subst (AfterClaim (claim.Job c) m.0) (sym a.2)
+      (onward_then m.0 v u (searched_on i a.0 m.0) (began_on (range_at i) (start_of a.0) a.0 (a.0 + 1) a.1 v), refl, (refl, refl), (inside, ap (λ (k : ℕ). Some k) (sym a.4)))
   own_claimed i claim.Nothing a = subst (AfterClaim claim.Nothing m.0) (sym (ap (λ z. z.0) a.1)) (searched_on i a.0 m.0, refl, (refl, refl), may)
-  own_claimed i claim.Again a = let v : View N = searching i a.0 m.0 in subst (AfterClaim claim.Again m.0) (sym (ap (λ z. z.0) a.2)) (onward_then m.0 v (missing (40 + 8 * i) a.1 v) (searched_on i a.0 m.0) (missed_on (40 + 8 * i) a.1 v), refl, (refl, refl), may)
+  own_claimed i claim.Again a = let v : View N = searching i a.0 m.0 in subst (AfterClaim claim.Again m.0) (sym (ap (λ z. z.0) a.2)) (onward_then m.0 v (missing (range_at i) a.1 v) (searched_on i a.0 m.0) (missed_on (range_at i) a.1 v), refl, (refl, refl), may)
 
-  pub rest_claimed : (n : ℕ) (r : Claim) → RestClaimed D n r m w → AfterClaim r m.0 w.0
-  rest_claimed n (claim.Job c) a = let v : View N = reading_rest a.0 m.0 in let u : View N = recalling n v in let z : View N = resting n a.0 a.1 u in subst (AfterClaim (claim.Job c) m.0) (sym a.2)
+  pub rest_claimed : (n : ℕ) (r : Claim) → RemainderClaimedBy D n r m w → AfterClaim r m.0 w.0
+  rest_claimed n (claim.Job c) a = let v : View N = reading_remainder a.0 m.0 in let u : View N = recalling n v in let z : View N = claiming_remainder n a.0 a.1 u in subst (AfterClaim (claim.Job c) m.0) (sym a.2)
       (onward_then m.0 v z (rest_on a.0 m.0) (onward_then v u z (recalled_on n v) (began_on 32 (n - a.0) a.0 (a.0 - 1) a.1 u)), refl, (refl, refl), (inside, ap (λ (k : ℕ). Some k) (sym a.4)))
   rest_claimed n claim.Nothing a = subst (AfterClaim claim.Nothing m.0) (sym (ap (λ z. z.0) a.1)) (rest_on a.0 m.0, refl, (refl, refl), may)
-  rest_claimed n claim.Again a = let v : View N = reading_rest a.0 m.0 in let u : View N = recalling n v in let z : View N = missing 32 a.1 u in subst (AfterClaim claim.Again m.0) (sym (ap (λ y. y.0) a.2))
+  rest_claimed n claim.Again a = let v : View N = reading_remainder a.0 m.0 in let u : View N = recalling n v in let z : View N = missing remainder_at a.1 u in subst (AfterClaim claim.Again m.0) (sym (ap (λ y. y.0) a.2))
       (onward_then m.0 v z (rest_on a.0 m.0) (onward_then v u z (recalled_on n v) (missed_on 32 a.1 u)), refl, (refl, refl), may)
 
   -- the range was read as empty
-  pub own_nothing : (i : ℕ) → OwnClaimed D i claim.Nothing m w → IsListed i w.0.known.emptied
+  pub own_nothing : (i : ℕ) → OwnClaimedBy D i claim.Nothing m w → IsListed i w.0.known.emptied
   own_nothing i a = subst (λ (v : View N). IsListed i v.known.emptied) (sym (ap (λ z. z.0) a.1)) (searched_empty may.1.0 i a.0 m.0 may.1.1 a.2)
 
   -- the remainder was read as empty
-  pub rest_nothing : (n : ℕ) → RestClaimed D n claim.Nothing m w → IsListed w.0.threads w.0.known.emptied
+  pub rest_nothing : (n : ℕ) → RemainderClaimedBy D n claim.Nothing m w → IsListed w.0.threads w.0.known.emptied
   rest_nothing n a = subst (λ (v : View N). IsListed v.threads v.known.emptied) (sym (ap (λ z. z.0) a.1)) (rest_empty may.1.0 a.0 m.0 may.1.1 a.2)
 
   pub stolen : (t : ℕ) (r : Steal) → StolenBy D t r m w → AfterSteal t r m.0 w.0
-  stolen t (steal.Job c share) a = let v : View N = searching_all 0 a.0 m.0 in let b = all_searched_on 0 a.0 m.0 in let x : ℕ = get_or a.0 a.1 0 in let u : View N = stealing (40 + 8 * a.1) x a.2 v in
-      subst (AfterSteal t (steal.Job c share) m.0) (sym a.5) (onward_then m.0 v u b.0 (stole_on (40 + 8 * a.1) x a.2 v), b.1, ((may.0.0, b.0.standing ∙ may.0.1), ap (λ (k : ℕ). Some k) (sym a.7)), (a.8 ∙ ap (λ (k : ℕ). k + 1) a.7, a.9))
+  stolen t (steal.Job c share) a = let v : View N = searching_all 0 a.0 m.0 in let b = all_searched_on 0 a.0 m.0 in let x : ℕ = get_or a.0 a.1 0 in let u : View N = stealing (range_at a.1) x a.2 v in
+      subst (AfterSteal t (steal.Job c share) m.0) (sym a.5) (onward_then m.0 v u b.0 (stole_on (range_at a.1) x a.2 v), b.1, ((may.0.0, b.0.standing ∙ may.0.1), ap (λ (k : ℕ). Some k) (sym a.7)), (a.8 ∙ ap (λ (k : ℕ). k + 1) a.7, a.9))
   stolen t steal.Nothing a = let b = all_searched_on 0 a.0 m.0 in subst (AfterSteal t steal.Nothing m.0) (sym (ap (λ z. z.0) a.3)) (
     b.0,
     b.1,
@@ -171,13 +157,13 @@ module _ {S N : Type 0} (D : Discipline S N) (m w : Me S (View N)) (may : MayCla
     may_still 0 a.0 m.0 may,
     (λ i lt. let len = a.1 in let same : 0 + i ≡ i = omega arith in subst (λ (j : ℕ). IsListed j (searching_all 0 a.0 m.0).known.emptied) same (all_listed may.1.0 0 a.0 m.0 may.1.1 (λ j l. a.2 j (omega arith)) i (omega arith))),
   )
-  stolen t steal.Again a = let v : View N = searching_all 0 a.0 m.0 in let b = all_searched_on 0 a.0 m.0 in let u : View N = missing (40 + 8 * a.1) a.2 v in
-      subst (AfterSteal t steal.Again m.0) (sym (ap (λ z. z.0) a.5)) (onward_then m.0 v u b.0 (missed_on (40 + 8 * a.1) a.2 v), b.1, b.2, may_still 0 a.0 m.0 may)
+  stolen t steal.Again a = let v : View N = searching_all 0 a.0 m.0 in let b = all_searched_on 0 a.0 m.0 in let u : View N = missing (range_at a.1) a.2 v in
+      subst (AfterSteal t steal.Again m.0) (sym (ap (λ z. z.0) a.5)) (onward_then m.0 v u b.0 (missed_on (range_at a.1) a.2 v), b.1, b.2, may_still 0 a.0 m.0 may)
 
 -- A number of a share has begun, and the share that is left is the seat's.
 pub share_next : {S N : Type 0} (D : Discipline S N) (m w : Me S (View N)) (i k : ℕ) (share left : Span) → MayBegin m.0 → IsItsShare share m.0 → SharedBy D i share (Some k) left m w → Onward m.0 w.0 × SeesAsBefore m.0 w.0 × MayFinish k w.0 × IsItsShare left w.0
 share_next {N = N} D m w i k share left may own a = let word : ℕ = range_word (k + 1) share.to in let is : k ≡ m.0.from = a.3 ∙ own.0 in
-    subst (λ (u : View N). Onward m.0 u × SeesAsBefore m.0 u × MayFinish k u × IsItsShare left u) (sym a.1) (shared_on (40 + 8 * i) word a.0 m.0, refl, (may.0, ap (λ (j : ℕ). Some j) (sym is)), (a.5 ∙ ap (λ (j : ℕ). j + 1) is, a.6 ∙ own.1))
+    subst (λ (u : View N). Onward m.0 u × SeesAsBefore m.0 u × MayFinish k u × IsItsShare left u) (sym a.1) (shared_on (range_at i) word a.0 m.0, refl, (may.0, ap (λ (j : ℕ). Some j) (sym is)), (a.5 ∙ ap (λ (j : ℕ). j + 1) is, a.6 ∙ own.1))
 
 -- A number has finished: the seat may begin the next of its share, and share and stop are as before.
 pub finish_done : {S N : Type 0} (D : Discipline S N) (m w : Me S (View N)) (k : ℕ) → MayFinish k m.0 → FinishedBy D m w → Onward m.0 w.0 × SeesAsBefore m.0 w.0 × SharesAsBefore m.0 w.0 × (w.0.claim ≡ None)
@@ -194,15 +180,15 @@ stop_done {N = N} m w a = subst (λ (u : View N). Onward m.0 u × (u.known.seen_
 
 -- A share is back, or else the seat may try again.
 pub share_put : {S N : Type 0} (m w : Me S (View N)) (i : ℕ) (r : PutBack) (share left : Span) → MayPutBack m.0 → IsItsShare share m.0 → PutBy i r share left m w → Onward m.0 w.0 × MayPutBack w.0 × IsItsShare left w.0 × (r ≡ back.Put → left.from ≡ left.to)
-share_put {N = N} m w i back.Put share left may own a = let v : View N = searching i a.0 m.0 in let u : View N = putting (40 + 8 * i) a.0 v in
-    subst (λ (z : View N). Onward m.0 z × MayPutBack z × IsItsShare left z × (back.Put ≡ back.Put → left.from ≡ left.to)) (sym (ap (λ z. z.0) a.1)) (onward_then m.0 v u (searched_on i a.0 m.0) (put_on (40 + 8 * i) a.0 v), may, (a.3 ∙ own.1, a.4 ∙ own.1), λ _. a.3 ∙ sym a.4)
+share_put {N = N} m w i back.Put share left may own a = let v : View N = searching i a.0 m.0 in let u : View N = putting_back (range_at i) a.0 v in
+    subst (λ (z : View N). Onward m.0 z × MayPutBack z × IsItsShare left z × (back.Put ≡ back.Put → left.from ≡ left.to)) (sym (ap (λ z. z.0) a.1)) (onward_then m.0 v u (searched_on i a.0 m.0) (put_on (range_at i) a.0 v), may, (a.3 ∙ own.1, a.4 ∙ own.1), λ _. a.3 ∙ sym a.4)
 share_put {N = N} m w i back.Occupied share left may own a = subst (λ (z : View N). Onward m.0 z × MayPutBack z × IsItsShare left z × (back.Occupied ≡ back.Put → left.from ≡ left.to)) (sym (ap (λ z. z.0) a.1))
     (searched_on i a.0 m.0, may, subst (λ (z : Span). IsItsShare z m.0) (sym a.3) own, λ e. absurd cc)
 share_put {N = N} m w i back.Again share left may own a = let v : View N = searching i a.0 m.0 in subst (λ (z : View N). Onward m.0 z × MayPutBack z × IsItsShare left z × (back.Again ≡ back.Put → left.from ≡ left.to)) (sym (ap (λ z. z.0) a.2))
-    (onward_then m.0 v (missing (40 + 8 * i) a.1 v) (searched_on i a.0 m.0) (missed_on (40 + 8 * i) a.1 v), may, subst (λ (z : Span). IsItsShare z m.0) (sym a.4) own, λ e. absurd cc)
+    (onward_then m.0 v (missing (range_at i) a.1 v) (searched_on i a.0 m.0) (missed_on (range_at i) a.1 v), may, subst (λ (z : Span). IsItsShare z m.0) (sym a.4) own, λ e. absurd cc)
 
 -- What is left was read.
-pub left_seen : {S N : Type 0} (m w : Me S (View N)) (t i found : ℕ) → i ≤ t → LeftOver t i found m w → Onward m.0 w.0 × SeesAsBefore m.0 w.0 × SharesAsBefore m.0 w.0 × (w.0.claim ≡ m.0.claim)
+pub left_seen : {S N : Type 0} (m w : Me S (View N)) (t i found : ℕ) → i ≤ t → LeftOverBy t i found m w → Onward m.0 w.0 × SeesAsBefore m.0 w.0 × SharesAsBefore m.0 w.0 × (w.0.claim ≡ m.0.claim)
 left_seen {N = N} m w t i found le a = let P : View N → Type 0 = λ u. Onward m.0 u × SeesAsBefore m.0 u × SharesAsBefore m.0 u × (u.claim ≡ m.0.claim) in
     dite (ℕ_discrete i t) (λ here. subst P (sym (ap (λ z. z.0) (a.1 here))) (rest_on found m.0, refl, (refl, refl), refl)) (λ apart. subst P (sym (ap (λ z. z.0) (a.0 (omega arith)))) (searched_on i found m.0, refl, (refl, refl), refl))
 
@@ -220,8 +206,8 @@ may_arrive n b v a idle empty done = ((a.inside.0, a.inside.1, idle, empty), don
 
 -- after `fill` the same number may be published, and nothing was
 pub filled_round : {S N : Type 0} (D : Discipline S N) (t n q : ℕ) (v w : View N) → v.standing ≡ Inside q → v.known.unpublished ≡ true → D.may_publish q n v.board → FilledBy t n v w → MayPublish D t n w × (published_of w.trail ≡ published_of v.trail) × (w.claim ≡ v.claim) × SharesAsBefore v w × (w.standing ≡ Inside q)
-filled_round {N = N} D t n q v w inside_q alone may f = subst (λ (u : View N). MayPublish D t n u × (published_of u.trail ≡ published_of v.trail) × (u.claim ≡ v.claim) × SharesAsBefore v u × (u.standing ≡ Inside q)) (sym f.2)
-    ((q, inside_q, alone, f.3, may), shown_more f.1 v.trail f.4, refl, (refl, refl), inside_q)
+filled_round {N = N} D t n q v w inside_q alone may f = subst (λ (u : View N). MayPublish D t n u × (published_of u.trail ≡ published_of v.trail) × (u.claim ≡ v.claim) × SharesAsBefore v u × (u.standing ≡ Inside q)) (sym f.0)
+    ((q, inside_q, alone, filled_stands t n v.known.stored (3 + t), may), filled_quiet t n v.trail (3 + t), refl, (refl, refl), inside_q)
 
 -- a published round is the leader's work, and stands in its trail
 pub round_published : {S N : Type 0} (m w : Me S (View N)) (q n : ℕ) (b : Bool) → m.0.standing ≡ Inside q → w ≡ (publishing b n m.0, m.1) → AtWork n b w.0 × (w.0.known.seen_stop ≡ false) × (w.0.claim ≡ m.0.claim) × SharesAsBefore m.0 w.0 × (published_of w.0.trail ≡ Showed q n b ∷ published_of m.0.trail)
@@ -238,10 +224,10 @@ claims_on v u w may claim job done = claims_again v w may (onward_then v u w cla
 
 -- the published word tells a member the number
 pub number_learned : {S N : Type 0} (m w : Me S (View N)) (q found : ℕ) → m.0.standing ≡ Inside q → w ≡ (learning found m.0, m.1) → found ≢ 0
-    → AtWork (found % 4294967296) (nat_lt 4294967295 found) w.0 × (found ≤ 4294967295 → w.0.known.seen_stop ≡ false) × (w.0.claim ≡ m.0.claim) × SharesAsBefore m.0 w.0 × (published_of w.0.trail ≡ published_of m.0.trail)
-number_learned {N = N} m w q found inside_q a some = subst (λ (u : View N). AtWork (found % 4294967296) (nat_lt 4294967295 found) u × (found ≤ 4294967295 → u.known.seen_stop ≡ false) × (u.claim ≡ m.0.claim) × SharesAsBefore m.0 u × (published_of u.trail ≡ published_of m.0.trail)) (sym (ap (λ z. z.0) a)) (
-  record { inside = (q, inside_q); number = by_equal found 0 (λ b. (if b then None else Some (found % 4294967296)) ≡ Some (found % 4294967296)) (λ z. absurd (some z)) (λ _. refl); may_stop = refl },
-  (λ few. by_less 4294967295 found (λ b. (if b then m.0.known.seen_stop else false) ≡ false) (λ lt. absurd (omega arith)) (λ _. refl)),
+    → AtWork (found % high_half) (nat_lt most_jobs found) w.0 × (found ≤ most_jobs → w.0.known.seen_stop ≡ false) × (w.0.claim ≡ m.0.claim) × SharesAsBefore m.0 w.0 × (published_of w.0.trail ≡ published_of m.0.trail)
+number_learned {N = N} m w q found inside_q a some = subst (λ (u : View N). AtWork (found % high_half) (nat_lt most_jobs found) u × (found ≤ most_jobs → u.known.seen_stop ≡ false) × (u.claim ≡ m.0.claim) × SharesAsBefore m.0 u × (published_of u.trail ≡ published_of m.0.trail)) (sym (ap (λ z. z.0) a)) (
+  record { inside = (q, inside_q); number = by_equal found 0 (λ b. (if b then None else Some (found % high_half)) ≡ Some (found % high_half)) (λ z. absurd (some z)) (λ _. refl); may_stop = refl },
+  (λ few. by_less most_jobs found (λ b. (if b then m.0.known.seen_stop else false) ≡ false) (λ lt. absurd (omega arith)) (λ _. refl)),
   refl,
   (refl, refl),
   refl,

@@ -19,9 +19,11 @@ use Rattle.spindle_rounds.specs.declared.round_table.view.Standing.TheVariants.{
 use Rattle.spindle_rounds.specs.declared.round_table.view.Kind.{Kind}
 use Rattle.spindle_rounds.specs.declared.round_table.view.View.{View}
 use prog.Atomic.{either}
-use Rattle.spindle_rounds.specs.RoundSteps.{noted, missing, Turns, Exchanges, Begun}
+use Rattle.spindle_rounds.specs.Words.{barrier_at, finished_at, remainder_at, range_at, high_half}
+use Rattle.spindle_rounds.specs.RoundSteps.{noted, missing}
+use Rattle.spindle_rounds.specs.RoundTells.{Turns, Exchanges, Begun}
 use Rattle.spindle_rounds.specs.RoundSlots.{Discipline, Lawful, SameSlots}
-use Rattle.spindle_rounds.specs.RoundRule.{deed, deeds, deeds_of, Stands, Knows, Shows, IsShare, InRange, InRest, IsLeft, Words, ShownBy, Shown, home_of, Laid, StandsFor, stored_at}
+use Rattle.spindle_rounds.specs.RoundRule.{deed, deeds, deeds_of, Stands, Knows, Shows, IsShare, InRange, InRemainder, IsLeft, Words, ShownBy, Shown, home_of, Laid, StandsFor, stored_at}
 use Rattle.spindle_rounds.specs.RoundRuns.{Adds, Exchange}
 use Rattle.spindle_rounds.proofs.RoundQuiet.{AllQuiet, quiet_run}
 
@@ -113,13 +115,13 @@ nobody_run p q other (e ∷ es) run all ok h = let r = nobody_run p q other es r
     (same.0, same.1, ap (λ (b : Bool). (if b then deed s e else []) ++ deeds q (es ++ run)) none_here ∙ r.2)
 
 -- the numbers of a round that were not begun, where its numbers stay and the words do
-pub stands_on : (t : ℕ) (r r' : Round) (ws ws' : List ℕ) → r'.jobs ≡ r.jobs → ((k : ℕ) → times k r'.begun ≡ times k r.begun) → ((i : ℕ) → 32 ≤ i → get_or ws' i 0 ≡ get_or ws i 0) → StandsFor t r ws → StandsFor t r' ws'
+pub stands_on : (t : ℕ) (r r' : Round) (ws ws' : List ℕ) → r'.jobs ≡ r.jobs → ((k : ℕ) → times k r'.begun ≡ times k r.begun) → ((i : ℕ) → remainder_at ≤ i → get_or ws' i 0 ≡ get_or ws i 0) → StandsFor t r ws → StandsFor t r' ws'
 stands_on t r r' ws ws' jobs begun same h k = let b = begun k in subst (λ (n : ℕ). (((k < n) × (times k r'.begun ≡ 0)) → IsLeft t ws' n k) × (IsLeft t ws' n k → (k < n) × (times k r'.begun ≡ 0))) (sym jobs)
     ((λ e. moved ws ws' (λ i le. sym (same i le)) ((h k).0 (e.0, sym b ∙ e.1))), (λ l. let e = (h k).1 (moved ws' ws same l) in (e.0, b ∙ e.1)))
   where
-    moved : (xs ys : List ℕ) → ((i : ℕ) → 32 ≤ i → get_or xs i 0 ≡ get_or ys i 0) → IsLeft t xs r.jobs k → IsLeft t ys r.jobs k
-    moved xs ys e = ⊎_elim (λ (z : (i : ℕ) × (i < t) × InRange xs i k). inl (z.0, z.1, subst (λ (x : ℕ). (x % 4294967296 ≤ k) × (k < x / 4294967296)) (e (40 + 8 * z.0) (omega arith)) z.2))
-        (λ (z : InRest xs r.jobs k). inr (subst (λ (x : ℕ). (r.jobs ≤ k + x) × (k < r.jobs)) (e 32 (omega arith)) z))
+    moved : (xs ys : List ℕ) → ((i : ℕ) → remainder_at ≤ i → get_or xs i 0 ≡ get_or ys i 0) → IsLeft t xs r.jobs k → IsLeft t ys r.jobs k
+    moved xs ys e = ⊎_elim (λ (z : (i : ℕ) × (i < t) × InRange xs i k). inl (z.0, z.1, subst (λ (x : ℕ). (x % high_half ≤ k) × (k < x / high_half)) (e (range_at z.0) (omega arith)) z.2))
+        (λ (z : InRemainder xs r.jobs k). inr (subst (λ (x : ℕ). (r.jobs ≤ k + x) × (k < r.jobs)) (e 32 (omega arith)) z))
 
 module _ {X N : Type 0} (D : Discipline X N) (t : ℕ) where
   abbrev pub Rule : List Event → table.State X (View N) → Type 0
@@ -152,7 +154,7 @@ module _ {X N : Type 0} (D : Discipline X N) (t : ℕ) where
   pub still_laid : (run : List Event) (s : table.State X (View N)) (r : Rule run s) (i x id : ℕ) (me : SeatOf) (w : View N) (new : List Event) → get_elem? s.views id ≡ some me.0
       → ((w.known.stored ≡ []) ⊎ (w.known.stored ≡ me.0.known.stored)) → w.laid ≡ me.0.laid → (state (new ++ run)).published ≡ (state run).published
       → ((state run).published ≢ None → (state (new ++ run)).round ≡ (state run).round)
-      → ((i < 16) × ((q : ℕ) → ((state (new ++ run)).rounds q).jobs ≡ ((state run).rounds q).jobs) × ((q k : ℕ) → times k ((state (new ++ run)).rounds q).begun ≡ times k ((state run).rounds q).begun)) ⊎ ((state run).published ≢ None)
+      → ((i < finished_at) × ((q : ℕ) → ((state (new ++ run)).rounds q).jobs ≡ ((state run).rounds q).jobs) × ((q k : ℕ) → times k ((state (new ++ run)).rounds q).begun ≡ times k ((state run).rounds q).begun)) ⊎ ((state run).published ≢ None)
       → (v : View N) → get_elem? (set s.views id w) 0 ≡ some v → Laid t (state (new ++ run)) (set s.words i x) v
   still_laid run s r i x id me w new at stored laid published round where_it_is v e = ⊎_elim
       (λ (h : (0 ≡ id) × (w ≡ v)). let l = r.lays me.0 (subst (λ (z : ℕ). get_elem? s.views z ≡ some me.0) (sym h.0) at) in subst (Laid t (state (new ++ run)) (set s.words i x)) h.1 (on me.0 w l stored laid))
@@ -167,13 +169,13 @@ module _ {X N : Type 0} (D : Discipline X N) (t : ℕ) where
       on : (u u' : View N) → Laid t S s.words u → (u'.known.stored ≡ []) ⊎ (u'.known.stored ≡ u.known.stored) → u'.laid ≡ u.laid → Laid t S' (set s.words i x) u'
       on u u' l st la = record {
         stored = λ j y e. ⊎_elim (λ (z : u'.known.stored ≡ []). let n = ap (λ (a : List (ℕ × ℕ)). stored_at a j) z in absurd cc) (λ (z : u'.known.stored ≡ u.known.stored). ⊎_elim
-            (λ (low : (i < 16) × ((q : ℕ) → (S'.rounds q).jobs ≡ (S.rounds q).jobs) × ((q k : ℕ) → times k (S'.rounds q).begun ≡ times k (S.rounds q).begun)).
+            (λ (low : (i < finished_at) × ((q : ℕ) → (S'.rounds q).jobs ≡ (S.rounds q).jobs) × ((q k : ℕ) → times k (S'.rounds q).begun ≡ times k (S.rounds q).begun)).
             let old = l.stored j y (sym (ap (λ (a : List (ℕ × ℕ)). stored_at a j) z) ∙ e) in let lt = low.0 in let le = old.0 in (old.0, get_or-set_other s.words i j x 0 (λ b. omega arith) ∙ old.1))
             (λ is. let none_stored = z ∙ l.unstored is in let n = ap (λ (a : List (ℕ × ℕ)). stored_at a j) none_stored in absurd cc) where_it_is) st;
         unstored = λ is. ⊎_elim (λ z. z) (λ z. z ∙ l.unstored (λ n. is (published ∙ n))) st;
         current = λ is. la ∙ (l.current (λ n. is (published ∙ n)) ∙ ap (λ (z : ℕ). Some z) (sym (round (λ n. is (published ∙ n)))));
         left = λ q e hid. ⊎_elim
-            (λ (low : (i < 16) × ((q : ℕ) → (S'.rounds q).jobs ≡ (S.rounds q).jobs) × ((q k : ℕ) → times k (S'.rounds q).begun ≡ times k (S.rounds q).begun)). let lt = low.0 in stands_on t (S.rounds q) (S'.rounds q) s.words (set s.words i x) (low.1 q) (low.2 q) (λ j le. get_or-set_other s.words i j x 0 (λ z. omega arith)) (l.left q (sym la ∙ e) (sym published ∙ hid)))
+            (λ (low : (i < finished_at) × ((q : ℕ) → (S'.rounds q).jobs ≡ (S.rounds q).jobs) × ((q k : ℕ) → times k (S'.rounds q).begun ≡ times k (S.rounds q).begun)). let lt = low.0 in stands_on t (S.rounds q) (S'.rounds q) s.words (set s.words i x) (low.1 q) (low.2 q) (λ j le. get_or-set_other s.words i j x 0 (λ z. omega arith)) (l.left q (sym la ∙ e) (sym published ∙ hid)))
             (λ is. absurd (is (sym published ∙ hid))) where_it_is;
       }
 
@@ -181,18 +183,18 @@ module _ {X N : Type 0} (D : Discipline X N) (law : Lawful D) (t : ℕ) where
   -- a step at which no number begins, finishes or is published, and nothing is cleared
   pub moves : (run : List Event) (s : table.State X (View N)) (r : Rule D t run s) (i x id : ℕ) (me : SeatOf D t) (w : View N) (new : List Event) → get_elem? s.views id ≡ some me.0 → AllBy id new → AllQuiet new → SameSlots me.0 w → IsRun (new ++ run)
       → Words t (state (new ++ run)) (set s.words i x) → Shows (state (new ++ run)) id w → deeds_of w.trail ≡ deeds id (new ++ run) → w.threads ≡ me.0.threads
-      → ((w.known.stored ≡ []) ⊎ (w.known.stored ≡ me.0.known.stored)) → w.laid ≡ me.0.laid → (state (new ++ run)).published ≡ (state run).published → (i < 16) ⊎ ((state run).published ≢ None) → Rule D t (new ++ run) (stepped s i x id me.1 w keeps)
+      → ((w.known.stored ≡ []) ⊎ (w.known.stored ≡ me.0.known.stored)) → w.laid ≡ me.0.laid → (state (new ++ run)).published ≡ (state run).published → (i < finished_at) ⊎ ((state run).published ≢ None) → Rule D t (new ++ run) (stepped s i x id me.1 w keeps)
   moves run s r i x id me w new at all quiets slots ok words mine worked same_threads stored laid published where_it_is = let q = quiet_run new run quiets ok in
       moves_with D t run s r i x id me w keeps new at all ok words mine worked same_threads
-      (still_laid D t run s r i x id me w new at stored laid published (λ is. let z = some_of (state run).published is in (q.published z.0 (published ∙ z.1)).1) (⊎_elim (λ (low : i < 16). inl (low, q.jobs, q.begun)) inr where_it_is))
+      (still_laid D t run s r i x id me w new at stored laid published (λ is. let z = some_of (state run).published is in (q.published z.0 (published ∙ z.1)).1) (⊎_elim (λ (low : i < finished_at). inl (low, q.jobs, q.begun)) inr where_it_is))
       (law.stays (state run) (state (new ++ run)) s.homes s.views id me.0 w r.slots q at slots)
 
   -- a step that leaves the word, and no event
   pub stays : (run : List Event) (s : table.State X (View N)) (r : Rule D t run s) (i id : ℕ) (me : SeatOf D t) (w : View N) → get_elem? s.views id ≡ some me.0 → SameSlots me.0 w → Shows (state run) id w → deeds_of w.trail ≡ deeds_of me.0.trail → w.threads ≡ me.0.threads
       → ((w.known.stored ≡ []) ⊎ (w.known.stored ≡ me.0.known.stored)) → w.laid ≡ me.0.laid → Rule D t run (stepped s i (get_or s.words i 0) id me.1 w keeps)
   stays run s r i id me w at slots mine same same_threads stored laid = let here = set-get_or s.words i 0 in
-      subst (λ (ws : List ℕ). Rule D t run record { words = ws; homes = s.homes; views = set s.views id w }) (sym here) (subst (λ (ws : List ℕ). Rule D t run record { words = ws; homes = s.homes; views = set s.views id w }) (set-get_or s.words 0 0)
-      (moves run s r 0 (get_or s.words 0 0) id me w [] at tt tt slots r.is_run (subst (Words t (state run)) (sym (set-get_or s.words 0 0)) r.words) mine (same ∙ (r.seats id me.0 at).1) same_threads stored laid refl (inl (omega arith))))
+      subst (λ (ws : List ℕ). Rule D t run record { words = ws; homes = s.homes; views = set s.views id w }) (sym here) (subst (λ (ws : List ℕ). Rule D t run record { words = ws; homes = s.homes; views = set s.views id w }) (set-get_or s.words barrier_at 0)
+      (moves run s r 0 (get_or s.words barrier_at 0) id me w [] at tt tt slots r.is_run (subst (Words t (state run)) (sym (set-get_or s.words barrier_at 0)) r.words) mine (same ∙ (r.seats id me.0 at).1) same_threads stored laid refl (inl (omega arith))))
 
 -- one step more in the trail
 pub noted_shows : {N : Type 0} (s : State) (p : ℕ) (v : View N) (x : Trace Kind) → Shows s p v → Shows s p (noted x v)

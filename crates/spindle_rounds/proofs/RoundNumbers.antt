@@ -9,8 +9,9 @@ use Rattle.spindle_parts.specs.BarrierWord.{word}
 use Rattle.spindle_parts.proofs.Parties.{put_here, put_else, put_all, look_here, look_else, times_same, times_else}
 use Rattle.spindle_parts.proofs.Soundness.{Sound, sound, run_once}
 use Rattle.spindle_rounds.specs.RoundSlots.{Begins}
-use Rattle.spindle_rounds.specs.RoundRule.{Counters, InRange, InRest, IsWithin, Words, number_of}
+use Rattle.spindle_rounds.specs.RoundRule.{Counters, InRange, InRemainder, IsWithin, Words, number_of}
 use Rattle.spindle_rounds.proofs.RoundWords.{counts_stay, word_stays}
+use Rattle.spindle_rounds.specs.Words.{barrier_at, published_at, finished_at, stopped_at, remainder_at, range_at, start_of, end_of}
 
 pub or_false : (a b : Bool) → b ≡ false → (a || b) ≡ a
 or_false true b e = refl
@@ -74,45 +75,50 @@ module _ (S : State) (id k : ℕ) (some : ℕ → Bool) (mine : some k ≡ true)
       (counts_stay weight_member refl (λ x y e. ap is_member e) taken_first.parties id (record (party taken_first id) { running = Some k; taken = put (party taken_first id).taken k false }) refl ∙ counts_stay weight_member refl (λ x y e. ap is_member e) S.parties id with_some refl)
 
   -- the word i of the counters becomes x
-  pub last_words : (t : ℕ) (ws : List ℕ) (i x : ℕ) → 32 ≤ i → Words t S ws → ((n : ℕ) → S.published ≡ Some n → Counters t then_begun (set ws i x) n) → Words t then_begun (set ws i x)
-  last_words t ws i x high w counters = let other : (j : ℕ) → j < 32 → get_or (set ws i x) j 0 ≡ get_or ws j 0 = (λ j lt. get_or-set_other ws i j x 0 (λ e. omega arith)) in record {
+  pub last_words : (t : ℕ) (ws : List ℕ) (i x : ℕ) → remainder_at ≤ i → Words t S ws → ((n : ℕ) → S.published ≡ Some n → Counters t then_begun (set ws i x) n) → Words t then_begun (set ws i x)
+  last_words t ws i x high w counters = let other : (j : ℕ) → j < remainder_at → get_or (set ws i x) j 0 ≡ get_or ws j 0 = (λ j lt. get_or-set_other ws i j x 0 (λ e. omega arith)) in record {
     wide = length-set ws i x ∙ w.wide;
-    barrier = other 0 (omega arith) ∙ (w.barrier ∙ same_word);
-    published = other 8 (omega arith) ∙ (w.published ∙ sym (ap (λ (z : Round). number_of S.published z.stoppable) last_round));
-    finished = λ some. other 16 (omega arith) ∙ (w.finished some ∙ sym (ap (λ (z : Round). length z.finished) last_round));
-    stopped = λ some. let e = ap (λ (z : Round). z.stopped) last_round in ((λ on. other 24 (omega arith) ∙ (w.stopped some).0 (sym e ∙ on)), (λ on. other 24 (omega arith) ∙ (w.stopped some).1 (sym e ∙ on)));
+    barrier = other barrier_at (omega arith) ∙ (w.barrier ∙ same_word);
+    published = other published_at (omega arith) ∙ (w.published ∙ sym (ap (λ (z : Round). number_of S.published z.stoppable) last_round));
+    finished = λ some. other finished_at (omega arith) ∙ (w.finished some ∙ sym (ap (λ (z : Round). length z.finished) last_round));
+    stopped = λ some. let e = ap (λ (z : Round). z.stopped) last_round in ((λ on. other stopped_at (omega arith) ∙ (w.stopped some).0 (sym e ∙ on)), (λ on. other stopped_at (omega arith) ∙ (w.stopped some).1 (sym e ∙ on)));
     counters = counters;
     barren = w.barren;
   }
 
   -- the counters lose exactly the numbers taken
-  pub taken_counters : (t n : ℕ) (ws ws' : List ℕ) → Counters t S ws n → ((i j : ℕ) → i < t → InRange ws' i j → InRange ws i j × (some j ≡ false)) → ((j : ℕ) → InRest ws' n j → InRest ws n j × (some j ≡ false))
-      → ((i j : ℕ) → i < t → some j ≡ false → InRange ws i j → InRange ws' i j) → ((j : ℕ) → some j ≡ false → InRest ws n j → InRest ws' n j) → get_or ws' 32 0 ≤ get_or ws 32 0 → Counters t then_begun ws' n
-  taken_counters t n ws ws' c shrinks rest_shrinks grows rest_grows few = record {
-    free = λ j f. let b = was_free j f in ⊎_elim (λ (z : (i : ℕ) × (i < t) × InRange ws i j). inl (z.0, z.1, grows z.0 j z.1 b.0 z.2)) (λ (z : InRest ws n j). inr (rest_grows j b.0 z)) (c.free j b.1);
+  pub taken_counters : (t n : ℕ) (ws ws' : List ℕ) → Counters t S ws n → ((i j : ℕ) → i < t → InRange ws' i j → InRange ws i j × (some j ≡ false)) → ((j : ℕ) → InRemainder ws' n j → InRemainder ws n j × (some j ≡ false))
+      → ((i j : ℕ) → i < t → some j ≡ false → InRange ws i j → InRange ws' i j) → ((j : ℕ) → some j ≡ false → InRemainder ws n j → InRemainder ws' n j) → get_or ws' remainder_at 0 ≤ get_or ws remainder_at 0
+      → ((i : ℕ) → i < t → start_of (get_or ws' (range_at i) 0) ≤ end_of (get_or ws' (range_at i) 0)) → Counters t then_begun ws' n
+  taken_counters t n ws ws' c shrinks rest_shrinks grows rest_grows few ordered = record {
+    free = λ j f. let b = was_free j f in ⊎_elim (λ (z : (i : ℕ) × (i < t) × InRange ws i j). inl (z.0, z.1, grows z.0 j z.1 b.0 z.2)) (λ (z : InRemainder ws n j). inr (rest_grows j b.0 z)) (c.free j b.1);
     ranges = λ i j lt z. let b = shrinks i j lt z in still_free j b.1 (c.ranges i j lt b.0);
-    rest = λ j z. let b = rest_shrinks j z in still_free j b.1 (c.rest j b.0);
+    remainder = λ j z. let b = rest_shrinks j z in still_free j b.1 (c.remainder j b.0);
     few = let a = c.few in omega arith;
     home = λ st i j lt z. c.home (sym (ap (λ (y : Round). y.stopped) last_round) ∙ st) i j lt (shrinks i j lt z).0;
     apart = λ a b j x y z w. c.apart a b j x y (shrinks a j x z).0 (shrinks b j y w).0;
-    rest_apart = λ a j x z w. c.rest_apart a j x (shrinks a j x z).0 (rest_shrinks j w).0;
+    remainder_apart = λ a j x z w. c.remainder_apart a j x (shrinks a j x z).0 (rest_shrinks j w).0;
+    ordered = ordered;
   }
 
   -- a range loses them
-  pub range_taken : (t n i old new : ℕ) (ws : List ℕ) → Counters t S ws n → i < t → 40 + 8 * i < length ws → get_or ws (40 + 8 * i) 0 ≡ old → ((j : ℕ) → some j ≡ true → IsWithin old j) → ((j : ℕ) → IsWithin new j → IsWithin old j × (some j ≡ false)) → ((j : ℕ) → some j ≡ false → IsWithin old j → IsWithin new j)
-      → Counters t then_begun (set ws (40 + 8 * i) new) n
-  range_taken t n i old new ws c low deep is all less more = let ws' : List ℕ = set ws (40 + 8 * i) new in let rest_same : get_or ws' 32 0 ≡ get_or ws 32 0 = get_or-set_other ws (40 + 8 * i) 32 new 0 (λ e. omega arith) in
+  pub range_taken : (t n i old new : ℕ) (ws : List ℕ) → Counters t S ws n → i < t → range_at i < length ws → get_or ws (range_at i) 0 ≡ old → ((j : ℕ) → some j ≡ true → IsWithin old j) → ((j : ℕ) → IsWithin new j → IsWithin old j × (some j ≡ false)) → ((j : ℕ) → some j ≡ false → IsWithin old j → IsWithin new j)
+      → start_of new ≤ end_of new → Counters t then_begun (set ws (range_at i) new) n
+  range_taken t n i old new ws c low deep is all less more tidy = let ws' : List ℕ = set ws (range_at i) new in let rest_same : get_or ws' remainder_at 0 ≡ get_or ws remainder_at 0 = get_or-set_other ws (range_at i) remainder_at new 0 (λ e. omega arith) in
       let none : (j : ℕ) → (some j ≡ true → ⊥) → some j ≡ false = (λ j n. ⊎_elim (λ e. absurd (n e)) (λ e. e) (true_or (some j))) in
       taken_counters t n ws ws' c
       (λ a j lt z. dite (ℕ_discrete a i)
-      (λ e. let now_is = ap (λ (b : ℕ). get_or ws' (40 + 8 * b) 0) e ∙ get_or-set_same ws (40 + 8 * i) new 0 deep in let b = less j (subst (λ (w : ℕ). IsWithin w j) now_is z) in (subst (λ (w : ℕ). IsWithin w j) (sym (ap (λ (b : ℕ). get_or ws (40 + 8 * b) 0) e ∙ is)) b.0, b.1))
-      (λ other. let z' : InRange ws a j = subst (λ (w : ℕ). IsWithin w j) (get_or-set_other ws (40 + 8 * i) (40 + 8 * a) new 0 (λ e. other (omega arith))) z in
+      (λ e. let now_is = ap (λ (b : ℕ). get_or ws' (range_at b) 0) e ∙ get_or-set_same ws (range_at i) new 0 deep in let b = less j (subst (λ (w : ℕ). IsWithin w j) now_is z) in (subst (λ (w : ℕ). IsWithin w j) (sym (ap (λ (b : ℕ). get_or ws (range_at b) 0) e ∙ is)) b.0, b.1))
+      (λ other. let z' : InRange ws a j = subst (λ (w : ℕ). IsWithin w j) (get_or-set_other ws (range_at i) (range_at a) new 0 (λ e. other (omega arith))) z in
       (z', none j (λ e. other (c.apart a i j lt low z' (subst (λ (w : ℕ). IsWithin w j) (sym is) (all j e)))))))
-      (λ j z. let z₀ = z.0 in let z' : InRest ws n j = (omega arith, z.1) in (z', none j (λ e. c.rest_apart i j low (subst (λ (w : ℕ). IsWithin w j) (sym is) (all j e)) z')))
+      (λ j z. let z₀ = z.0 in let z' : InRemainder ws n j = (omega arith, z.1) in (z', none j (λ e. c.remainder_apart i j low (subst (λ (w : ℕ). IsWithin w j) (sym is) (all j e)) z')))
       (λ a j lt out z. dite (ℕ_discrete a i)
-      (λ e. subst (λ (w : ℕ). IsWithin w j) (sym (ap (λ (b : ℕ). get_or ws' (40 + 8 * b) 0) e ∙ get_or-set_same ws (40 + 8 * i) new 0 deep)) (more j out (subst (λ (w : ℕ). IsWithin w j) (ap (λ (b : ℕ). get_or ws (40 + 8 * b) 0) e ∙ is) z)))
-      (λ other. subst (λ (w : ℕ). IsWithin w j) (sym (get_or-set_other ws (40 + 8 * i) (40 + 8 * a) new 0 (λ e. other (omega arith)))) z))
+      (λ e. subst (λ (w : ℕ). IsWithin w j) (sym (ap (λ (b : ℕ). get_or ws' (range_at b) 0) e ∙ get_or-set_same ws (range_at i) new 0 deep)) (more j out (subst (λ (w : ℕ). IsWithin w j) (ap (λ (b : ℕ). get_or ws (range_at b) 0) e ∙ is) z)))
+      (λ other. subst (λ (w : ℕ). IsWithin w j) (sym (get_or-set_other ws (range_at i) (range_at a) new 0 (λ e. other (omega arith)))) z))
       (λ j out z. let z₀ = z.0 in (omega arith, z.1)) (omega arith)
+      (λ a lt. dite (ℕ_discrete a i)
+      (λ e. subst (λ (w : ℕ). start_of w ≤ end_of w) (sym (ap (λ (b : ℕ). get_or ws' (range_at b) 0) e ∙ get_or-set_same ws (range_at i) new 0 deep)) tidy)
+      (λ other. subst (λ (w : ℕ). start_of w ≤ end_of w) (sym (get_or-set_other ws (range_at i) (range_at a) new 0 (λ e. other (omega arith)))) (c.ordered a lt)))
 
   -- to the slots, k begins
   pub begun_here : (run : List Event) → S ≡ state run → IsRun run → (n : ℕ) → Free S k → S.published ≡ Some n → Begins S then_begun k

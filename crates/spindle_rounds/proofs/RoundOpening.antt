@@ -10,6 +10,7 @@ use Rattle.spindle_parts.specs.Runs.{state}
 use Rattle.spindle_rounds.specs.declared.round_table.view.View.{View}
 use Rattle.spindle_rounds.specs.RoundSlots.{Discipline, Lawful}
 use Rattle.spindle_rounds.specs.RoundRule.{Shows, Laid, deeds, deeds_of}
+use Rattle.spindle_rounds.specs.Words.{words_of}
 use Rattle.spindle_rounds.specs.RoundSteps.{outsider}
 use Rattle.spindle_rounds.proofs.RoundMoves.{Rule}
 
@@ -39,7 +40,7 @@ module _ {N : Type 0} where
   blank_laid t s ws leads hidden = record { stored = λ i x e. absurd cc; unstored = λ _. refl; current = λ is. absurd (is hidden); left = λ q e. absurd cc }
 
 module _ {X N : Type 0} (D : Discipline X N) (law : Lawful D) (t : ℕ) where
-  pub opens : (ws : List ℕ) (xs : List X) → length ws ≡ 40 + 16 * t → ((i : ℕ) → get_or ws i 0 ≡ 0) → D.starts xs → Rule D t [] (opening ws xs (outsider t true))
+  pub opens : (ws : List ℕ) (xs : List X) → length ws ≡ words_of t → ((i : ℕ) → get_or ws i 0 ≡ 0) → D.starts xs → Rule D t [] (opening ws xs (outsider t true))
   opens ws xs wide zeros starts = record {
     is_run = tt;
     words = record { wide = wide; barrier = zeros 0; published = zeros 8; finished = λ n. absurd (n refl); stopped = λ n. absurd (n refl); counters = λ n e. absurd cc; barren = λ _. refl };

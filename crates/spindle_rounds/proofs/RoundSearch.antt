@@ -5,7 +5,8 @@ use native.Mathlib.Decide.{ℕ_discrete}
 use Rattle.spindle_rounds.specs.declared.round_table.view.View.{View}
 use Rattle.spindle_rounds.specs.declared.round_table.view.Standing.TheVariants.{Inside}
 use Rattle.spindle_rounds.specs.RoundSlots.{Discipline}
-use Rattle.spindle_rounds.specs.RoundSteps.{searching, length_of, recalling, reading_rest, number_or}
+use Rattle.spindle_rounds.specs.Words.{high_half, length_of}
+use Rattle.spindle_rounds.specs.RoundSteps.{searching, reading_remainder, recalling, number_or}
 use Rattle.spindle_rounds.specs.RoundAnswers.{searching_all, IsBest}
 use Rattle.spindle_rounds.specs.RoundConditions.{MayClaim}
 
@@ -74,7 +75,7 @@ pub took_at : {S N : Type 0} (D : Discipline S N) (k k' : ℕ) (c c' d : List (�
 took_at {S = S} D k k' c c' d x same_number same_slots t = subst (λ (z : List (ℕ × S)). D.took k' z x d) same_slots (subst (λ (z : ℕ). D.took z c x d) same_number t)
 
 -- the remainder was read, and then the number, which the seat knew
-pub recalled_view : {N : Type 0} (rest found : ℕ) (v w u : View N) → MayClaim v → w ≡ reading_rest rest v → ((q n : ℕ) → w.standing ≡ Inside q → w.known.number ≡ Some n → (u ≡ recalling n w) × (found % 4294967296 ≡ n))
-    → (u ≡ recalling (number_or v.known.number) (reading_rest rest v)) × (found % 4294967296 ≡ number_or v.known.number)
+pub recalled_view : {N : Type 0} (rest found : ℕ) (v w u : View N) → MayClaim v → w ≡ reading_remainder rest v → ((q n : ℕ) → w.standing ≡ Inside q → w.known.number ≡ Some n → (u ≡ recalling n w) × (found % high_half ≡ n))
+    → (u ≡ recalling (number_or v.known.number) (reading_remainder rest v)) × (found % high_half ≡ number_or v.known.number)
 recalled_view {N = N} rest found v w u m read known = let is : number_or v.known.number ≡ m.1.0 = ap number_or m.1.1 in let k = known m.0.0 m.1.0 (ap (λ (z : View N). z.standing) read ∙ m.0.1) (ap (λ (z : View N). z.known.number) read ∙ m.1.1) in
     (k.0 ∙ (λ i. recalling (sym is i) (read i)), k.1 ∙ sym is)

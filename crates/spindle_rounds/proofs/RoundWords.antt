@@ -7,7 +7,8 @@ use Rattle.spindle_parts.specs.Steps.{with_status}
 use Rattle.spindle_parts.specs.BarrierWord.{word}
 use Rattle.spindle_parts.proofs.Parties.{look_here, look_else, total_put, inside_le_members}
 use Rattle.spindle_parts.proofs.Soundness.{Sound}
-use Rattle.spindle_rounds.specs.RoundRule.{Counters, InRange, InRest, Words, number_of}
+use Rattle.spindle_rounds.specs.RoundRule.{Counters, InRange, InRemainder, Words, number_of}
+use Rattle.spindle_rounds.specs.Words.{barrier_at, published_at, finished_at, stopped_at, remainder_at, range_at, field_size, one_member, sense_bit, high_half, start_of, end_of}
 
 -- where a test of two numbers decides
 pub by_less : (a b : ℕ) (P : Bool → Type 0) → (a < b → P true) → (b ≤ a → P false) → P (nat_lt a b)
@@ -18,12 +19,12 @@ by_equal a b P hit miss = dite (ℕ_discrete a b) (λ e. subst P (sym (eq-eqb a 
 
 -- the fields of the word
 pub record Fields (n a b c : ℕ) : Type 0 where
-  pub count : n % 32768 ≡ a
-  pub most : n / 65536 % 32768 ≡ b
-  pub sense : n / 2147483648 ≡ c
-  pub small : n < 4294967296
+  pub count : n % field_size ≡ a
+  pub most : n / one_member % field_size ≡ b
+  pub sense : n / sense_bit ≡ c
+  pub small : n < high_half
 
-pub fields : (n a b c : ℕ) → n ≡ a + 65536 * b + 2147483648 * c → a ≤ 32767 → b ≤ 32767 → c ≤ 1 → Fields n a b c
+pub fields : (n a b c : ℕ) → n ≡ a + one_member * b + sense_bit * c → a ≤ 32767 → b ≤ 32767 → c ≤ 1 → Fields n a b c
 fields n a b c e x y z = record { count = omega arith; most = omega arith; sense = omega arith; small = omega arith }
 
 -- what a state's word says
@@ -31,37 +32,38 @@ pub word_fields : (s : State) → Sound s → (n : ℕ) → n ≡ word s → Fie
 word_fields s h n e = let few = h.gate.few in let le = inside_le_members s.parties in let p : ℕ = s.round % 2 in let two : p ≤ 1 = omega arith in fields n (inside s.parties) (members s.parties) p e (omega arith) few two
 
 -- a step that leaves the counters' words, and what is free
-pub counters_stay : (t : ℕ) (s s' : State) (ws ws' : List ℕ) (n : ℕ) → get_or ws' 32 0 ≡ get_or ws 32 0 → ((i : ℕ) → i < t → get_or ws' (40 + 8 * i) 0 ≡ get_or ws (40 + 8 * i) 0) → ((k : ℕ) → Free s k → Free s' k) → ((k : ℕ) → Free s' k → Free s k) → ((now s').stopped ≡ false → (now s).stopped ≡ false)
+pub counters_stay : (t : ℕ) (s s' : State) (ws ws' : List ℕ) (n : ℕ) → get_or ws' remainder_at 0 ≡ get_or ws remainder_at 0 → ((i : ℕ) → i < t → get_or ws' (range_at i) 0 ≡ get_or ws (range_at i) 0) → ((k : ℕ) → Free s k → Free s' k) → ((k : ℕ) → Free s' k → Free s k) → ((now s').stopped ≡ false → (now s).stopped ≡ false)
     → Counters t s ws n → Counters t s' ws' n
 counters_stay t s s' ws ws' n rest same on back stopped c = let e₄ = rest in record {
-  free = λ k f. ⊎_elim (λ (z : (i : ℕ) × (i < t) × InRange ws i k). inl (z.0, z.1, fore z.0 k z.1 z.2)) (λ (z : InRest ws n k). inr ((let a = z.0 in omega arith), z.1)) (c.free k (back k f));
+  free = λ k f. ⊎_elim (λ (z : (i : ℕ) × (i < t) × InRange ws i k). inl (z.0, z.1, fore z.0 k z.1 z.2)) (λ (z : InRemainder ws n k). inr ((let a = z.0 in omega arith), z.1)) (c.free k (back k f));
   ranges = λ i k lt z. on k (c.ranges i k lt (aft i k lt z));
-  rest = λ k z. on k (c.rest k (rest_aft k z));
+  remainder = λ k z. on k (c.remainder k (rest_aft k z));
   few = let a = c.few in omega arith;
   home = λ st i k lt z. c.home (stopped st) i k lt (aft i k lt z);
   apart = λ i j k a b x y. c.apart i j k a b (aft i k a x) (aft j k b y);
-  rest_apart = λ i k a x y. c.rest_apart i k a (aft i k a x) (rest_aft k y);
+  remainder_apart = λ i k a x y. c.remainder_apart i k a (aft i k a x) (rest_aft k y);
+  ordered = λ i lt. subst (λ (w : ℕ). start_of w ≤ end_of w) (sym (same i lt)) (c.ordered i lt);
 }
   where
     fore : (i k : ℕ) → i < t → InRange ws i k → InRange ws' i k
-    fore i k lt z = subst (λ (w : ℕ). (w % 4294967296 ≤ k) × (k < w / 4294967296)) (sym (same i lt)) z
+    fore i k lt z = subst (λ (w : ℕ). (w % high_half ≤ k) × (k < w / high_half)) (sym (same i lt)) z
 
     aft : (i k : ℕ) → i < t → InRange ws' i k → InRange ws i k
-    aft i k lt z = subst (λ (w : ℕ). (w % 4294967296 ≤ k) × (k < w / 4294967296)) (same i lt) z
+    aft i k lt z = subst (λ (w : ℕ). (w % high_half ≤ k) × (k < w / high_half)) (same i lt) z
 
-    rest_aft : (k : ℕ) → InRest ws' n k → InRest ws n k
+    rest_aft : (k : ℕ) → InRemainder ws' n k → InRemainder ws n k
     rest_aft k z = let e = rest in ((let a = z.0 in omega arith), z.1)
 
 module _ (t : ℕ) where
   -- a step on the barrier word alone, which leaves the round and what the parties have taken
-  pub barrier_words : (s s' : State) (ws : List ℕ) (x : ℕ) → Words t s ws → now s' ≡ now s → s'.published ≡ s.published → ((a k : ℕ) → (party s' a).taken k ≡ (party s a).taken k) → x ≡ word s' → Words t s' (set ws 0 x)
-  barrier_words s s' ws x w round shown taken is = let wide = w.wide in let other : (i : ℕ) → i ≢ 0 → get_or (set ws 0 x) i 0 ≡ get_or ws i 0 = (λ i n. get_or-set_other ws 0 i x 0 n) in record {
-    wide = length-set ws 0 x ∙ w.wide;
-    barrier = get_or-set_same ws 0 x 0 (omega arith) ∙ is;
-    published = other 8 (λ e. omega arith) ∙ (w.published ∙ (λ i. number_of (sym shown i) (sym round i).stoppable));
-    finished = λ some. other 16 (λ e. omega arith) ∙ (w.finished (λ e. some (shown ∙ e)) ∙ ap (λ (r : Round). length r.finished) (sym round));
-    stopped = λ some. let old = w.stopped (λ e. some (shown ∙ e)) in let same = ap (λ (r : Round). r.stopped) (sym round) in ((λ e. other 24 (λ e. omega arith) ∙ old.0 (same ∙ e)), (λ e. other 24 (λ e. omega arith) ∙ old.1 (same ∙ e)));
-    counters = λ n e. counters_stay t s s' ws (set ws 0 x) n (other 32 (λ z. omega arith)) (λ i lt. other (40 + 8 * i) (λ z. omega arith)) (λ k f. freed s s' (sym round) taken k f) (λ k f. freed s' s round (λ a k. sym (taken a k)) k f)
+  pub barrier_words : (s s' : State) (ws : List ℕ) (x : ℕ) → Words t s ws → now s' ≡ now s → s'.published ≡ s.published → ((a k : ℕ) → (party s' a).taken k ≡ (party s a).taken k) → x ≡ word s' → Words t s' (set ws barrier_at x)
+  barrier_words s s' ws x w round shown taken is = let wide = w.wide in let other : (i : ℕ) → i ≢ 0 → get_or (set ws barrier_at x) i 0 ≡ get_or ws i 0 = (λ i n. get_or-set_other ws barrier_at i x 0 n) in record {
+    wide = length-set ws barrier_at x ∙ w.wide;
+    barrier = get_or-set_same ws barrier_at x 0 (omega arith) ∙ is;
+    published = other published_at (λ e. omega arith) ∙ (w.published ∙ (λ i. number_of (sym shown i) (sym round i).stoppable));
+    finished = λ some. other finished_at (λ e. omega arith) ∙ (w.finished (λ e. some (shown ∙ e)) ∙ ap (λ (r : Round). length r.finished) (sym round));
+    stopped = λ some. let old = w.stopped (λ e. some (shown ∙ e)) in let same = ap (λ (r : Round). r.stopped) (sym round) in ((λ e. other stopped_at (λ e. omega arith) ∙ old.0 (same ∙ e)), (λ e. other stopped_at (λ e. omega arith) ∙ old.1 (same ∙ e)));
+    counters = λ n e. counters_stay t s s' ws (set ws barrier_at x) n (other remainder_at (λ z. omega arith)) (λ i lt. other (range_at i) (λ z. omega arith)) (λ k f. freed s s' (sym round) taken k f) (λ k f. freed s' s round (λ a k. sym (taken a k)) k f)
         (λ e. sym (ap (λ (r : Round). r.stopped) round) ∙ e) (w.counters n (sym shown ∙ e));
     barren = λ z. shown ∙ w.barren z;
   }
@@ -70,7 +72,7 @@ module _ (t : ℕ) where
       freed a b e same k f = (subst (λ (r : Round). k < r.jobs) e f.0, sym (ap (λ (r : Round). times k r.begun) e) ∙ f.1, λ q. same q k ∙ f.2 q)
 
   -- a change of one party's status
-  pub status_words : (s : State) (ws : List ℕ) (p x : ℕ) (st : Status) (c : Option ℕ) → Words t s ws → let s' : State = record { round = s.round; parties = put_party s.parties p (with_status st (party s p)); closer = c; published = s.published; rounds = s.rounds } in x ≡ word s' → Words t s' (set ws 0 x)
+  pub status_words : (s : State) (ws : List ℕ) (p x : ℕ) (st : Status) (c : Option ℕ) → Words t s ws → let s' : State = record { round = s.round; parties = put_party s.parties p (with_status st (party s p)); closer = c; published = s.published; rounds = s.rounds } in x ≡ word s' → Words t s' (set ws barrier_at x)
   status_words s ws p x st c w is = let s' : State = record { round = s.round; parties = put_party s.parties p (with_status st (party s p)); closer = c; published = s.published; rounds = s.rounds } in barrier_words s s' ws x w refl refl same is
     where
       same : (a k : ℕ) → (party_of (put_party s.parties p (with_status st (party s p))) a).taken k ≡ (party s a).taken k
@@ -83,4 +85,4 @@ counts_stay w z by_status l p y e = let a = total_put w z l p y in let b = by_st
 
 -- the barrier word is of the round and the two counts
 pub word_stays : (s s' : State) → s'.round ≡ s.round → inside s'.parties ≡ inside s.parties → members s'.parties ≡ members s.parties → word s ≡ word s'
-word_stays s s' r a b i = sym a i + 65536 * sym b i + 2147483648 * (sym r i % 2)
+word_stays s s' r a b i = sym a i + one_member * sym b i + sense_bit * (sym r i % 2)

@@ -7,7 +7,7 @@ use Rattle.spindle_rounds.specs.declared.round_table.view.Standing.TheVariants.{
 use Rattle.spindle_rounds.specs.declared.round_table.view.View.{View}
 use Rattle.spindle_rounds.specs.RoundConditions.{MayClaim, IsDone}
 use Rattle.spindle_rounds.specs.RoundRule.{Showed, IsListed}
-use Rattle.spindle_rounds.specs.RoundSteps.{unknown, round_of}
+use Rattle.spindle_rounds.specs.RoundSteps.{round_of, unknown}
 use Rattle.spindle_rounds.specs.RoundViews.{Onward, SeesAsBefore, SharesAsBefore, shown_of, published_of}
 use Rattle.spindle_rounds.specs.Passing.{InNext}
 use Rattle.spindle_rounds.specs.Working.{OnTask, IsIdle, Worked, HasSearched, HasPassed, PlayedRound}

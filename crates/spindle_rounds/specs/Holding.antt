@@ -1,5 +1,5 @@
 -- What a barrier's party holds: the seat that it was made with, and what it keeps beside it.
-use Rattle.std.specs.Prelude.{◌≡◌, true, false}
+use Rattle.std.specs.Prelude.{◌≡◌, ◌⊎◌, ℕ, ◌<◌, List, true, false}
 use Rattle.spindle_rounds.specs.declared.barrier.Barrier.{Barrier}
 use Rattle.spindle_rounds.specs.declared.barrier.leaving.Leave.{Leave}
 use Rattle.spindle_rounds.specs.declared.barrier.leaving.Leave.TheVariants as leave
@@ -7,16 +7,17 @@ use Rattle.spindle_rounds.specs.declared.barrier.leaving.Exit.{Exit}
 use Rattle.spindle_rounds.specs.declared.barrier.leaving.Exit.TheVariants as exit
 use Rattle.spindle_rounds.specs.declared.barrier.ending.AfterEnd.{AfterEnd}
 use Rattle.spindle_rounds.specs.declared.barrier.ending.AfterEnd.TheVariants as end
+use Rattle.spindle_rounds.specs.declared.barrier.steps.Arrival.TheVariants as arrival
 use Rattle.spindle_rounds.specs.declared.barrier.steps.LeaveStep.TheVariants as left
 use Rattle.spindle_rounds.specs.declared.barrier.steps.ExitStep.TheVariants as gone
 use Rattle.spindle_rounds.specs.declared.barrier.waiting.ExitStatus.{ExitStatus}
 use Rattle.spindle_rounds.specs.declared.barrier.waiting.ExitStatus.TheVariants as status
-use Rattle.spindle_rounds.specs.Passing.{Stayed, InNext, LeftWaiting}
+use Rattle.spindle_rounds.specs.Passing.{Stayed, InNext, LeftWaiting, Turned, TurnsOver}
 use Rattle.atomic_table.specs.Table.{Me}
 use Rattle.atomic_table.specs.declared.shared.Seat.{Seat}
 use Rattle.spindle_rounds.specs.declared.round_table.view.View.{View}
 use Rattle.spindle_rounds.specs.RoundConditions.{HasSense, HasPart}
-use Rattle.spindle_rounds.specs.RoundAnswers.{LeftBy, ExitedBy, EndedBy}
+use Rattle.spindle_rounds.specs.RoundAnswers.{ArrivedBy, LeftBy, ExitedBy, EndedBy}
 
 module _ {T S N : Type 0} where
   -- it holds a seat of its own table, with that seat's sense, and knows whether it is a member
@@ -35,27 +36,49 @@ module _ {T S N : Type 0} where
   abbrev pub IsSeatOf : Barrier T S N → Seat S (View N) → Type 0
   IsSeatOf b s = (s.table_id ≡ b.seat.table_id) × (s.id ≡ b.seat.id)
 
+  -- what came of an attempt to leave, and who holds the seat after it
   abbrev pub LeaveTold : Barrier T S N → Leave T S N → Type 0
   LeaveTold b (leave.Left s) = IsSeatOf b s × LeftBy b.sense left.Left b.seat.me s.me
   LeaveTold b (leave.Ended c) = Keeps b c × LeftBy b.sense left.Ended b.seat.me c.seat.me
   LeaveTold b (leave.Closing c) = Keeps b c × LeftBy b.sense left.Closing b.seat.me c.seat.me
   LeaveTold b (leave.Again c) = Keeps b c × LeftBy b.sense left.Again b.seat.me c.seat.me
 
+  -- of an attempt to exit
   abbrev pub ExitTold : Barrier T S N → Exit T S N → Type 0
   ExitTold b (exit.Gone s) = IsSeatOf b s × ExitedBy gone.Gone b.seat.me s.me
   ExitTold b (exit.Closer c) = Keeps b c × ExitedBy gone.Closer b.seat.me c.seat.me
   ExitTold b (exit.Again c) = Keeps b c × ExitedBy gone.Again b.seat.me c.seat.me
 
+  -- what the closer has after the end: a member goes on, and one that had exited is out
   abbrev pub EndTold : Barrier T S N → AfterEnd T S N → Type 0
   EndTold b (end.Next c) = Keeps b c × (b.is_member ≡ true) × EndedBy b.seat.me c.seat.me
   EndTold b (end.Gone s) = IsSeatOf b s × (b.is_member ≡ false) × EndedBy b.seat.me s.me
 
-  -- a party that has arrived stayed until its round ended, or left where it was asked to
-  abbrev pub AwaitTold : Type 0 → Barrier T S N → ExitStatus T S N → Type 0
-  AwaitTold asked b (status.Exit s) = IsSeatOf b s × ((u : Me S (View N)) × Stayed b.seat.me u × LeftBy b.sense left.Left u s.me) × asked
-  AwaitTold asked b (status.Remain c) = Keeps b c × InNext b.seat.me c.seat.me
+  -- a party that has arrived stayed until its round ended, or left
+  abbrev pub AwaitTold : Barrier T S N → ExitStatus T S N → Type 0
+  AwaitTold b (status.Exit s) = IsSeatOf b s × ((u : Me S (View N)) × Stayed b.seat.me u × LeftBy b.sense left.Left u s.me)
+  AwaitTold b (status.Remain c) = Keeps b c × InNext b.seat.me c.seat.me
 
-  -- a party arrived, and then its round ended, or it was no closer and left where it was asked to
-  abbrev pub StatusTold : Type 0 → Barrier T S N → ExitStatus T S N → Type 0
-  StatusTold asked b (status.Exit s) = IsSeatOf b s × LeftWaiting b.seat.me s.me × asked
-  StatusTold asked b (status.Remain c) = Keeps b c × InNext b.seat.me c.seat.me
+  -- a party arrived, and then its round ended, or it was no closer and left
+  abbrev pub StatusTold : Barrier T S N → ExitStatus T S N → Type 0
+  StatusTold b (status.Exit s) = IsSeatOf b s × LeftWaiting b.seat.me s.me
+  StatusTold b (status.Remain c) = Keeps b c × InNext b.seat.me c.seat.me
+
+  -- its last turn: it left, as the answer n told it to, or its round had ended
+  abbrev pub TurnsLast : ℕ → ℕ → Me S (View N) → ExitStatus T S N → Type 0
+  TurnsLast sense n m (status.Exit s) = (0 < n) × LeftBy sense left.Left m s.me
+  TurnsLast sense n m (status.Remain c) = TurnsOver sense n m c.seat.me
+
+  -- it made one turn for each answer of the closure f, and no other step
+  abbrev pub WaitTold : {F : Type 0} → (F → ℕ → F → Type 0) → F → ℕ → Me S (View N) → ExitStatus T S N → Type 0
+  WaitTold {F = F} answers f sense m status = (ns : List ℕ) × (n : ℕ) × (g h : F) × (u : Me S (View N)) × Turned answers sense ns f g m u × answers g n h × TurnsLast sense n u status
+
+  -- the party remains
+  abbrev pub Remains : ExitStatus T S N → Type 0
+  Remains (status.Exit s) = ⊥
+  Remains (status.Remain c) = Unit {0}
+
+  -- a party arrived and made its turns, or it was the closer, which remains
+  abbrev pub TurnsTold : {F : Type 0} → (F → ℕ → F → Type 0) → F → Barrier T S N → ExitStatus T S N → Type 0
+  TurnsTold answers f b status = ((a : Me S (View N)) × (sense : ℕ) × HasSense a.0.standing sense × ArrivedBy arrival.Arrived b.seat.me a × WaitTold answers f sense a status)
+      ⊎ ((a : Me S (View N)) × ArrivedBy arrival.Closer b.seat.me a × Remains status)

@@ -1,9 +1,11 @@
 -- The definitions that contracts of this crate cite.
 pub mod Spans
 pub mod Seating
+pub mod Words
 pub mod RoundSlots
 pub mod RoundRule
 pub mod RoundSteps
+pub mod RoundTells
 pub mod RoundConditions
 pub mod RoundRuns
 pub mod RoundTrails

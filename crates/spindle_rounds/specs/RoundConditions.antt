@@ -12,7 +12,8 @@ use Rattle.spindle_rounds.specs.RoundRule.{IsListed, IsFilled}
 abbrev pub IsFreeInside : {N : Type 0} → View N → Type 0
 IsFreeInside v = (q : ℕ) × (v.standing ≡ Inside q) × (v.claim ≡ None) × (v.to ≤ v.from)
 
--- it may claim: it knows the number published, and hasn't seen the stop
+-- it may claim: it knows the number published, and hasn't seen the stop. A seat that has joined in mid-round doesn't know whether its party saw
+-- the stop before it left, so in a round that may stop it looks first
 abbrev pub MayClaim : {N : Type 0} → View N → Type 0
 MayClaim v = IsFreeInside v × ((n : ℕ) × (v.known.number ≡ Some n)) × (v.known.seen_stop ≡ false)
 
@@ -93,7 +94,3 @@ IsClosing v = (q : ℕ) × (member was : Bool) × (read : Option ℕ) × (v.stan
 -- and it has cleared it
 abbrev pub HasCleared : {N : Type 0} → View N → Type 0
 HasCleared v = (q : ℕ) × (member : Bool) × (read : Option ℕ) × (v.standing ≡ Closing q member true read)
-
--- it has nothing to finish, and no number left in its share
-abbrev pub IsIdleSeat : {N : Type 0} → View N → Type 0
-IsIdleSeat v = (v.claim ≡ None) × (v.to ≤ v.from)

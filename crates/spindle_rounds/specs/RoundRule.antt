@@ -15,6 +15,7 @@ use Rattle.spindle_rounds.specs.declared.round_table.view.Kind.TheVariants as ki
 use Rattle.spindle_rounds.specs.declared.round_table.view.Known.{Known}
 use Rattle.spindle_rounds.specs.declared.round_table.view.View.{View}
 use Rattle.spindle_rounds.specs.RoundSlots.{Discipline}
+use Rattle.spindle_rounds.specs.Words.{barrier_at, published_at, finished_at, stopped_at, remainder_at, range_at, filled_at, words_of, high_half, start_of, end_of}
 
 -- a party's begins, finishes and publishes, each with its round
 pub data Deed : Type 0 where
@@ -22,10 +23,12 @@ pub data Deed : Type 0 where
   Ended : (round k : ℕ) → Deed
   Showed : (round n : ℕ) (may_stop : Bool) → Deed
 
+-- the end of the number that a party runs, if it runs one
 abbrev pub ended_in : ℕ → Option ℕ → List Deed
 ended_in r None = []
 ended_in r (Some k) = Ended r k ∷ []
 
+-- what an event does of these
 abbrev pub deed : State → Event → List Deed
 deed s (Publish p n) = Showed s.round n false ∷ []
 deed s (PublishTry p n) = Showed s.round n true ∷ []
@@ -38,6 +41,7 @@ abbrev pub deeds : ℕ → List Event → List Deed
 deeds p [] = []
 deeds p (e ∷ es) = (if by e == p then deed (state es) e else []) ++ deeds p es
 
+-- what a step of a trail does of these
 abbrev pub deed_of : Kind → List Deed
 deed_of (kind.Begin r k) = Began r k ∷ []
 deed_of (kind.Finish r k) = Ended r k ∷ []
@@ -62,6 +66,7 @@ Stands s p (Closing q member cleared at) = (s.closer ≡ Some p) × (s.round ≡
 abbrev pub home_of : ℕ → ℕ → ℕ → ℕ
 home_of t n k = if nat_lt (k + n % t) n then k / (n / t) else t
 
+-- the number i is in the list
 abbrev pub IsListed : ℕ → List ℕ → Type 0
 IsListed i [] = ⊥
 IsListed i (x ∷ xs) = (x ≡ i) ⊎ IsListed i xs
@@ -78,6 +83,7 @@ pub record Knows (t : ℕ) (s : State) (p : ℕ) (k : Known) : Type 0 where
   pub emptied : (n i : ℕ) → k.number ≡ Some n → IsListed i k.emptied → IsEmptied t n s i
   pub unread : k.number ≡ None → k.emptied ≡ []
 
+-- the numbers taken are those from `from` up to `to`, the end not included
 abbrev pub IsShare : (ℕ → Bool) → ℕ → ℕ → Type 0
 IsShare taken from to = (k : ℕ) → ((taken k ≡ true) → (from ≤ k) × (k < to)) × ((from ≤ k) × (k < to) → taken k ≡ true)
 
@@ -89,56 +95,66 @@ pub record Shows {N : Type 0} (s : State) (p : ℕ) (v : View N) : Type 0 where
   pub share : IsShare (party s p).taken v.from v.to
   pub inside : (q : ℕ) → v.standing ≡ Inside q → Knows v.threads s p v.known
 
--- the words by their names
+-- the barrier word
+abbrev pub barrier_in : List ℕ → ℕ
+barrier_in ws = slice_index ws barrier_at
+
+-- the number published, as the words show it
 abbrev pub published_in : List ℕ → ℕ
-published_in ws = slice_index ws 8
+published_in ws = slice_index ws published_at
 
+-- how many jobs have finished
 abbrev pub finished_in : List ℕ → ℕ
-finished_in ws = slice_index ws 16
+finished_in ws = slice_index ws finished_at
 
+-- whether the round was stopped
 abbrev pub stopped_in : List ℕ → ℕ
-stopped_in ws = slice_index ws 24
+stopped_in ws = slice_index ws stopped_at
 
-abbrev pub rest_in : List ℕ → ℕ
-rest_in ws = slice_index ws 32
+-- the remainder
+abbrev pub remainder_in : List ℕ → ℕ
+remainder_in ws = slice_index ws remainder_at
 
+-- the range of the thread i
 abbrev pub range_in : List ℕ → ℕ → ℕ
-range_in ws i = slice_index ws (40 + 8 * i)
+range_in ws i = slice_index ws (range_at i)
 
--- the number k stands in a range: the start in the low half, the end in the high one
+-- the number k stands in a range
 abbrev pub IsWithin : ℕ → ℕ → Type 0
-IsWithin range k = (range % 4294967296 ≤ k) × (k < range / 4294967296)
+IsWithin range k = (start_of range ≤ k) × (k < end_of range)
 
+-- the number k stands in the range of the thread i
 abbrev pub InRange : List ℕ → ℕ → ℕ → Type 0
 InRange ws i k = IsWithin (range_in ws i) k
 
 -- the number k stands in the remainder
-abbrev pub InRest : List ℕ → ℕ → ℕ → Type 0
-InRest ws n k = (n ≤ k + rest_in ws) × (k < n)
+abbrev pub InRemainder : List ℕ → ℕ → ℕ → Type 0
+InRemainder ws n k = (n ≤ k + remainder_in ws) × (k < n)
 
 -- the number k stands in a range or in the remainder
 abbrev pub IsLeft : ℕ → List ℕ → ℕ → ℕ → Type 0
-IsLeft t ws n k = ((i : ℕ) × (i < t) × InRange ws i k) ⊎ InRest ws n k
+IsLeft t ws n k = ((i : ℕ) × (i < t) × InRange ws i k) ⊎ InRemainder ws n k
 
--- while n is published, ranges and remainder stand for the free numbers, each once
+-- while n is published, ranges and remainder stand for the free numbers, each once, and no range ends before its start
 pub record Counters (t : ℕ) (s : State) (ws : List ℕ) (n : ℕ) : Type 0 where
   pub free : (k : ℕ) → Free s k → IsLeft t ws n k
   pub ranges : (i k : ℕ) → i < t → InRange ws i k → Free s k
-  pub rest : (k : ℕ) → InRest ws n k → Free s k
-  pub few : rest_in ws ≤ n % t
+  pub remainder : (k : ℕ) → InRemainder ws n k → Free s k
+  pub few : remainder_in ws ≤ n % t
   pub home : (now s).stopped ≡ false → (i k : ℕ) → i < t → InRange ws i k → home_of t n k ≡ i
   pub apart : (i j k : ℕ) → i < t → j < t → InRange ws i k → InRange ws j k → i ≡ j
-  pub rest_apart : (i k : ℕ) → i < t → InRange ws i k → InRest ws n k → ⊥
+  pub remainder_apart : (i k : ℕ) → i < t → InRange ws i k → InRemainder ws n k → ⊥
+  pub ordered : (i : ℕ) → i < t → start_of (range_in ws i) ≤ end_of (range_in ws i)
 
 -- the published word: 0, the number, or the number and a bit where the round may stop
 abbrev pub number_of : Option ℕ → Bool → ℕ
 number_of None b = 0
-number_of (Some n) b = if b then n + 4294967296 else n
+number_of (Some n) b = if b then n + high_half else n
 
 -- the words show the state
 pub record Words (t : ℕ) (s : State) (ws : List ℕ) : Type 0 where
-  pub wide : length ws ≡ 40 + 16 * t
-  pub barrier : slice_index ws 0 ≡ word s
+  pub wide : length ws ≡ words_of t
+  pub barrier : barrier_in ws ≡ word s
   pub published : published_in ws ≡ number_of s.published (now s).stoppable
   pub finished : s.published ≢ None → finished_in ws ≡ length (now s).finished
   pub stopped : s.published ≢ None → ((now s).stopped ≡ true → stopped_in ws ≡ 1) × ((now s).stopped ≡ false → stopped_in ws ≡ 0)
@@ -150,7 +166,7 @@ abbrev pub fill_value : ℕ → ℕ → ℕ → ℕ
 fill_value t n zero = 0
 fill_value t n (suc zero) = 0
 fill_value t n (suc (suc zero)) = n % t
-fill_value t n (suc (suc (suc i))) = n / t * i + 4294967296 * (n / t * i + n / t)
+fill_value t n (suc (suc (suc i))) = n / t * i + high_half * (n / t * i + n / t)
 
 -- ranges and remainder stand for the numbers of a round that were not begun
 abbrev pub StandsFor : ℕ → Round → List ℕ → Type 0
@@ -163,11 +179,11 @@ stored_at (x ∷ xs) i = if x.0 == i then Some x.1 else stored_at xs i
 
 -- all words of a round of n jobs are stored
 abbrev pub IsFilled : ℕ → ℕ → List (ℕ × ℕ) → Type 0
-IsFilled t n stored = (j : ℕ) → j < 3 + t → stored_at stored (16 + 8 * j) ≡ Some (fill_value t n j)
+IsFilled t n stored = (j : ℕ) → j < 3 + t → stored_at stored (filled_at j) ≡ Some (fill_value t n j)
 
 -- what the leader has stored stands
 pub record Laid {N : Type 0} (t : ℕ) (s : State) (ws : List ℕ) (v : View N) : Type 0 where
-  pub stored : (i x : ℕ) → stored_at v.known.stored i ≡ Some x → (16 ≤ i) × (slice_index ws i ≡ x)
+  pub stored : (i x : ℕ) → stored_at v.known.stored i ≡ Some x → (finished_at ≤ i) × (slice_index ws i ≡ x)
   pub unstored : s.published ≢ None → v.known.stored ≡ []
   pub current : s.published ≢ None → v.laid ≡ Some s.round
   pub left : (q : ℕ) → v.laid ≡ Some q → s.published ≡ None → StandsFor t (s.rounds q) ws

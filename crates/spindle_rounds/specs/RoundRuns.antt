@@ -13,9 +13,11 @@ use Rattle.spindle_rounds.specs.declared.round_table.view.Standing.TheVariants.{
 use Rattle.spindle_rounds.specs.declared.round_table.view.View.{View}
 use Rattle.spindle_rounds.specs.RoundSlots.{Discipline}
 use Rattle.spindle_rounds.specs.RoundRule.{ShownBy}
-use Rattle.spindle_rounds.specs.RoundSteps.{outsider, new_view, count_of, most_of, sense_of, exit_word, turned_word}
-use Rattle.spindle_rounds.specs.RoundSteps.{start_of, end_of, stolen_from, range_word, number_or}
-use Rattle.spindle_rounds.specs.RoundSteps as told
+use Rattle.spindle_rounds.specs.Words.{barrier_at, published_at, finished_at, stopped_at, remainder_at, range_at, filled_at, words_of}
+use Rattle.spindle_rounds.specs.Words.{one_member, one_party, high_half, most_parties, most_jobs}
+use Rattle.spindle_rounds.specs.Words.{count_of, most_of, sense_of, start_of, end_of, range_word}
+use Rattle.spindle_rounds.specs.RoundSteps.{outsider, new_view, exit_word, turned_word, stolen_from, number_or}
+use Rattle.spindle_rounds.specs.RoundTells as tells
 use Rattle.spindle_rounds.specs.RoundConditions.{MayFill, MayPublish, MayClaim, MayBegin, MayFinish, MayGive}
 use Rattle.spindle_rounds.specs.RoundConditions.{MayStop, MaySee, MayPutBack, IsFreeInside, IsDone}
 use Rattle.spindle_rounds.specs.RoundConditions.{IsWaiting, HasSense, MayLeave, MayExit, IsClosing}
@@ -47,91 +49,91 @@ module _ {S N : Type 0} (D : Discipline S N) (t slots id : ℕ) (me : Me S (View
 
   -- a load of the word i, which adds `new` of the value found
   abbrev pub Load : ℕ → (ℕ → List Event) → Telling S N → Type 0
-  Load i new tells = Adds i (λ n. n) new (tells (step slots i 0 0 none) me)
+  Load i new says = Adds i (λ n. n) new (says (step slots i 0 0 none) me)
 
   -- a load that adds nothing
   abbrev pub PlainLoad : ℕ → Telling S N → Type 0
-  PlainLoad i tells = Load i (λ _. []) tells
+  PlainLoad i says = Load i (λ _. []) says
 
   -- a store of x in the word i, which adds `new`
   abbrev pub Store : ℕ → ℕ → List Event → Telling S N → Type 0
-  Store i x new tells = Adds i (λ _. x) (λ _. new) (λ _. tells (step slots i x 0 none) me x)
+  Store i x new says = Adds i (λ _. x) (λ _. new) (λ _. says (step slots i x 0 none) me x)
 
   -- an exchange on the word i: where it finds `old` it adds `new`, and else it adds nothing
   abbrev pub Exchange : ℕ → (old to : ℕ) → List Event → Telling S N → Type 0
-  Exchange i old to new tells = Adds i (λ x. either (x == old) to x)
-      (λ x. if x == old then new else []) (tells (step slots i old to none) me)
+  Exchange i old to new says = Adds i (λ x. either (x == old) to x)
+      (λ x. if x == old then new else []) (says (step slots i old to none) me)
 
   -- an addition of 1 to the word i
   abbrev pub Addition : ℕ → List Event → Telling S N → Type 0
-  Addition i new tells = Adds i (λ n. (n + 1) % 2 ^ 64) (λ _. new)
-      (tells (step slots i 1 0 none) me)
+  Addition i new says = Adds i (λ n. (n + 1) % 2 ^ 64) (λ _. new)
+      (says (step slots i 1 0 none) me)
 
   -- a subtraction of 1
   abbrev pub Subtraction : ℕ → List Event → Telling S N → Type 0
-  Subtraction i new tells = Adds i (λ n. (n + (2 ^ 64 - 1)) % 2 ^ 64) (λ _. new)
-      (tells (step slots i 1 0 none) me)
+  Subtraction i new says = Adds i (λ n. (n + (2 ^ 64 - 1)) % 2 ^ 64) (λ _. new)
+      (says (step slots i 1 0 none) me)
 
   -- what each kind of step of the seat adds to the run, where the seat is as the step asks
   pub record Steps : Type 0 where
     -- the leader, with nothing published, stores a word of a round to come, and then the number
-    pub fill : (j x : ℕ) → j < 3 + t → MayFill me.0 → Store (16 + 8 * j) x [] told.filled
-    pub publish : (n : ℕ) → 0 < t → 2 ≤ n → n ≤ 4294967295 → MayPublish D t n me.0
-        → Store 8 n (Publish id n ∷ []) told.published
-    pub publish_try : (n : ℕ) → 0 < t → 2 ≤ n → n ≤ 4294967295 → MayPublish D t n me.0
-        → Store 8 (n + 4294967296) (PublishTry id n ∷ []) told.published_try
+    pub fill : (j x : ℕ) → j < 3 + t → MayFill me.0 → Store (filled_at j) x [] tells.FillTells
+    pub publish : (n : ℕ) → 0 < t → 2 ≤ n → n ≤ most_jobs → MayPublish D t n me.0
+        → Store published_at n (Publish id n ∷ []) tells.PublishTells
+    pub publish_try : (n : ℕ) → 0 < t → 2 ≤ n → n ≤ most_jobs → MayPublish D t n me.0
+        → Store published_at (n + high_half) (PublishTry id n ∷ []) tells.PublishTryTells
     -- a member that is in claims the front of a range
     pub claim_own : (i range : ℕ) → i < t → range < 18446744073709551616
         → start_of range < end_of range → MayClaim me.0 → let k : ℕ = start_of range in
-        Exchange (40 + 8 * i) range (range + 1) (claim_of id k (only k)) (told.claimed D)
+        Exchange (range_at i) range (range + 1) (claim_of id k (only k)) (tells.ClaimTells D)
     -- the last half of a range, whose first number it begins
     pub steal : (i range : ℕ) → i < t → range < 18446744073709551616
         → start_of range < end_of range → MayClaim me.0 → let k : ℕ = stolen_from range in
-        Exchange (40 + 8 * i) range (range_word (start_of range) k)
-        (claim_of id k (last_half range)) (told.stolen D)
+        Exchange (range_at i) range (range_word (start_of range) k)
+        (claim_of id k (last_half range)) (tells.StealTells D)
     -- the last number of the remainder
     pub claim_rest : (rest : ℕ) → 0 < rest → MayClaim me.0
         → let k : ℕ = number_or me.0.known.number - rest in
-        Exchange 32 rest (rest - 1) (claim_of id k (only k)) (told.rested D)
+        Exchange remainder_at rest (rest - 1) (claim_of id k (only k)) (tells.RemainderClaimTells D)
     -- it begins the first number of its share, and finishes a number
     pub begin_share : (i x : ℕ) → t ≤ i → me.0.from < me.0.to → MayBegin me.0
-        → Store (40 + 8 * i) x (Begin id me.0.from ∷ []) (told.shared D)
+        → Store (range_at i) x (Begin id me.0.from ∷ []) (tells.ShareTells D)
     pub finish : (k : ℕ) → MayFinish k me.0 → MayGive D k me
-        → Addition 16 (Finish id ∷ []) (told.finished D)
+        → Addition finished_at (Finish id ∷ []) (tells.FinishTells D)
     -- it stops the round, looks whether it was stopped, and puts its share back
-    pub stop : (k : ℕ) → MayStop k me.0 → Store 24 1 (Stop id ∷ []) told.stops
-    pub see : MaySee me.0 → Load 24 (λ found. if found == 1 then See id ∷ [] else []) told.saw
+    pub stop : (k : ℕ) → MayStop k me.0 → Store stopped_at 1 (Stop id ∷ []) tells.StopTells
+    pub see : MaySee me.0 → Load stopped_at (λ found. if found == 1 then See id ∷ [] else []) tells.SeeTells
     pub put_back : (i old to : ℕ) → i < t → end_of old ≤ start_of old → start_of to ≡ me.0.from
-        → end_of to ≡ me.0.to → MayPutBack me.0
-        → Exchange (40 + 8 * i) old to (PutBack id ∷ []) told.put
+        → end_of to ≡ me.0.to → me.0.from ≤ me.0.to → MayPutBack me.0
+        → Exchange (range_at i) old to (PutBack id ∷ []) tells.PutBackTells
     -- it arrives, or exits
-    pub arrive : IsFreeInside me.0 → IsDone me.0 → Subtraction 0 (Arrive id ∷ []) told.arrived
-    pub exit : (old : ℕ) → MayExit me.0 → Exchange 0 old (exit_word old) (Exit id ∷ []) told.exited
+    pub arrive : IsFreeInside me.0 → IsDone me.0 → Subtraction barrier_at (Arrive id ∷ []) tells.ArrivalTells
+    pub exit : (old : ℕ) → MayExit me.0 → Exchange barrier_at old (exit_word old) (Exit id ∷ []) tells.ExitTells
     -- a party that is out joins
     pub join : (old : ℕ) → me.0.standing ≡ Away → (0 < count_of old) ⊎ (most_of old ≡ 0)
-        → most_of old < 32767 → Exchange 0 old (old + 65537) (Join id ∷ []) told.joined
+        → most_of old < most_parties → Exchange barrier_at old (old + one_party) (Join id ∷ []) tells.JoinTells
     -- a party that has arrived looks, or leaves
-    pub look : IsWaiting me.0 → PlainLoad 0 told.looked
+    pub look : IsWaiting me.0 → PlainLoad barrier_at tells.LookTells
     pub leave : (old sense : ℕ) → HasSense me.0.standing sense → sense_of old ≢ sense
-        → count_of old ≢ 0 → MayLeave me.0 → Exchange 0 old (old - 65536) (Leave id ∷ []) told.left
+        → count_of old ≢ 0 → MayLeave me.0 → Exchange barrier_at old (old - one_member) (Leave id ∷ []) tells.LeaveTells
     -- the closer reads the word, clears, and ends the round
-    pub read_to_end : IsClosing me.0 → PlainLoad 0 told.read_by_closer
-    pub clear : IsClosing me.0 → Store 8 0 (Clear id ∷ []) told.clears
+    pub read_to_end : IsClosing me.0 → PlainLoad barrier_at tells.CloserReadTells
+    pub clear : IsClosing me.0 → Store published_at 0 (Clear id ∷ []) tells.ClearTells
     pub end : (q n : ℕ) (member : Bool) → me.0.standing ≡ Closing q member true (Some n)
-        → Store 0 (turned_word n) (End id ∷ []) told.ends
+        → Store barrier_at (turned_word n) (End id ∷ []) tells.EndTells
     -- anyone reads the barrier word, the published word, a range, the remainder
-    pub load : PlainLoad 0 told.loaded
-    pub learn : PlainLoad 8 told.learned
-    pub recall : PlainLoad 8 told.recalled
-    pub search : (i : ℕ) → i < t → PlainLoad (40 + 8 * i) told.searched
-    pub read_rest : PlainLoad 32 told.rest_read
+    pub load : PlainLoad barrier_at tells.LoadTells
+    pub learn : PlainLoad published_at tells.LearnTells
+    pub recall : PlainLoad published_at tells.RecallTells
+    pub search : (i : ℕ) → i < t → PlainLoad (range_at i) tells.SearchTells
+    pub read_rest : PlainLoad remainder_at tells.RemainderReadTells
     -- anyone splits a seat off, and the table shows the same run
     pub split : (run : List Event) → Splits (ShownBy D t run) id me.0 me.0 (new_view me.0)
 
 module _ {S N : Type 0} (D : Discipline S N) where
   -- a fresh table shows the empty run
   abbrev pub OpensEmpty : Type 0
-  OpensEmpty = (t : ℕ) (ws : List ℕ) (xs : List S) → length ws ≡ 40 + 16 * t
+  OpensEmpty = (t : ℕ) (ws : List ℕ) (xs : List S) → length ws ≡ words_of t
       → ((i : ℕ) → slice_index ws i ≡ 0) → D.starts xs
       → ShownBy D t [] (opening ws xs (outsider t true))
 

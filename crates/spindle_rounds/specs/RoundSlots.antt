@@ -50,6 +50,7 @@ SameSlots v w = (w.board ≡ v.board) × (w.note ≡ v.note) × (w.claim ≡ v.c
 abbrev pub NoSlots : {N : Type 0} → View N → Type 0
 NoSlots v = (v.board ≡ []) × (v.note ≡ None) × (v.claim ≡ None)
 
+-- what the rule of a table asks of its slots, step by step
 pub record Discipline (S N : Type 0) : Type 1 where
   -- what holds of the slots at home beside the state and the views
   pub clause : State → List (m.Option S) → List (View N) → Type 0
@@ -63,6 +64,7 @@ pub record Discipline (S N : Type 0) : Type 1 where
   -- the round, the number, and what the leader has put into the slots
   pub may_publish : ℕ → ℕ → List (ℕ × Spot N) → Type 0
 
+-- every step of the table keeps what holds of the slots
 pub record Lawful {S N : Type 0} (D : Discipline S N) : Type 0 where
   pub opens : (xs : List S) (v : View N) → D.starts xs → NoSlots v → D.clause fresh (map some xs) (v ∷ [])
   pub splits : (s : State) (hs : List (m.Option S)) (vs : List (View N)) (v : View N) → D.clause s hs vs → NoSlots v → D.clause s hs (vs ++ v ∷ [])

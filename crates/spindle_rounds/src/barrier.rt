@@ -1,5 +1,6 @@
 //! The barrier of a round table: parties join, arrive, leave and exit, and whoever comes last closes the round.
-ghost use Rattle.std.specs.Prelude.{◌≡◌, ◌+◌, ◌*◌, ◌≤◌};
+ghost use Rattle.std.specs.Prelude.{◌≡◌, ◌≤◌};
+ghost use Rattle.spindle_rounds.specs.Words.{words_of};
 
 use crate::round_table::slots::Slots;
 use crate::round_table::{RoundTable, Seat};
@@ -12,6 +13,7 @@ pub mod steps;
 #[cfg(test)]
 mod tests;
 pub mod waiting;
+pub mod word;
 
 pub use self::ending::AfterEnd;
 pub use self::steps::{Arrival, Look};
@@ -25,7 +27,8 @@ pub const MASK: u32 = 32767;
 pub struct BarrierInit<D: Slots> {
     pub(crate) table: RoundTable<D>,
     pub(crate) threads: usize,
-    ghost sized: { (table.shared.key ≡ threads) × (table.shared.table_id.words ≡ 40 + 16 * threads) },
+    ghost sized: { (table.shared.key ≡ threads)
+        × (table.shared.table_id.words ≡ words_of threads) },
     ghost few: { threads ≤ 32767 },
 }
 

@@ -21,9 +21,6 @@ pub mod task;
 #[cfg(test)]
 mod tests;
 
-/// Where the end of a range starts, and the bit of a published word that says that the round may stop.
-pub(crate) const HIGH: u64 = 4294967296;
-
 /// The rounds of a table, with the barrier that ends them.
 #[derive(Drop)]
 pub struct Round<D: Slots> {

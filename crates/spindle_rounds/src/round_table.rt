@@ -10,7 +10,8 @@
 //! | 40 + 8 i | the range of thread i: its start in the low 32 bits, its end, not included, in the high 32 | `fill`; `try_claim_own`, `try_steal`, `put_back` |
 //! | 40 + 8 (t + i) | the share of thread i: what is left of it, in the form of a range; nobody reads it | `next_of_share` |
 //!
-//! Words stand 64 bytes apart, on cache lines of their own. The words between them are unused and stay 0.
+//! Words stand 64 bytes apart, on cache lines of their own. The words between them are unused. Specs call a word by its name in
+//! `specs/Words.antt`: `barrier_at` is word 0, `range_at i` is word 40 + 8 i.
 //! A table with t = 0 has no ranges, and nothing can be published on it.
 ghost use Rattle.std.specs.Prelude.{◌≡◌, ◌+◌, ◌*◌, ◌≤◌, true};
 ghost use Rattle.spindle_rounds.specs.RoundRule.{Shown};
@@ -40,13 +41,16 @@ pub const FINISHED: usize = 16;
 pub const STOPPED: usize = 24;
 
 /// The remainder.
-pub const REST: usize = 32;
+pub const REMAINDER: usize = 32;
 
 /// The first range.
 pub const RANGES: usize = 40;
 
 /// How far one word of a kind is from the next.
 pub const APART: usize = 8;
+
+/// One in the high half of a word: where the end of a range starts, and the bit of a published word whose round may stop.
+pub const HIGH: u64 = 4294967296;
 
 /// The rule: between any two atomic steps there is a run that ends in a state which words and seats show.
 pub struct RoundRule<D: Slots> {

@@ -34,6 +34,7 @@ fn the_last_to_arrive_is_the_closer(rt: HostRuntime) -> Result<(), Fail> {
         return Err(Fail::new("the join was refused"));
     };
     assert_eq!(rt; leader.arrive(), Arrival::Closer);
+    assert_eq!(rt; round.init().current_num_threads(), 1);
     match round.init().try_join(other, 1) {
         Err(JoinRefused::Closing(_)) => {}
         _ => assert!(rt; false),

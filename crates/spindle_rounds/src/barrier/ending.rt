@@ -7,7 +7,7 @@ ghost use Rattle.spindle_rounds.specs.Holding.{IsHeld, Keeps, EndTold};
 ghost use Rattle.spindle_rounds.specs.Seating.{IsSameSeat};
 
 use super::Barrier;
-use super::steps::{FIELD, MOST, SENSE};
+use super::word::{FIELD, MEMBER, SENSE};
 use crate::round_table::plays::{Clears, CloserReads, Ends};
 use crate::round_table::slots::Slots;
 use crate::round_table::{BARRIER, PUBLISHED, Seat, SharedWords};
@@ -28,8 +28,8 @@ pub(crate) fn end_round<D: Slots>(words: &SharedWords<D>, seat: &mut Seat<D>)
     ensures step { EndedBy seat.old.me seat.new.me }
 {
     let word = words.load::<CloserReads>(seat, BARRIER);
-    let most = word / MOST % FIELD;
-    let turned = most + MOST * most + SENSE * (1 - word / SENSE);
+    let most = word / MEMBER % FIELD;
+    let turned = most + MEMBER * most + SENSE * (1 - word / SENSE);
     words.store::<Ends>(seat, BARRIER, turned);
 }
 

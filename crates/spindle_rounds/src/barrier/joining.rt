@@ -6,7 +6,8 @@ ghost use Rattle.spindle_rounds.specs.declared.round_table.view.Standing.TheVari
 ghost use Rattle.spindle_rounds.specs.declared.barrier.steps.JoinStep.TheVariants.{Joined};
 ghost use Rattle.spindle_rounds.specs.Seating.{IsSeatAt, IsSameSeat};
 
-use super::steps::{FIELD, JoinStep, MOST, PARTY, SENSE};
+use super::steps::JoinStep;
+use super::word::{FIELD, MEMBER, PARTY, SENSE};
 use super::{Barrier, BarrierInit, JoinRefused, MASK};
 use crate::round_table::plays::{Joins, Loads};
 use crate::round_table::slots::Slots;
@@ -19,7 +20,7 @@ fn join<D: Slots>(words: &SharedWords<D>, seat: &mut Seat<D>) -> JoinStep
     ensures step { JoinedBy result seat.old.me seat.new.me }
 {
     let word = words.load::<Loads>(seat, BARRIER);
-    let most = word / MOST % FIELD;
+    let most = word / MEMBER % FIELD;
     if most == MASK as u64 {
         return JoinStep::Full;
     }

@@ -6,7 +6,8 @@ ghost use Rattle.spindle_rounds.specs.Holding.{IsHeld, LeaveTold, ExitTold};
 ghost use Rattle.spindle_rounds.specs.Seating.{IsSameSeat};
 
 use super::Barrier;
-use super::steps::{ExitStep, FIELD, LeaveStep, MOST, PARTY, SENSE};
+use super::steps::{ExitStep, LeaveStep};
+use super::word::{FIELD, MEMBER, PARTY, SENSE};
 use crate::round_table::plays::{Exits, Leaves, Loads, Looks};
 use crate::round_table::slots::Slots;
 use crate::round_table::{BARRIER, Seat, SharedWords};
@@ -49,7 +50,7 @@ fn leave_once<D: Slots>(words: &SharedWords<D>, seat: &mut Seat<D>, sense: u64) 
     if word % FIELD == 0 {
         return LeaveStep::Closing;
     }
-    let less = word.saturating_sub(MOST);
+    let less = word.saturating_sub(MEMBER);
     if words.compare_exchange::<Leaves>(seat, BARRIER, word, less) == word {
         LeaveStep::Left
     } else {
@@ -64,7 +65,7 @@ fn exit_once<D: Slots>(words: &SharedWords<D>, seat: &mut Seat<D>) -> ExitStep
     ensures step { ExitedBy result seat.old.me seat.new.me }
 {
     let word = words.load::<Loads>(seat, BARRIER);
-    let most = word / MOST % FIELD;
+    let most = word / MEMBER % FIELD;
     let less = if most == 1 {
         SENSE * (1 - word / SENSE)
     } else {

@@ -4,7 +4,7 @@ ghost use Rattle.spindle_rounds.specs.RoundSteps.{outsider, new_view};
 ghost use Rattle.spindle_rounds.specs.Seating.{IsSeatAt, IsSameSeat};
 
 use crate::barrier::BarrierInit;
-use crate::barrier::steps::{FIELD, MOST};
+use crate::barrier::word::{FIELD, MEMBER};
 use crate::round_table::plays::NewSeat;
 use crate::round_table::slots::{Bare, Slots};
 use crate::round_table::{APART, BARRIER, RANGES, Seat};
@@ -62,6 +62,6 @@ impl<D: Slots> BarrierInit<D> {
     pub fn current_num_threads(&self) -> usize
         ensures { result ≤ 32767 }
     {
-        (self.table.shared.peek(BARRIER) / MOST % FIELD) as usize
+        (self.table.shared.peek(BARRIER) / MEMBER % FIELD) as usize
     }
 }

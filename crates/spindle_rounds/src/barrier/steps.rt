@@ -7,18 +7,10 @@ ghost use Rattle.std.specs.Borrow.{sem};
 ghost use Rattle.spindle_rounds.specs.RoundConditions.{IsFreeInside, IsDone, IsWaiting};
 
 use crate::barrier::Barrier;
+use crate::barrier::word::{FIELD, SENSE};
 use crate::round_table::plays::{Arrives, Looks};
 use crate::round_table::slots::Slots;
 use crate::round_table::{BARRIER, Seat};
-
-/// One party more, and one that hasn't arrived.
-pub(crate) const PARTY: u64 = 65537;
-/// Where the number of members starts, the one past its bits, and the sense.
-pub(crate) const MOST: u64 = 65536;
-
-pub(crate) const FIELD: u64 = 32768;
-
-pub(crate) const SENSE: u64 = 2147483648;
 
 /// What came of one attempt to join.
 pub enum JoinStep {

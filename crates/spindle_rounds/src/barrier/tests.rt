@@ -1,7 +1,8 @@
 //! A barrier without a round: scripts by one thread, and threads that come and go.
 ghost use Rattle.std.specs.Prelude.{◌≡◌, IfSome};
 ghost use Rattle.spindle_rounds.specs.Holding.{IsHeld, IsSeatOf};
-ghost use Rattle.spindle_rounds.specs.RoundConditions.{IsIdleSeat, MayExit};
+ghost use Rattle.spindle_rounds.specs.RoundConditions.{MayExit};
+ghost use Rattle.spindle_rounds.specs.Working.{IsIdle};
 ghost use Rattle.spindle_rounds.specs.declared.round_table.view.Standing.TheVariants.{Away};
 ghost use Rattle.spindle_rounds.specs.Seating.{IsSeatAt};
 
@@ -18,6 +19,8 @@ use std::sync::Wait;
 use std::test::Fail;
 use std::thread;
 use std::thread::Threads;
+
+mod asking;
 
 fn word(init: &BarrierInit<Bare>) -> u64 {
     init.table.shared.peek(BARRIER)
@@ -39,6 +42,7 @@ fn the_last_to_arrive_ends_the_round(rt: HostRuntime) -> Result<(), Fail> {
         return Err(Fail::new("the first to arrive closes"));
     };
     assert_eq!(rt; word(&init), 0x0002_0001);
+    assert_eq!(rt; init.current_num_threads(), 2);
     let Arrival::Closer = one.arrive() else {
         return Err(Fail::new("the last to arrive doesn't close"));
     };
@@ -148,11 +152,14 @@ fn a_barrier_holds_32767_parties(rt: HostRuntime) -> Result<(), Fail> {
     let Err(JoinRefused::Full(spare)) = init.try_join(spare, 0) else {
         return Err(Fail::new("a party too many has joined"));
     };
+    let Err(full) = init.barrier(&rt, spare, 0) else {
+        return Err(Fail::new("a party too many was let in"));
+    };
     assert_eq!(rt; init.current_num_threads(), 32767);
     let Exit::Gone(_seat) = last.try_exit() else {
         return Err(Fail::new("the exit failed"));
     };
-    assert!(rt; init.try_join(spare, 0).is_ok());
+    assert!(rt; init.try_join(full.seat, 0).is_ok());
     assert_eq!(rt; init.current_num_threads(), 32767);
     Ok(())
 }
@@ -166,10 +173,10 @@ fn pass_once<R: Wait>(
 ) -> Option<Seat<Bare>>
     requires seated { IsSeatAt init.now seat }
     requires away { seat.me.0.standing ≡ Away }
-    requires idle { IsIdleSeat seat.me.0 × (seat.me.0.threads ≡ 0) }
+    requires idle { IsIdle seat.me.0 × (seat.me.0.threads ≡ 0) }
     ensures seated { IfSome result (λ s. IsSeatAt init.now s) }
     ensures away { IfSome result (λ s. s.me.0.standing ≡ Away) }
-    ensures idle { IfSome result (λ s. IsIdleSeat s.me.0 × (s.me.0.threads ≡ 0)) }
+    ensures idle { IfSome result (λ s. IsIdle s.me.0 × (s.me.0.threads ≡ 0)) }
 {
     let Ok(mut barrier) = init.barrier(rt, seat, 0) else {
         return None;
@@ -188,7 +195,7 @@ struct Comer<'a> {
     seat: Seat<Bare>,
     ghost seated: { IsSeatAt init.now seat },
     ghost away: { seat.me.0.standing ≡ Away },
-    ghost idle: { IsIdleSeat seat.me.0 × (seat.me.0.threads ≡ 0) },
+    ghost idle: { IsIdle seat.me.0 × (seat.me.0.threads ≡ 0) },
 }
 
 fn come_and_go<R: Wait>(rt: &R, comer: Comer) {

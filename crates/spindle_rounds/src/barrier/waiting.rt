@@ -1,8 +1,8 @@
 //! The forms of the barrier's calls that wait: loops, which spin between the first looks and then yield.
 ghost use Rattle.std.specs.Prelude.{◌≡◌, ◌⊎◌, ℕ, ◌<◌, IfOk, IfErr, true, false, Option, Bool};
 ghost use Rattle.spindle_rounds.specs.RoundConditions.{IsFreeInside, IsDone, IsWaiting, MayExit, MayLeave};
-ghost use Rattle.spindle_rounds.specs.Holding.{IsHeld, Keeps, IsSeatOf, AwaitTold, StatusTold};
-ghost use Rattle.spindle_rounds.specs.Passing.{Stayed, InNext, WentOut, JoinedAtLast, FullAtLast};
+ghost use Rattle.spindle_rounds.specs.Holding.{IsHeld, Keeps, IsSeatOf, AwaitTold, StatusTold, TurnsLast, WaitTold, TurnsTold};
+ghost use Rattle.spindle_rounds.specs.Passing.{Stayed, InNext, WentOut, JoinedAtLast, FullAtLast, TurnsOn};
 ghost use Rattle.spindle_rounds.specs.declared.round_table.view.Standing.TheVariants.{Away, Closing};
 ghost use Rattle.spindle_rounds.specs.Seating.{IsSeatAt, IsSameSeat};
 
@@ -155,8 +155,8 @@ impl<'a, D: Slots> Barrier<'a, D> {
         unreachable!()
     }
 
-    /// Arrives, and waits until the round has ended, but leaves where `requests`, which it calls each turn, answers more
-    /// than 0. The closer remains (`Barrier::wait_and_clear_while` of spindle).
+    /// Arrives, and waits until the round has ended. Each turn it calls `requests` once: where that answers more than 0 it
+    /// tries to leave, and else it looks. The closer remains (`Barrier::wait_and_clear_while` of spindle).
     pub fn wait_and_clear_while<R: Wait, F: FnMut() -> u64>(
         mut self,
         rt: &R,
@@ -166,7 +166,8 @@ impl<'a, D: Slots> Barrier<'a, D> {
         requires free { MayExit self.seat.me.0 }
         requires done { IsDone self.seat.me.0 }
         requires requests { F.IsAlwaysCallable requests }
-        ensures { StatusTold ((f g : F) × (n : ℕ) × F.step f n g × (0 < n)) self.entry result }
+        ensures status { StatusTold self.entry result }
+        ensures turns { TurnsTold (λ f n g. F.step f n g) requests self.entry result }
     {
         match self.arrive() {
             Arrival::Closer => {
@@ -186,7 +187,9 @@ impl<'a, D: Slots> Barrier<'a, D> {
         requires held { IsHeld self }
         requires waiting { MayLeave self.seat.me.0 }
         requires requests { F.IsAlwaysCallable requests }
-        ensures { AwaitTold ((f g : F) × (n : ℕ) × F.step f n g × (0 < n)) self.entry result }
+        ensures status { AwaitTold self.entry result }
+        ensures turns { WaitTold (λ f n g. F.step f n g) requests
+            self.entry.sense self.entry.seat.me result }
     {
         let mut pauses = Pauses::new();
         let mut barrier = self;
@@ -207,7 +210,10 @@ impl<'a, D: Slots> Barrier<'a, D> {
         requires waiting { MayLeave self.seat.me.0 }
         ensures stays { IfOk result (λ b. Keeps self.entry b
             × Stayed self.entry.seat.me b.seat.me) }
-        ensures ends { IfErr result (λ e. AwaitTold (0 < asked) self.entry e) }
+        ensures ends { IfErr result (λ e. AwaitTold self.entry e) }
+        ensures on { IfOk result (λ b. TurnsOn self.entry.sense asked
+            self.entry.seat.me b.seat.me) }
+        ensures last { IfErr result (λ e. TurnsLast self.entry.sense asked self.entry.seat.me e) }
     {
         if asked > 0 {
             return match self.try_leave() {

@@ -1,15 +1,15 @@
 //! Claims of a thread from its own range and from the remainder: by one exchange each, a number begins.
 ghost use Rattle.std.specs.Prelude.{◌≡◌, ◌<◌};
-ghost use Rattle.spindle_rounds.specs.RoundAnswers.{OwnClaimed, RestClaimed};
+ghost use Rattle.spindle_rounds.specs.RoundAnswers.{OwnClaimedBy, RemainderClaimedBy};
 ghost use Rattle.spindle_rounds.specs.RoundSteps.{number_or};
 ghost use Rattle.spindle_rounds.specs.RoundConditions.{MayClaim};
 ghost use Rattle.spindle_rounds.specs.Seating.{IsSeatAt, IsSameSeat};
 
+use crate::round::Round;
 use crate::round::claim::{Claim, Claimed};
-use crate::round::{HIGH, Round};
-use crate::round_table::plays::{Claims, ClaimsRest, ReadsRest, Recalls, Searches};
+use crate::round_table::plays::{Claims, ClaimsRemainder, ReadsRemainder, Recalls, Searches};
 use crate::round_table::slots::Slots;
-use crate::round_table::{APART, PUBLISHED, RANGES, REST, Seat};
+use crate::round_table::{APART, HIGH, PUBLISHED, RANGES, REMAINDER, Seat};
 
 impl<D: Slots> Round<D> {
     /// Claims the first number of the range of thread t.
@@ -18,7 +18,7 @@ impl<D: Slots> Round<D> {
         requires thread { t < self.now.init.threads }
         requires free { MayClaim seat.old.me.0 }
         ensures seat { IsSameSeat seat.old seat.new }
-        ensures step { OwnClaimed D.discipline t result seat.old.me seat.new.me }
+        ensures step { OwnClaimedBy D.discipline t result seat.old.me seat.new.me }
     {
         let words = &self.init.table.shared;
         let word = RANGES + APART * t;
@@ -39,16 +39,16 @@ impl<D: Slots> Round<D> {
         requires seated { IsSeatAt self.now.init seat.old }
         requires free { MayClaim seat.old.me.0 }
         ensures seat { IsSameSeat seat.old seat.new }
-        ensures step { RestClaimed D.discipline (number_or seat.old.me.0.known.number)
+        ensures step { RemainderClaimedBy D.discipline (number_or seat.old.me.0.known.number)
             result seat.old.me seat.new.me }
     {
         let words = &self.init.table.shared;
-        let rest = words.load::<ReadsRest>(seat, REST);
+        let rest = words.load::<ReadsRemainder>(seat, REMAINDER);
         if rest == 0 {
             return Claim::Nothing;
         }
         let jobs = words.load::<Recalls>(seat, PUBLISHED) % HIGH;
-        let found = words.compare_exchange::<ClaimsRest<D>>(seat, REST, rest, rest - 1);
+        let found = words.compare_exchange::<ClaimsRemainder<D>>(seat, REMAINDER, rest, rest - 1);
         if found == rest {
             Claim::Job(Claimed::new(jobs - rest))
         } else {

@@ -5,10 +5,10 @@ ghost use Rattle.spindle_rounds.specs.RoundSteps.{learning, publishing};
 ghost use Rattle.spindle_rounds.specs.RoundConditions.{MayFill, MayPublish};
 ghost use Rattle.spindle_rounds.specs.Seating.{IsSeatAt, IsSameSeat};
 
-use crate::round::{HIGH, Round};
+use crate::round::Round;
 use crate::round_table::plays::{Fills, Learns, Publishes, PublishesTry};
 use crate::round_table::slots::Slots;
-use crate::round_table::{APART, FINISHED, PUBLISHED, RANGES, REST, STOPPED, Seat};
+use crate::round_table::{APART, FINISHED, HIGH, PUBLISHED, RANGES, REMAINDER, STOPPED, Seat};
 
 impl<D: Slots> Round<D> {
     /// The published word: 0, or n, or n + 2^32 for a round that may stop.
@@ -34,7 +34,7 @@ impl<D: Slots> Round<D> {
         let threads = self.init.threads as u64;
         words.store::<Fills>(seat, FINISHED, 0);
         words.store::<Fills>(seat, STOPPED, 0);
-        words.store::<Fills>(seat, REST, jobs % threads);
+        words.store::<Fills>(seat, REMAINDER, jobs % threads);
         let part = jobs / threads;
         for i in 0..self.init.threads {
             let start = part * i as u64;

@@ -1,15 +1,16 @@
 //! Steals: a thief takes the last half of the longest range in one exchange, and spends it number by number.
 ghost use Rattle.std.specs.Prelude.{◌≡◌, ◌+◌, ◌<◌, ℕ};
 ghost use Rattle.spindle_rounds.specs.RoundAnswers.{ReadAll, StolenBy, SharedBy};
-ghost use Rattle.spindle_rounds.specs.RoundSteps.{length_of, stolen_from, end_of, start_of};
+ghost use Rattle.spindle_rounds.specs.RoundSteps.{stolen_from};
+ghost use Rattle.spindle_rounds.specs.Words.{start_of, end_of, length_of};
 ghost use Rattle.spindle_rounds.specs.RoundConditions.{MayClaim, MayBegin, IsItsShare};
 ghost use Rattle.spindle_rounds.specs.Seating.{IsSeatAt, IsSameSeat};
 
+use crate::round::Round;
 use crate::round::claim::{Claimed, Share, Steal};
-use crate::round::{HIGH, Round};
 use crate::round_table::plays::{Searches, Steals, TakesShare};
 use crate::round_table::slots::Slots;
-use crate::round_table::{APART, RANGES, Seat};
+use crate::round_table::{APART, HIGH, RANGES, Seat};
 
 /// How many numbers a range holds.
 fn length(range: u64) -> u64
@@ -33,23 +34,23 @@ fn last_half(range: u64) -> u64
 }
 
 impl<D: Slots> Round<D> {
-    /// Reads all ranges: the place and the value of the longest, the first among equals.
+    /// Reads all ranges: whose is the longest, the first among equals, and its value.
     fn longest(&self, seat: &mut Seat<D>) -> (usize, u64)
         requires seated { IsSeatAt self.now.init seat.old }
         ensures seat { IsSameSeat seat.old seat.new }
         ensures read { ReadAll self.now.init.threads result.0 result.1 seat.old.me seat.new.me }
     {
         let words = &self.init.table.shared;
-        let mut place = 0;
+        let mut thread = 0;
         let mut range = 0;
         for i in 0..self.init.threads {
             let found = words.load::<Searches>(seat, RANGES + APART * i);
             if length(range) < length(found) {
-                place = i;
+                thread = i;
                 range = found;
             }
         }
-        (place, range)
+        (thread, range)
     }
 
     /// Steals the last half of the longest range: its first number begins, and the others are the share.
@@ -59,14 +60,14 @@ impl<D: Slots> Round<D> {
         ensures seat { IsSameSeat seat.old seat.new }
         ensures step { StolenBy D.discipline self.now.init.threads result seat.old.me seat.new.me }
     {
-        let (place, range) = self.longest(seat);
+        let (thread, range) = self.longest(seat);
         let (start, end) = (range % HIGH, range / HIGH);
         if end <= start {
             return Steal::Nothing;
         }
         let first = last_half(range);
         let left = start + HIGH * first;
-        let word = RANGES + APART * place;
+        let word = RANGES + APART * thread;
         let words = &self.init.table.shared;
         if words.compare_exchange::<Steals<D>>(seat, word, range, left) == range {
             Steal::Job(Claimed::new(first), Share::new(first + 1, end))

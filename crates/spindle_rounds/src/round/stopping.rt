@@ -1,15 +1,15 @@
 //! Rounds that may stop: who runs a failed job stops the round, and who sees it begins nothing more.
 ghost use Rattle.std.specs.Prelude.{◌≡◌, ◌+◌, ◌<◌, ◌≤◌, ℕ, IsTrue, ◌↔◌, ◌==◌};
 ghost use Rattle.spindle_rounds.specs.RoundSteps.{stopping, seeing};
-ghost use Rattle.spindle_rounds.specs.RoundAnswers.{LeftOver, SeenBy, PutBy};
+ghost use Rattle.spindle_rounds.specs.RoundAnswers.{LeftOverBy, SeenBy, PutBy};
 ghost use Rattle.spindle_rounds.specs.RoundConditions.{MayStop, MaySee, MayPutBack, IsItsShare};
 ghost use Rattle.spindle_rounds.specs.Seating.{IsSeatAt, IsSameSeat};
 
+use crate::round::Round;
 use crate::round::claim::{Claimed, Share};
-use crate::round::{HIGH, Round};
-use crate::round_table::plays::{PutsBack, ReadsRest, Searches, Sees, Stops};
+use crate::round_table::plays::{PutsBack, ReadsRemainder, Searches, Sees, Stops};
 use crate::round_table::slots::Slots;
-use crate::round_table::{APART, RANGES, REST, STOPPED, Seat};
+use crate::round_table::{APART, HIGH, RANGES, REMAINDER, STOPPED, Seat};
 
 /// What came of putting a share back into the range of a thread.
 #[derive(Clone, Copy, Debug, PartialEq, Eq)]
@@ -46,15 +46,15 @@ impl<D: Slots> Round<D> {
     /// What is left: the range of thread t, or the remainder where t is the number of threads.
     pub fn left(&self, seat: &mut Seat<D>, t: usize) -> u64
         requires seated { IsSeatAt self.now.init seat.old }
-        requires place { t ≤ self.now.init.threads }
+        requires there { t ≤ self.now.init.threads }
         ensures seat { IsSameSeat seat.old seat.new }
-        ensures step { LeftOver self.now.init.threads t result seat.old.me seat.new.me }
+        ensures step { LeftOverBy self.now.init.threads t result seat.old.me seat.new.me }
     {
         let words = &self.init.table.shared;
         if t < self.init.threads {
             words.load::<Searches>(seat, RANGES + APART * t)
         } else {
-            words.load::<ReadsRest>(seat, REST)
+            words.load::<ReadsRemainder>(seat, REMAINDER)
         }
     }
 

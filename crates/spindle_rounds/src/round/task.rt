@@ -1,7 +1,8 @@
 //! The task of a round: how many jobs it has, and whether it may stop.
 ghost use Rattle.std.specs.Prelude.{◌≡◌, ◌%◌, ◌≤◌, ◌↔◌, IsTrue};
+ghost use Rattle.spindle_rounds.specs.Words.{high_half};
 
-use crate::round::HIGH;
+use crate::round_table::HIGH;
 
 /// What a published word says of its round.
 #[derive(Clone, Copy)]
@@ -15,8 +16,8 @@ pub struct Task {
 impl Task {
     /// The task of a word, which isn't 0.
     pub fn new(word: u64) -> Task
-        ensures jobs { result.jobs ≡ word % 4294967296 }
-        ensures may_stop { IsTrue result.may_stop ↔ (4294967296 ≤ word) }
+        ensures jobs { result.jobs ≡ word % high_half }
+        ensures may_stop { IsTrue result.may_stop ↔ (high_half ≤ word) }
     {
         Task {
             jobs: word % HIGH,

@@ -1,5 +1,6 @@
 //! The kinds of step of the round table: what each tells its seat.
-ghost use Rattle.spindle_rounds.specs.RoundSteps.{loaded, joined, arrived, looked, left, exited, read_by_closer, clears, ends, learned, filled, published, published_try, searched, rest_read, recalled, claimed, stolen, rested, shared, finished, stops, saw, put, same_view, new_view};
+ghost use Rattle.spindle_rounds.specs.RoundSteps.{same_view, new_view};
+ghost use Rattle.spindle_rounds.specs.RoundTells.{LoadTells, JoinTells, ArrivalTells, LookTells, LeaveTells, ExitTells, CloserReadTells, ClearTells, EndTells, LearnTells, FillTells, PublishTells, PublishTryTells, SearchTells, RemainderReadTells, RecallTells, ClaimTells, StealTells, RemainderClaimTells, ShareTells, FinishTells, StopTells, SeeTells, PutBackTells};
 
 use crate::round_table::slots::Slots;
 use crate::round_table::view::View;
@@ -19,103 +20,103 @@ impl<N> Split<View<N>> for NewSeat {
 pub(crate) struct Loads;
 
 impl<S, N> Play<S, View<N>> for Loads {
-    ghost then = { loaded };
+    ghost then = { LoadTells };
 }
 
 pub(crate) struct Joins;
 
 impl<S, N> Play<S, View<N>> for Joins {
-    ghost then = { joined };
+    ghost then = { JoinTells };
 }
 
 pub(crate) struct Arrives;
 
 impl<S, N> Play<S, View<N>> for Arrives {
-    ghost then = { arrived };
+    ghost then = { ArrivalTells };
 }
 
 /// A seat that waits reads the barrier word.
 pub(crate) struct Looks;
 
 impl<S, N> Play<S, View<N>> for Looks {
-    ghost then = { looked };
+    ghost then = { LookTells };
 }
 
 pub(crate) struct Leaves;
 
 impl<S, N> Play<S, View<N>> for Leaves {
-    ghost then = { left };
+    ghost then = { LeaveTells };
 }
 
 pub(crate) struct Exits;
 
 impl<S, N> Play<S, View<N>> for Exits {
-    ghost then = { exited };
+    ghost then = { ExitTells };
 }
 
 /// The closer reads the barrier word.
 pub(crate) struct CloserReads;
 
 impl<S, N> Play<S, View<N>> for CloserReads {
-    ghost then = { read_by_closer };
+    ghost then = { CloserReadTells };
 }
 
 pub(crate) struct Clears;
 
 impl<S, N> Play<S, View<N>> for Clears {
-    ghost then = { clears };
+    ghost then = { ClearTells };
 }
 
 pub(crate) struct Ends;
 
 impl<S, N> Play<S, View<N>> for Ends {
-    ghost then = { ends };
+    ghost then = { EndTells };
 }
 
 /// The published word is read.
 pub(crate) struct Learns;
 
 impl<S, N> Play<S, View<N>> for Learns {
-    ghost then = { learned };
+    ghost then = { LearnTells };
 }
 
 pub(crate) struct Fills;
 
 impl<S, N> Play<S, View<N>> for Fills {
-    ghost then = { filled };
+    ghost then = { FillTells };
 }
 
 pub(crate) struct Publishes;
 
 impl<S, N> Play<S, View<N>> for Publishes {
-    ghost then = { published };
+    ghost then = { PublishTells };
 }
 
 pub(crate) struct PublishesTry;
 
 impl<S, N> Play<S, View<N>> for PublishesTry {
-    ghost then = { published_try };
+    ghost then = { PublishTryTells };
 }
 
 /// A range is read.
 pub(crate) struct Searches;
 
 impl<S, N> Play<S, View<N>> for Searches {
-    ghost then = { searched };
+    ghost then = { SearchTells };
 }
 
 /// The remainder is read.
-pub(crate) struct ReadsRest;
+pub(crate) struct ReadsRemainder;
 
-impl<S, N> Play<S, View<N>> for ReadsRest {
-    ghost then = { rest_read };
+impl<S, N> Play<S, View<N>> for ReadsRemainder {
+    ghost then = { RemainderReadTells };
 }
 
 /// A member that knows the number reads the published word.
 pub(crate) struct Recalls;
 
 impl<S, N> Play<S, View<N>> for Recalls {
-    ghost then = { recalled };
+    ghost then = { RecallTells };
 }
 
 pub(crate) struct Claims<D: Slots> {
@@ -123,7 +124,7 @@ pub(crate) struct Claims<D: Slots> {
 }
 
 impl<D: Slots> Play<D::Slot, View<D::Note>> for Claims<D> {
-    ghost then = { claimed D.discipline };
+    ghost then = { ClaimTells D.discipline };
 }
 
 pub(crate) struct Steals<D: Slots> {
@@ -131,15 +132,15 @@ pub(crate) struct Steals<D: Slots> {
 }
 
 impl<D: Slots> Play<D::Slot, View<D::Note>> for Steals<D> {
-    ghost then = { stolen D.discipline };
+    ghost then = { StealTells D.discipline };
 }
 
-pub(crate) struct ClaimsRest<D: Slots> {
+pub(crate) struct ClaimsRemainder<D: Slots> {
     of: PhantomData<D>,
 }
 
-impl<D: Slots> Play<D::Slot, View<D::Note>> for ClaimsRest<D> {
-    ghost then = { rested D.discipline };
+impl<D: Slots> Play<D::Slot, View<D::Note>> for ClaimsRemainder<D> {
+    ghost then = { RemainderClaimTells D.discipline };
 }
 
 pub(crate) struct TakesShare<D: Slots> {
@@ -147,7 +148,7 @@ pub(crate) struct TakesShare<D: Slots> {
 }
 
 impl<D: Slots> Play<D::Slot, View<D::Note>> for TakesShare<D> {
-    ghost then = { shared D.discipline };
+    ghost then = { ShareTells D.discipline };
 }
 
 pub(crate) struct Finishes<D: Slots> {
@@ -155,24 +156,24 @@ pub(crate) struct Finishes<D: Slots> {
 }
 
 impl<D: Slots> Play<D::Slot, View<D::Note>> for Finishes<D> {
-    ghost then = { finished D.discipline };
+    ghost then = { FinishTells D.discipline };
 }
 
 pub(crate) struct Stops;
 
 impl<S, N> Play<S, View<N>> for Stops {
-    ghost then = { stops };
+    ghost then = { StopTells };
 }
 
 /// The word `stopped` is read.
 pub(crate) struct Sees;
 
 impl<S, N> Play<S, View<N>> for Sees {
-    ghost then = { saw };
+    ghost then = { SeeTells };
 }
 
 pub(crate) struct PutsBack;
 
 impl<S, N> Play<S, View<N>> for PutsBack {
-    ghost then = { put };
+    ghost then = { PutBackTells };
 }

@@ -5,12 +5,10 @@ ghost use Rattle.spindle_rounds.specs.Parties.{IsOut, IsIn};
 use super::turns::Player;
 use crate::barrier::Barrier;
 use crate::barrier::waiting::ExitStatus;
-use crate::round_table::Seat;
 use crate::round_table::slots::Bare;
+use crate::round_table::{HIGH, Seat};
 use std::sync::Wait;
 use std::thread;
-
-const HIGH: u64 = 4294967296;
 
 impl<'a> Player<'a> {
     /// One turn of a member, if a round is published: it arrives once nothing is left for it, and then waits, or

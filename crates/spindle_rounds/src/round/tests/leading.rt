@@ -9,10 +9,8 @@ use super::play::word;
 use super::turns::Player;
 use crate::barrier::Barrier;
 use crate::round_table::slots::Bare;
-use crate::round_table::{FINISHED, STOPPED, Seat};
+use crate::round_table::{FINISHED, HIGH, STOPPED, Seat};
 use std::sync::Wait;
-
-const HIGH: u64 = 4294967296;
 
 /// How often the leader comes and goes, with two rounds each time.
 const VISITS: u64 = 1000;

@@ -1,7 +1,8 @@
 //! Lines of the scripts of coming and going: a step on the table, with the machine beside it, and a guest's visit.
 ghost use Rattle.std.specs.Prelude.{◌≡◌, false};
 ghost use Rattle.spindle_rounds.specs.Holding.{IsHeld};
-ghost use Rattle.spindle_rounds.specs.RoundConditions.{IsIdleSeat, MayClaim, MayArrive, MayExit};
+ghost use Rattle.spindle_rounds.specs.RoundConditions.{MayClaim, MayArrive, MayExit};
+ghost use Rattle.spindle_rounds.specs.Working.{IsIdle};
 ghost use Rattle.spindle_rounds.specs.declared.round_table.view.Standing.TheVariants.{Away};
 ghost use Rattle.spindle_rounds.specs.Seating.{IsSeatAt};
 
@@ -58,11 +59,11 @@ pub fn line(
 ) -> Seat<Bare>
     requires seated { IsSeatAt round.now.init guest }
     requires away { guest.me.0.standing ≡ Away }
-    requires idle { IsIdleSeat guest.me.0 }
+    requires idle { IsIdle guest.me.0 }
     requires follows { guest.me.0.leader ≡ false }
     ensures seated { IsSeatAt round.now.init result }
     ensures away { result.me.0.standing ≡ Away }
-    ensures idle { IsIdleSeat result.me.0 }
+    ensures idle { IsIdle result.me.0 }
     ensures follows { result.me.0.leader ≡ false }
 {
     let (step, expected, job) = said;
@@ -102,7 +103,7 @@ pub fn arrive_and_leave(
     requires follows { one.seat.me.0.leader ≡ false }
     ensures seated { IsSeatAt round.now.init result }
     ensures away { result.me.0.standing ≡ Away }
-    ensures idle { IsIdleSeat result.me.0 }
+    ensures idle { IsIdle result.me.0 }
     ensures follows { result.me.0.leader ≡ false }
 {
     let guest = round.init().new_seat(one.seat());
@@ -124,11 +125,11 @@ pub fn join_and_exit(
 ) -> Seat<Bare>
     requires seated { IsSeatAt round.now.init other }
     requires away { other.me.0.standing ≡ Away }
-    requires idle { IsIdleSeat other.me.0 }
+    requires idle { IsIdle other.me.0 }
     requires follows { other.me.0.leader ≡ false }
     ensures seated { IsSeatAt round.now.init result }
     ensures away { result.me.0.standing ≡ Away }
-    ensures idle { IsIdleSeat result.me.0 }
+    ensures idle { IsIdle result.me.0 }
     ensures follows { result.me.0.leader ≡ false }
 {
     let mut other = other;

@@ -1,7 +1,8 @@
 //! One thread's part of a round that others play at once: each number that it begins is counted.
 ghost use Rattle.std.specs.Prelude.{◌≡◌, ◌<◌, ◌≤◌, ℕ, None, true, false, IsTrue};
 ghost use Rattle.spindle_rounds.specs.RoundRule.{IsListed};
-ghost use Rattle.spindle_rounds.specs.RoundConditions.{MayClaim, MayFinish, MaySee, IsItsShare, IsIdleSeat, IsDone};
+ghost use Rattle.spindle_rounds.specs.RoundConditions.{MayClaim, MayFinish, MaySee, IsItsShare, IsDone};
+ghost use Rattle.spindle_rounds.specs.Working.{IsIdle};
 ghost use Rattle.spindle_rounds.specs.RoundViews.{Onward, SharesAsBefore};
 ghost use Rattle.spindle_rounds.specs.Seating.{IsSeatAt, IsSameSeat};
 
@@ -87,7 +88,7 @@ impl<'a> Player<'a> {
         requires may { IsTrue may_stop → seat.old.me.0.known.may_stop ≡ true }
         ensures seat { IsSameSeat seat.old seat.new }
         ensures goes_on { Onward seat.old.me.0 seat.new.me.0 }
-        ensures idle { IsIdleSeat seat.new.me.0 }
+        ensures idle { IsIdle seat.new.me.0 }
     {
         for _ in rt.forever() {
             if share.is_empty() {
@@ -106,7 +107,7 @@ impl<'a> Player<'a> {
         requires may { IsTrue may_stop → seat.old.me.0.known.may_stop ≡ true }
         ensures seat { IsSameSeat seat.old seat.new }
         ensures goes_on { Onward seat.old.me.0 seat.new.me.0 }
-        ensures idle { IsIdleSeat seat.new.me.0 }
+        ensures idle { IsIdle seat.new.me.0 }
         ensures nothing { result ≡ false → MayClaim seat.new.me.0 }
     {
         match self.round.try_claim_own(seat, self.thread) {
@@ -126,7 +127,7 @@ impl<'a> Player<'a> {
         requires may { IsTrue may_stop → seat.old.me.0.known.may_stop ≡ true }
         ensures seat { IsSameSeat seat.old seat.new }
         ensures goes_on { Onward seat.old.me.0 seat.new.me.0 }
-        ensures idle { IsIdleSeat seat.new.me.0 }
+        ensures idle { IsIdle seat.new.me.0 }
         ensures nothing { result ≡ false → MayClaim seat.new.me.0
             × ((i : ℕ) → i < self.now.round.now.init.threads
             → IsListed i seat.new.me.0.known.emptied) }
@@ -149,7 +150,7 @@ impl<'a> Player<'a> {
         requires may { IsTrue may_stop → seat.old.me.0.known.may_stop ≡ true }
         ensures seat { IsSameSeat seat.old seat.new }
         ensures goes_on { Onward seat.old.me.0 seat.new.me.0 }
-        ensures idle { IsIdleSeat seat.new.me.0 }
+        ensures idle { IsIdle seat.new.me.0 }
         ensures nothing { result ≡ false
             → IsListed seat.new.me.0.threads seat.new.me.0.known.emptied }
     {
@@ -168,11 +169,11 @@ impl<'a> Player<'a> {
         requires seated { IsSeatAt self.now.round.now.init seat.old }
         requires threads { seat.old.me.0.threads ≡ self.now.round.now.init.threads }
         requires knows { MaySee seat.old.me.0 }
-        requires idle { IsIdleSeat seat.old.me.0 }
+        requires idle { IsIdle seat.old.me.0 }
         requires may { IsTrue may_stop → seat.old.me.0.known.may_stop ≡ true }
         ensures seat { IsSameSeat seat.old seat.new }
         ensures goes_on { Onward seat.old.me.0 seat.new.me.0 }
-        ensures idle { IsIdleSeat seat.new.me.0 }
+        ensures idle { IsIdle seat.new.me.0 }
         ensures done { result ≡ false → IsDone seat.new.me.0 }
     {
         if self.round.stopped(seat) {
@@ -192,11 +193,11 @@ impl<'a> Player<'a> {
         requires seated { IsSeatAt self.now.round.now.init seat.old }
         requires threads { seat.old.me.0.threads ≡ self.now.round.now.init.threads }
         requires knows { MaySee seat.old.me.0 }
-        requires idle { IsIdleSeat seat.old.me.0 }
+        requires idle { IsIdle seat.old.me.0 }
         requires may { IsTrue may_stop → seat.old.me.0.known.may_stop ≡ true }
         ensures seat { IsSameSeat seat.old seat.new }
         ensures goes_on { Onward seat.old.me.0 seat.new.me.0 }
-        ensures idle { IsIdleSeat seat.new.me.0 }
+        ensures idle { IsIdle seat.new.me.0 }
         ensures done { IsDone seat.new.me.0 }
     {
         for _ in rt.forever() {

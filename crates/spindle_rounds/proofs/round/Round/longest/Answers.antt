@@ -25,8 +25,8 @@ loop-i-preserved g c = let f = c.loop-i.invariant in let l : List ℕ = f.2.0 in
         (let n = f.2.1 in length_more l x ∙ omega arith),
         (λ j. (seen j, (e.2.0 ∙ ap (λ m. m.1) f.2.2) j)),
         elim c.if-length.branch [
-          | then-length w ↦ (let lt = w.if-length.true in subst (λ (z : ℕ × ℕ). IsBest (l ++ x ∷ []) z.0 z.1) (λ j. (sym (w.place-is ∙ sym f.2.1) j, sym w.range-is j)) (best_last l x c.loop-i.place c.loop-i.range b (omega arith)))
-          | else-length w ↦ (let le = w.if-length.false in subst (λ (z : ℕ × ℕ). IsBest (l ++ x ∷ []) z.0 z.1) (λ j. (sym w.place-is j, sym w.range-is j)) (best_stays l x c.loop-i.place c.loop-i.range b (omega arith)))
+          | then-length w ↦ (let lt = w.if-length.true in subst (λ (z : ℕ × ℕ). IsBest (l ++ x ∷ []) z.0 z.1) (λ j. (sym (w.thread-is ∙ sym f.2.1) j, sym w.range-is j)) (best_last l x c.loop-i.thread c.loop-i.range b (omega arith)))
+          | else-length w ↦ (let le = w.if-length.false in subst (λ (z : ℕ × ℕ). IsBest (l ++ x ∷ []) z.0 z.1) (λ j. (sym w.thread-is j, sym w.range-is j)) (best_stays l x c.loop-i.thread c.loop-i.range b (omega arith)))
         ],
       ),
     )

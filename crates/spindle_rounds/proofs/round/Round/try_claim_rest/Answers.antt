@@ -1,7 +1,8 @@
 -- The loads and the exchange of a claim on the remainder keep the table's rule.
 use Rattle.std.proofs.Common.{rules, arith, ◌≡◌, ◌∙◌, ℕ, ◌-◌, ap, subst, sym}
 use Rattle.spindle_rounds.specs.RoundConditions.{MayClaim}
-use Rattle.spindle_rounds.specs.RoundSteps.{missing, resting, number_or}
+use Rattle.spindle_rounds.specs.Words.{remainder_at}
+use Rattle.spindle_rounds.specs.RoundSteps.{missing, claiming_remainder, number_or}
 use Rattle.spindle_rounds.proofs.RoundMoves.{kept}
 use Rattle.spindle_rounds.proofs.KeptLoads.{rest_reads, recalls}
 use Rattle.spindle_rounds.proofs.KeptSteals.{rests}
@@ -26,7 +27,7 @@ returns-then-found-rest-clause-step g c = let n : ℕ = number_or c.args.seat.no
     let hit = c.if-found-rest.true in let b = c.compare_exchange-found.ensures.2.0 hit in let same = ap (λ w. number_or w.known.number) r.0 in let is : c.new.result ≡ n - v = c.new.ensures ∙ ap (λ (z : ℕ). z - v) r.1 in (
       v,
       b.0,
-      b.1 ∙ (λ i. resting (same i) (hit i) b.0 (r.0 i)),
+      b.1 ∙ (λ i. claiming_remainder (same i) (hit i) b.0 (r.0 i)),
       took_at g.D.Slots.discipline _ _ _ _ _ b.0 ((λ i. same i - hit i) ∙ sym is) (c.load-jobs.ensures.2.0 ∙ c.load-rest.ensures.2.0) b.2,
       is,
       omega arith,
@@ -34,4 +35,4 @@ returns-then-found-rest-clause-step g c = let n : ℕ = number_or c.args.seat.no
 
 pub returns-else-found-rest-clause-step : goal.returns-else-found-rest-clause-step
 returns-else-found-rest-clause-step g c = let v : ℕ = c.load-rest.result in let r = recalled_view _ _ _ _ _ c.requires.free c.load-rest.ensures.2.1 c.load-jobs.ensures.2.1 in let miss = c.if-found-rest.false in let b = c.compare_exchange-found.ensures.2.1 miss in
-    (v, c.compare_exchange-found.result, (λ i. ((b.1 ∙ ap (missing 32 c.compare_exchange-found.result) r.0) i, (b.0 ∙ (c.load-jobs.ensures.2.0 ∙ c.load-rest.ensures.2.0)) i)), miss)
+    (v, c.compare_exchange-found.result, (λ i. ((b.1 ∙ ap (missing remainder_at c.compare_exchange-found.result) r.0) i, (b.0 ∙ (c.load-jobs.ensures.2.0 ∙ c.load-rest.ensures.2.0)) i)), miss, omega arith)

@@ -28,7 +28,7 @@ returns g c = let D = g.D.Slots.discipline in let law : Lawful D = g.met.D.Slots
     finish = λ k may give. finishes D law t slots id me k may give;
     stop = λ k may. halts D law t slots id me k may;
     see = λ may. sees D law t slots id me may;
-    put_back = λ i old to low vacant start_is end_is may. puts D law t slots id me i old to low may vacant start_is end_is;
+    put_back = λ i old to low vacant start_is end_is tidy may. puts D law t slots id me i old to low may vacant start_is end_is tidy;
     arrive = λ f done. arrives D law t slots id me f.0 f.1 f.2 f.3 done;
     exit = λ old may. exits_to D law t slots id me old _ may refl;
     join = λ old away fine room. joins D law t slots id me old away fine room;

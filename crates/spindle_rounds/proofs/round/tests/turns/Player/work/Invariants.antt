@@ -1,6 +1,6 @@
 -- Between two turns the thread has no claim and no share.
 use Rattle.std.proofs.Common.{◌≡◌}
-use Rattle.spindle_rounds.specs.RoundConditions.{IsIdleSeat}
+use Rattle.spindle_rounds.specs.Working.{IsIdle}
 use Rattle.spindle_rounds.specs.RoundViews.{Onward}
 use Rattle.spindle_rounds.proofs.round.tests.turns.Player.work.Given as goal
 
@@ -9,5 +9,5 @@ invariant-loop g l = record {
   table : l.seat.table_id ≡ l.fn.seat.table_id;
   id : l.seat.id ≡ l.fn.seat.id;
   on : Onward l.fn.seat.me.0 l.seat.me.0;
-  idle : IsIdleSeat l.seat.me.0;
+  idle : IsIdle l.seat.me.0;
 }

@@ -1,0 +1,100 @@
+-- The words of a round table by their names: where each stands, which bits it has, and what its fields say.
+use Rattle.std.specs.Prelude.{ℕ, ◌+◌, ◌-◌, ◌*◌, ◌/◌, ◌%◌}
+
+-- Where each word stands.
+
+-- the barrier word
+abbrev pub barrier_at : ℕ
+barrier_at = 0
+
+-- the number of jobs published
+abbrev pub published_at : ℕ
+published_at = 8
+
+-- how many jobs of the round have finished
+abbrev pub finished_at : ℕ
+finished_at = 16
+
+-- whether the round was stopped
+abbrev pub stopped_at : ℕ
+stopped_at = 24
+
+-- the remainder
+abbrev pub remainder_at : ℕ
+remainder_at = 32
+
+-- the range of the thread i
+abbrev pub range_at : ℕ → ℕ
+range_at i = 40 + 8 * i
+
+-- the share of the thread i of a table of t threads: the shares follow the ranges
+abbrev pub share_at : ℕ → ℕ → ℕ
+share_at t i = range_at (t + i)
+
+-- the j-th word that `fill` stores: finished, stopped, the remainder, and then the ranges
+abbrev pub filled_at : ℕ → ℕ
+filled_at j = 16 + 8 * j
+
+-- how many words a table of t threads has
+abbrev pub words_of : ℕ → ℕ
+words_of t = 40 + 16 * t
+
+-- The bits of a word.
+
+-- one past the 15 bits that count parties
+abbrev pub field_size : ℕ
+field_size = 32768
+
+-- a member more in the barrier word
+abbrev pub one_member : ℕ
+one_member = 65536
+
+-- a party more there: a member that hasn't arrived
+abbrev pub one_party : ℕ
+one_party = 65537
+
+-- the bit of the sense
+abbrev pub sense_bit : ℕ
+sense_bit = 2147483648
+
+-- one in the high half of a word: where a range's end starts, and the bit of a published word whose round may stop
+abbrev pub high_half : ℕ
+high_half = 4294967296
+
+-- the most parties of a barrier
+abbrev pub most_parties : ℕ
+most_parties = 32767
+
+-- the most jobs of a round
+abbrev pub most_jobs : ℕ
+most_jobs = 4294967295
+
+-- The fields of a word.
+
+-- how many members haven't arrived, in a barrier word
+abbrev pub count_of : ℕ → ℕ
+count_of n = n % field_size
+
+-- how many members there are
+abbrev pub most_of : ℕ → ℕ
+most_of n = n / one_member % field_size
+
+-- its sense
+abbrev pub sense_of : ℕ → ℕ
+sense_of n = n / sense_bit
+
+-- where a range starts
+abbrev pub start_of : ℕ → ℕ
+start_of range = range % high_half
+
+-- where it ends, the end not included
+abbrev pub end_of : ℕ → ℕ
+end_of range = range / high_half
+
+-- how many numbers it holds
+abbrev pub length_of : ℕ → ℕ
+length_of range = end_of range - start_of range
+
+-- the word of a range
+abbrev pub range_word : ℕ → ℕ → ℕ
+range_word from to = from + high_half * to
