@@ -15,6 +15,8 @@ pub mod RoundChanges
 pub mod KeptShares
 pub mod KeptFinish
 pub mod KeptStops
+pub mod PlainRounds
+pub mod KeptSlots
 pub mod RoundClients
 pub mod KeptLeaving
 pub mod KeptEnding

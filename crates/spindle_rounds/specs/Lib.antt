@@ -4,6 +4,8 @@ pub mod Seating
 pub mod RoundSlots
 pub mod RoundRule
 pub mod RoundSteps
+pub mod SlotSteps
+pub mod SpotPlaces
 pub mod RoundConditions
 pub mod RoundRuns
 pub mod RoundTrails

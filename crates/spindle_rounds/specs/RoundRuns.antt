@@ -17,6 +17,8 @@ use Rattle.spindle_rounds.specs.RoundSteps.{outsider, new_view, count_of, most_o
 use Rattle.spindle_rounds.specs.RoundSteps.{start_of, end_of, stolen_from, range_word, number_or}
 use Rattle.spindle_rounds.specs.RoundSteps as told
 use Rattle.spindle_rounds.specs.RoundConditions.{MayFill, MayPublish, MayClaim, MayBegin, MayFinish, MayGive}
+use Rattle.spindle_rounds.specs.SlotSteps.{taken_out, given_back}
+use Rattle.spindle_rounds.specs.RoundConditions.{MayTakeOut, MayGiveBack}
 use Rattle.spindle_rounds.specs.RoundConditions.{MayStop, MaySee, MayPutBack, IsFreeInside, IsDone}
 use Rattle.spindle_rounds.specs.RoundConditions.{IsWaiting, HasSense, MayLeave, MayExit, IsClosing}
 
@@ -80,6 +82,9 @@ module _ {S N : Type 0} (D : Discipline S N) (t slots id : ℕ) (me : Me S (View
         → Store 8 n (Publish id n ∷ []) told.published
     pub publish_try : (n : ℕ) → 0 < t → 2 ≤ n → n ≤ 4294967295 → MayPublish D t n me.0
         → Store 8 (n + 4294967296) (PublishTry id n ∷ []) told.published_try
+    -- the leader, with nothing published, takes every slot out, and gives back those that it holds
+    pub take_slots : MayTakeOut D slots me.0 → PlainLoad 8 (taken_out D)
+    pub give_slots : MayGiveBack D me → PlainLoad 8 (given_back D)
     -- a member that is in claims the front of a range
     pub claim_own : (i range : ℕ) → i < t → range < 18446744073709551616
         → start_of range < end_of range → MayClaim me.0 → let k : ℕ = start_of range in

@@ -13,6 +13,7 @@ pub mod claim;
 pub mod claiming;
 pub mod finishing;
 pub mod publishing;
+pub mod slots;
 pub mod source;
 pub mod stealing;
 pub mod stopping;

@@ -1,5 +1,6 @@
 //! The kinds of step of the round table: what each tells its seat.
 ghost use Rattle.spindle_rounds.specs.RoundSteps.{loaded, joined, arrived, looked, left, exited, read_by_closer, clears, ends, learned, filled, published, published_try, searched, rest_read, recalled, claimed, stolen, rested, shared, finished, stops, saw, put, same_view, new_view};
+ghost use Rattle.spindle_rounds.specs.SlotSteps.{taken_out, given_back};
 
 use crate::round_table::slots::Slots;
 use crate::round_table::view::View;
@@ -175,4 +176,22 @@ pub(crate) struct PutsBack;
 
 impl<S, N> Play<S, View<N>> for PutsBack {
     ghost then = { put };
+}
+
+/// The leader takes every slot out.
+pub(crate) struct TakesOut<D: Slots> {
+    of: PhantomData<D>,
+}
+
+impl<D: Slots> Play<D::Slot, View<D::Note>> for TakesOut<D> {
+    ghost then = { taken_out D.discipline };
+}
+
+/// The leader gives back the slots that it holds.
+pub(crate) struct GivesBack<D: Slots> {
+    of: PhantomData<D>,
+}
+
+impl<D: Slots> Play<D::Slot, View<D::Note>> for GivesBack<D> {
+    ghost then = { given_back D.discipline };
 }
