@@ -1,5 +1,36 @@
 -- The leader takes every slot out, and gives back those that it holds.
-use Rattle.std.proofs.Common.{◌≡◌, ◌≢◌, ◌⊎◌, inl, inr, ⊎_elim, ℕ, zero, suc, ◌+◌, ◌<◌, ◌≤◌, true, false, List, [], ◌∷◌, ◌++◌, length, length-append, get_or, set, length-set, sym, refl, ap, ◌∙◌, subst, arith, None}
+use Rattle.std.proofs.Common.{
+  ◌≡◌,
+  ◌≢◌,
+  ◌⊎◌,
+  inl,
+  inr,
+  ⊎_elim,
+  ℕ,
+  zero,
+  suc,
+  ◌+◌,
+  ◌<◌,
+  ◌≤◌,
+  true,
+  false,
+  List,
+  [],
+  ◌∷◌,
+  ◌++◌,
+  length,
+  length-append,
+  get_or,
+  set,
+  length-set,
+  sym,
+  refl,
+  ap,
+  ◌∙◌,
+  subst,
+  arith,
+  None,
+}
 use mathlib.Core.Option as m
 use mathlib.Core.Option.{none, some, some-injective, some-ne-none}
 use lib.ListN.{get_elem?}
@@ -41,26 +72,51 @@ module _ {A : Type 0} where
   at_last [] a b zero e = inr (refl, some-injective a b e)
   at_last [] a b (suc j) e = absurd (some-ne-none b (sym e))
   at_last (x ∷ xs) a b zero e = inl (omega arith, e)
-  at_last (x ∷ xs) a b (suc j) e = ⊎_elim (λ (t : (j < length xs) × (get_elem? xs j ≡ some b)). let lt = t.0 in inl (omega arith, t.1)) (λ (t : (j ≡ length xs) × (a ≡ b)). inr (ap suc t.0, t.1)) (at_last xs a b j e)
+  at_last (x ∷ xs) a b (suc j) e = ⊎_elim (λ (t : (j < length xs) × (get_elem? xs j ≡ some b)). let lt = t.0 in inl (
+    omega arith,
+    t.1,
+  )) (λ (t : (j ≡ length xs) × (a ≡ b)). inr (ap suc t.0, t.1)) (at_last xs a b j e)
 
   numbered_last : (i : ℕ) (ys : List A) (y : A) (c : List (ℕ × A)) → numbered i (ys ++ y ∷ []) c ≡ numbered i ys ((i + length ys, y) ∷ c)
   numbered_last i [] y c = ap (λ (j : ℕ). let z : List (ℕ × A) = (j, y) ∷ c in z) (omega arith)
-  numbered_last i (x ∷ xs) y c = let at : i + 1 + length xs ≡ i + suc (length xs) = omega arith in ap (λ (l : List (ℕ × A)). let z : List (ℕ × A) = (i, x) ∷ l in z) (numbered_last (i + 1) xs y c ∙ ap (λ (j : ℕ). numbered (i + 1) xs ((j, y) ∷ c)) at)
+  numbered_last i (x ∷ xs) y c = let at : i + 1 + length xs ≡ i + suc (length xs) = omega arith in ap (λ (l : List (ℕ × A)). let z : List (ℕ
+      × A) = (i, x) ∷ l in z) (numbered_last (i + 1) xs y c ∙ ap (λ (j : ℕ). numbered (i + 1) xs ((j, y) ∷ c)) at)
 
 module _ {X N : Type 0} (D : Discipline X N) (law : Lawful D) where
   -- the view changes in nothing that the slots see
-  unmoved : (S : State) (hs : List (m.Option X)) (vs : List (View N)) (v w : View N) → D.clause S hs vs → get_elem? vs 0 ≡ some v → w.board ≡ v.board → w.note ≡ v.note → w.claim ≡ v.claim → D.clause S hs (set vs 0 w)
-  unmoved S hs vs v w c at b n l = law.stays S S hs vs 0 v w c record { begun = λ _ _. refl; finished = λ _ _. refl; jobs = λ _. refl; published = λ n z. (z, refl); running = λ _ _ _. refl } at (b, n, l)
+  unmoved : (S : State) (hs : List (m.Option X)) (vs : List (View N)) (v w : View N) → D.clause S hs vs → get_elem? vs 0 ≡ some v → w.board ≡ v.board
+      → w.note ≡ v.note → w.claim ≡ v.claim → D.clause S hs (set vs 0 w)
+  unmoved S hs vs v w c at b n l = law.stays S S hs vs 0 v w c record {
+    begun = λ _ _. refl;
+    finished = λ _ _. refl;
+    jobs = λ _. refl;
+    published = λ n z. (
+      z,
+      refl,
+    );
+    running = λ _ _ _. refl;
+  } at (b, n, l)
 
   -- the first n slots go out, the last of them first
-  takes_down : (S : State) (n : ℕ) (hs : List (m.Option X)) (vs : List (View N)) (v : View N) (c : List (ℕ × X)) → AtRest S → D.clause S hs vs → get_elem? vs 0 ≡ some v → n ≤ length hs → ((k : ℕ) → k < n → D.may_take (spot_at v.board k))
+  takes_down : (S : State) (n : ℕ) (hs : List (m.Option X)) (vs : List (View N)) (v : View N) (c : List (ℕ × X)) → AtRest S → D.clause S hs vs
+      → get_elem? vs 0 ≡ some v → n ≤ length hs → ((k : ℕ) → k < n → D.may_take (spot_at v.board k))
       → (w : View N) → w.board ≡ board_out n v.board → w.note ≡ v.note → w.claim ≡ v.claim
       → (a : Act X) × (ys : List X) × Valid hs c a × (length ys ≡ n) × (carried_after c a ≡ numbered 0 ys c) × D.clause S (homes_after hs c a) (set vs 0 w)
       × ((k : ℕ) (y : X) → get_elem? ys k ≡ some y → D.found (spot_at v.board k) y × (HasFinished S k (spot_at v.board k) → D.answered (spot_at v.board k) y))
-  takes_down S zero hs vs v c rest held at le may w b nt cl = (Act.keeps, [], tt, refl, refl, unmoved S hs vs v w held at b nt cl, λ k y e. absurd (some-ne-none y (sym e)))
-  takes_down S (suc n) hs vs v c rest held at le may w b nt cl = let u : View N = record v { board = (n, spot.Out) ∷ v.board } in let one = law.takes S hs vs v u n held rest at (omega arith) (may n (omega arith)) (refl, refl, refl) in let y : X = one.0 in
+  takes_down S zero hs vs v c rest held at le may w b nt cl = (
+    Act.keeps,
+    [],
+    tt,
+    refl,
+    refl,
+    unmoved S hs vs v w held at b nt cl,
+    λ k y e. absurd (some-ne-none y (sym e)),
+  )
+  takes_down S (suc n) hs vs v c rest held at le may w b nt cl = let u : View N = record v { board = (n, spot.Out) ∷ v.board } in
+      let one = law.takes S hs vs v u n held rest at (omega arith) (may n (omega arith)) (refl, refl, refl) in let y : X = one.0 in
       let same = length-set hs n none in
-      let more = takes_down S n (set hs n none) (set vs 0 u) u ((n, y) ∷ c) rest one.2 (first_set vs u v at) (omega arith) (λ k lt. subst D.may_take (sym (spot_else v.board n k spot.Out (λ e. omega arith))) (may k (omega arith))) w b nt cl in
+      let more = takes_down S n (set hs n none) (set vs 0 u) u ((n, y) ∷ c) rest one.2 (first_set vs u v at) (omega arith)
+      (λ k lt. subst D.may_take (sym (spot_else v.board n k spot.Out (λ e. omega arith))) (may k (omega arith))) w b nt cl in
       let ys : List X = more.1 in let many = more.3 in let at_n : n ≡ 0 + length ys = omega arith in (
         Act.chain (Act.takes n y) more.0,
         ys ++ y ∷ [],
@@ -68,15 +124,21 @@ module _ {X N : Type 0} (D : Discipline X N) (law : Lawful D) where
         (let a = length-append ys (y ∷ []) in omega arith),
         ◌∙◌ {b = numbered 0 ys ((n, y) ∷ c)} more.4 (ap (λ (j : ℕ). numbered 0 ys ((j, y) ∷ c)) at_n ∙ sym (numbered_last 0 ys y c)),
         subst (D.clause S (homes_after (set hs n none) ((n, y) ∷ c) more.0)) (first_twice vs u w) more.5,
-        (λ k z e. ⊎_elim (λ (t : (k < length ys) × (get_elem? ys k ≡ some z)). let lt = t.0 in subst (λ (p : Spot N). D.found p z × (HasFinished S k p → D.answered p z)) (spot_else v.board n k spot.Out (λ q. omega arith)) (more.6 k z t.1))
-            (λ (t : (k ≡ length ys) × (y ≡ z)). let kn : n ≡ k = (let a = t.0 in omega arith) in subst (λ (j : ℕ × X). D.found (spot_at v.board j.0) j.1 × (HasFinished S j.0 (spot_at v.board j.0) → D.answered (spot_at v.board j.0) j.1)) (λ i. (kn i, t.1 i)) (one.3, one.4)) (at_last ys y z k e)),
+        (λ k z e. ⊎_elim (λ (t : (k < length ys) × (get_elem? ys k ≡ some z)). let lt = t.0 in
+            subst (λ (p : Spot N). D.found p z × (HasFinished S k p → D.answered p z)) (spot_else v.board n k spot.Out (λ q. omega arith)) (more.6 k z t.1))
+            (λ (t : (k ≡ length ys) × (y ≡ z)). let kn : n ≡ k = (let a = t.0 in omega arith) in
+            subst (λ (j : ℕ × X). D.found (spot_at v.board j.0) j.1 × (HasFinished S j.0 (spot_at v.board j.0)
+            → D.answered (spot_at v.board j.0) j.1)) (λ i. (kn i, t.1 i)) (one.3, one.4)) (at_last ys y z k e)),
       )
 
   -- the slots that are held go back, one after the other
-  gives_down : (S : State) (c : List (ℕ × X)) (hs : List (m.Option X)) (vs : List (View N)) (v : View N) → AtRest S → D.clause S hs vs → get_elem? vs 0 ≡ some v → MayPutAll D S.round c v.board
-      → (w : View N) → w.board ≡ board_back D S.round c v.board → w.note ≡ v.note → w.claim ≡ v.claim → (a : Act X) × Valid hs c a × (carried_after c a ≡ []) × D.clause S (homes_after hs c a) (set vs 0 w)
+  gives_down : (S : State) (c : List (ℕ × X)) (hs : List (m.Option X)) (vs : List (View N)) (v : View N) → AtRest S → D.clause S hs vs
+      → get_elem? vs 0 ≡ some v → MayPutAll D S.round c v.board
+      → (w : View N) → w.board ≡ board_back D S.round c v.board → w.note ≡ v.note → w.claim ≡ v.claim
+      → (a : Act X) × Valid hs c a × (carried_after c a ≡ []) × D.clause S (homes_after hs c a) (set vs 0 w)
   gives_down S [] hs vs v rest held at may w b nt cl = (Act.keeps, tt, refl, unmoved S hs vs v w held at b nt cl)
-  gives_down S (x ∷ c) hs vs v rest held at may w b nt cl = let u : View N = record v { board = (x.0, D.spot_of S.round x.1) ∷ v.board } in let one = law.puts S hs vs v u x.0 x.1 held rest at may.0 (refl, refl, refl) in
+  gives_down S (x ∷ c) hs vs v rest held at may w b nt cl = let u : View N = record v { board = (x.0, D.spot_of S.round x.1) ∷ v.board } in
+      let one = law.puts S hs vs v u x.0 x.1 held rest at may.0 (refl, refl, refl) in
       let more = gives_down S c (set hs x.0 (some x.1)) (set vs 0 u) u rest one (first_set vs u v at) may.1 w b nt cl in
       (Act.chain Act.gives more.0, (tt, more.1), more.2, subst (D.clause S (homes_after (set hs x.0 (some x.1)) c more.0)) (first_twice vs u w) more.3)
 
@@ -147,6 +209,14 @@ module _ {X N : Type 0} (D : Discipline X N) (law : Lawful D) where
           let calm = at_rest S (sound run r.is_run) l.hidden l.open_now in
           let here : round_of me.0.standing ≡ S.round = ap round_of may.1 ∙ sym l.round in
           let put = subst (λ (z : ℕ). MayPutAll D z me.1 me.0.board) (sym l.round) may.3 in
-          let d = gives_down S me.1 s.homes s.views me.0 calm r.slots l.at_0 put w (ap (λ (z : ℕ). board_back D z me.1 me.0.board) here) refl refl in
-          (w, d.0, d.1, loaded run s r id me q at l (trace 8 kind.GiveBack x x) refl (board_back D (round_of me.0.standing) me.1 me.0.board) d.0 d.3, λ i. (w, d.2 i));
+          let d = gives_down S me.1 s.homes s.views me.0 calm r.slots l.at_0 put w (ap (λ (z : ℕ). board_back D z me.1 me.0.board) here) refl refl in (
+            w,
+            d.0,
+            d.1,
+            loaded run s r id me q at l (trace 8 kind.GiveBack x x) refl (board_back D (round_of me.0.standing) me.1 me.0.board) d.0 d.3,
+            λ i. (
+              w,
+              d.2 i,
+            ),
+          );
     }

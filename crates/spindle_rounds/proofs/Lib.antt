@@ -17,6 +17,8 @@ pub mod KeptFinish
 pub mod KeptStops
 pub mod PlainRounds
 pub mod KeptSlots
+pub mod SlotsTold
+pub mod PieceClients
 pub mod RoundClients
 pub mod KeptLeaving
 pub mod KeptEnding

@@ -6,6 +6,8 @@ pub mod RoundRule
 pub mod RoundSteps
 pub mod SlotSteps
 pub mod SpotPlaces
+pub mod RoundPieces
+pub mod PiecesKept
 pub mod RoundConditions
 pub mod RoundRuns
 pub mod RoundTrails

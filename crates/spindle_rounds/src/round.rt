@@ -12,6 +12,7 @@ use std::alloc::Global;
 pub mod claim;
 pub mod claiming;
 pub mod finishing;
+pub mod pieces;
 pub mod publishing;
 pub mod slots;
 pub mod source;
