@@ -1,15 +1,15 @@
 -- What the leader's loops over its slots need: what stands where once all are out, and once they are back.
-use Rattle.std.proofs.Common.{◌≡◌, ◌≢◌, ◌⊎◌, inl, inr, ⊎_elim, ℕ, zero, suc, ◌+◌, ◌<◌, ◌≤◌, false, List, [], ◌∷◌, ◌++◌, length, sym, refl, ap, ◌∙◌, subst, arith}
+use Rattle.std.proofs.Common.{◌≡◌, inl, inr, ⊎_elim, ℕ, zero, suc, ◌+◌, ◌<◌, ◌≤◌, false, List, [], ◌∷◌, ◌++◌, length, sym, refl, ap, ◌∙◌, subst, arith}
 use mathlib.Core.Logic.{dite}
 use mathlib.Core.Option.{some, some-injective, some-ne-none}
 use native.Mathlib.Decide.{ℕ_discrete}
 use lib.ListN.{get_elem?}
-use Rattle.atomic_table.specs.Table.{Me, rest}
+use Rattle.atomic_table.specs.Table.{Me}
 use Rattle.spindle_rounds.specs.declared.round_table.view.View.{View}
 use Rattle.spindle_rounds.specs.declared.round_table.view.Spot.{Spot}
-use Rattle.spindle_rounds.specs.declared.round_table.view.Spot.TheVariants.{Vacant, Out, Filled}
+use Rattle.spindle_rounds.specs.declared.round_table.view.Spot.TheVariants.{Out, Filled}
 use Rattle.spindle_rounds.specs.declared.round_table.pieces.Stand.{Stand}
-use Rattle.spindle_rounds.specs.declared.round_table.pieces.Stand.TheVariants.{Empty, Waits, Done}
+use Rattle.spindle_rounds.specs.declared.round_table.pieces.Stand.TheVariants.{Waits}
 use Rattle.spindle_rounds.specs.RoundSlots.{spot_at}
 use Rattle.spindle_rounds.specs.RoundRule.{Deed, Began, Ended, Showed, deeds_of}
 use Rattle.spindle_rounds.specs.RoundViews.{shown_of, published_of}
@@ -29,6 +29,10 @@ shown_deed r n (Showed q m b ∷ ds) e = ⊎_elim inl (λ z. inr (shown_deed r n
 pub published_last : {N : Type 0} (v : View N) (r n : ℕ) (older : List Deed) → published_of v.trail ≡ Showed r n false ∷ older → HasPublished v r n
 published_last v r n older is = shown_deed r n (deeds_of v.trail) (subst (IsDeed (Showed r n false)) (sym is) (inl refl))
 
+abbrev head_or : {A : Type 0} → A → List A → A
+head_or a [] = a
+head_or a (x ∷ xs) = x
+
 module _ {X : Type 0} where
   -- the slots from i on, each under its number
   pub numbered_at : (ys : List X) (i k : ℕ) (c : List (ℕ × X)) (y : X) → get_elem? ys k ≡ some y → get_elem? (numbered i ys c) k ≡ some (i + k, y)
@@ -41,6 +45,16 @@ module _ {X : Type 0} where
   there [] k lt = absurd (omega arith)
   there (y ∷ ys) zero lt = (y, refl)
   there (y ∷ ys) (suc k) lt = there ys k (omega arith)
+
+  -- the first of these slots is at the hand
+  pub first_at_hand : (c : List (ℕ × X)) (k : ℕ) (y : X) → get_elem? c 0 ≡ some (k, y) → IsAtHand k y c
+  first_at_hand [] k y e = absurd (some-ne-none (k, y) (sym e))
+  first_at_hand (x ∷ c) k y e = let same = some-injective x (k, y) e in ap (λ (z : ℕ × X). let l : List (ℕ × X) = z ∷ c in l) same
+
+  -- and there is one value at the hand
+  pub one_at_hand : (c : List (ℕ × X)) (k : ℕ) (y z : X) → IsAtHand k y c → IsAtHand k z c → y ≡ z
+  one_at_hand [] k y z a b = absurd cc
+  one_at_hand (x ∷ c) k y z a b = let first : (k, y) ≡ (k, z) = ap (λ (l : List (ℕ × X)). head_or x l) (sym a ∙ b) in ap (λ (p : ℕ × X). p.1) first
 
   -- behind the slots from i on
   numbered_behind : (i : ℕ) (ys : List X) (c d : List (ℕ × X)) → numbered i ys c ++ d ≡ numbered i ys (c ++ d)

@@ -1,50 +1,19 @@
 -- Every kind of step keeps what the slots hold of a round's pieces.
-use Rattle.std.proofs.Common.{
-  ◌≡◌,
-  ◌≢◌,
-  ◌⊎◌,
-  inl,
-  inr,
-  ⊎_elim,
-  ℕ,
-  zero,
-  suc,
-  ◌+◌,
-  ◌<◌,
-  ◌≤◌,
-  List,
-  [],
-  ◌∷◌,
-  ◌++◌,
-  map,
-  set,
-  length,
-  length-append,
-  length-set,
-  sym,
-  refl,
-  ap,
-  ◌∙◌,
-  subst,
-  arith,
-  Option,
-  Some,
-  None,
-}
+use Rattle.std.proofs.Common.{◌≡◌, ◌≢◌, ◌⊎◌, inl, inr, ⊎_elim, ℕ, zero, suc, ◌<◌, List, [], ◌∷◌, ◌++◌, map, set, length, length-append, length-set, sym, refl, ap, ◌∙◌, subst, arith, Option, Some, None}
 use mathlib.Core.Logic.{dite}
 use mathlib.Core.Option as m
 use mathlib.Core.Option.{some, none, some-injective, some-ne-none}
 use native.Mathlib.Decide.{ℕ_discrete}
 use lib.ListN.{get_elem?}
-use Rattle.spindle_parts.specs.State.{State, Round, times, now, fresh}
-use Rattle.atomic_table.specs.Table.{Act, rest, Valid, homes_after, carried_after}
+use Rattle.spindle_parts.specs.State.{State, Round, times, fresh}
+use Rattle.atomic_table.specs.Table.{Act, Valid, homes_after, carried_after}
 use Rattle.atomic_table.proofs.Lists.{at_set, set_else}
 use Rattle.spindle_rounds.specs.declared.round_table.view.View.{View}
 use Rattle.spindle_rounds.specs.declared.round_table.view.Spot.{Spot}
 use Rattle.spindle_rounds.specs.declared.round_table.view.Spot.TheVariants.{Vacant, Out, Filled}
 use Rattle.spindle_rounds.specs.declared.round_table.pieces.Stand.{Stand}
 use Rattle.spindle_rounds.specs.declared.round_table.pieces.Stand.TheVariants.{Empty, Waits, Done}
-use Rattle.spindle_rounds.specs.RoundSlots.{Discipline, Lawful, Quiet, Begins, Finishes, Publishes, SameSlots, NoSlots, AtRest, HasFinished, Spotted, spot_at}
+use Rattle.spindle_rounds.specs.RoundSlots.{Lawful, Quiet, Begins, Finishes, Publishes, SameSlots, NoSlots, AtRest, HasFinished, Spotted, spot_at}
 use Rattle.spindle_rounds.specs.RoundPieces.{IsRunning, Fits, Held, Found, Answered, HasAnswer, IsUnrun, spot_with, pieces}
 use Rattle.spindle_rounds.specs.SpotPlaces.{spot_here, spot_else}
 

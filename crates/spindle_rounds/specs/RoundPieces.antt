@@ -1,5 +1,5 @@
 -- A table whose slots hold the pieces of a round.
-use Rattle.std.specs.Prelude.{◌≡◌, ◌≢◌, ◌⊎◌, ◌↔◌, ℕ, ◌<◌, List, [], ◌∷◌, length, Option, Some, None}
+use Rattle.std.specs.Prelude.{◌≡◌, ◌≢◌, ◌⊎◌, ◌↔◌, ℕ, ◌<◌, List, ◌∷◌, length, Option, Some}
 use mathlib.Core.Option as m
 use mathlib.Core.Option.{some, none}
 use lib.ListN.{get_elem?}

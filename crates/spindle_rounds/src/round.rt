@@ -11,6 +11,7 @@ use std::alloc::Global;
 
 pub mod claim;
 pub mod claiming;
+pub mod collecting;
 pub mod finishing;
 pub mod pieces;
 pub mod publishing;
