@@ -10,6 +10,7 @@ pub mod post;
 pub mod seats;
 pub mod sleep;
 pub mod tables;
+pub mod worker;
 
 /// A barrier holds at most so many threads, and so does a lock.
 pub(crate) const MOST_THREADS: usize = 32767;

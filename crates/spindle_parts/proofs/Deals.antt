@@ -12,7 +12,12 @@ use Rattle.spindle_parts.proofs.Lists.{counted_suc, counted_snoc, joined_snoc}
 -- there are as many lengths as pieces
 pub length-lengths_of : (len m : ℕ) → 0 < m → length (lengths_of len m) ≡ m
 length-lengths_of len m h =
-    omega (arith, length-append (replicate (len % m) (len / m + 1)) (replicate (m - len % m) (len / m)), length-replicate (len % m) (len / m + 1), length-replicate (m - len % m) (len / m))
+    omega (
+      arith,
+      length-append (replicate (len % m) (len / m + 1)) (replicate (m - len % m) (len / m)),
+      length-replicate (len % m) (len / m + 1),
+      length-replicate (m - len % m) (len / m),
+    )
 
 -- the length of one of the longer pieces
 pub longer_at : (len m i : ℕ) → i < len % m → get_or (lengths_of len m) i 0 ≡ len / m + 1
@@ -24,7 +29,8 @@ longer_at len m i h =
 -- the length of one of the others
 pub shorter_at : (len m i : ℕ) → len % m ≤ i → i < m → get_or (lengths_of len m) i 0 ≡ len / m
 shorter_at len m i h k =
-    get_or-append_right (replicate (len % m) (len / m + 1)) (replicate (m - len % m) (len / m)) (len % m) i 0 (length-replicate (len % m) (len / m + 1)) h ∙ get_or-replicate (m - len % m) (i - len % m) (len / m) 0 (omega arith)
+    get_or-append_right (replicate (len % m) (len / m + 1)) (replicate (m - len % m) (len / m)) (len % m) i 0 (length-replicate (len % m) (len / m + 1)) h
+    ∙ get_or-replicate (m - len % m) (i - len % m) (len / m) 0 (omega arith)
 
 -- as many numbers as were counted
 pub length-counted : (from n : ℕ) → length (counted from n) ≡ n
@@ -48,7 +54,8 @@ own_run_before xs each i d =
     let k : each ≤ m = omega arith in
     rw (e, drop-take (each * i) m xs, take-take each m (drop (each * i) xs) k) refl
 
-pub own_run : {A : Type 0} (xs : List A) (each threads i : ℕ) → i < threads → take each (drop (each * i) (take (each * threads) xs)) ≡ take each (drop (each * i) xs)
+pub own_run : {A : Type 0} (xs : List A) (each threads i : ℕ) → i < threads
+    → take each (drop (each * i) (take (each * threads) xs)) ≡ take each (drop (each * i) xs)
 own_run xs each threads i h =
     let e : i + suc (threads - (i + 1)) ≡ threads = omega arith in
     rw e at (own_run_before xs each i (threads - (i + 1)))
@@ -67,7 +74,9 @@ hand_empty F threads i h =
     rw e (get_or_at (map F (counted 0 i)) [] (replicate (threads - (i + 1)) []) [] i n)
 
 -- one more hand was dealt
-pub hands_next : {H A : Type 0} (f : H → List A) (hands : List H) (F : ℕ → List A) (threads i : ℕ) (hand : H) → i < threads → map f hands ≡ map F (counted 0 i) ++ replicate (threads - i) [] → f hand ≡ F i → map f (set hands i hand) ≡ map F (counted 0 (i + 1)) ++ replicate (threads - (i + 1)) []
+pub hands_next : {H A : Type 0} (f : H → List A) (hands : List H) (F : ℕ → List A) (threads i : ℕ) (hand : H) → i < threads
+    → map f hands ≡ map F (counted 0 i) ++ replicate (threads - i) [] → f hand ≡ F i
+    → map f (set hands i hand) ≡ map F (counted 0 (i + 1)) ++ replicate (threads - (i + 1)) []
 hands_next f hands F threads i hand h e k =
     let s : threads - i ≡ suc (threads - (i + 1)) = omega arith in
     let n : length (map F (counted 0 i)) ≡ i = length-map (counted 0 i) F ∙ length-counted 0 i in
@@ -79,10 +88,18 @@ hands_next f hands F threads i hand h e k =
 map-dealt : {A B : Type 0} (f : A → B) (xs : List A) (threads i : ℕ) → map f (dealt xs threads i) ≡ dealt (map f xs) threads i
 map-dealt f xs threads i =
     let each = length xs / threads in
-    rw (length-map xs f, map-append f (take each (drop (each * i) xs)) (take 1 (drop (each * threads + i) xs)), drop-map f (each * i) xs, drop-map f (each * threads + i) xs, take-map f each (drop (each * i) xs), take-map f 1 (drop (each * threads + i) xs)) refl
+    rw (
+      length-map xs f,
+      map-append f (take each (drop (each * i) xs)) (take 1 (drop (each * threads + i) xs)),
+      drop-map f (each * i) xs,
+      drop-map f (each * threads + i) xs,
+      take-map f each (drop (each * i) xs),
+      take-map f 1 (drop (each * threads + i) xs),
+    ) refl
 
 -- the same for several threads
-pub map-dealt_all : {A B : Type 0} (f : A → B) (xs : List A) (threads : ℕ) (ks : List ℕ) → map (map f) (map (dealt xs threads) ks) ≡ map (dealt (map f xs) threads) ks
+pub map-dealt_all : {A B : Type 0} (f : A → B) (xs : List A) (threads : ℕ) (ks : List ℕ)
+    → map (map f) (map (dealt xs threads) ks) ≡ map (dealt (map f xs) threads) ks
 map-dealt_all f xs threads [] = refl
 map-dealt_all f xs threads (k ∷ ks) = rw (map-dealt f xs threads k, map-dealt_all f xs threads ks) refl
 
@@ -99,7 +116,8 @@ regrouped p q r s = ap (λ z. p ++ z) (append_assoc q r s) ∙ sym (append_assoc
 -- the two in the middle exchanged
 exchanged : {A : Type 0} (p q r s : List A) → IsPermutation ((p ++ q) ++ (r ++ s)) ((p ++ r) ++ (q ++ s))
 exchanged p q r s =
-    let inner = IsPermutation-append_right p ((q ++ r) ++ s) ((r ++ q) ++ s) (IsPermutation-append_left s (q ++ r) (r ++ q) (IsPermutation-append_comm q r)) in
+    let inner =
+    IsPermutation-append_right p ((q ++ r) ++ s) ((r ++ q) ++ s) (IsPermutation-append_left s (q ++ r) (r ++ q) (IsPermutation-append_comm q r)) in
     rw (regrouped p q r s, regrouped p r q s) at inner
 
 -- the first i threads hold their runs and the first i of the rest
@@ -121,11 +139,14 @@ dealt_part xs threads (suc i) =
     let f : suc i ≡ i + 1 = omega arith in
     let F = dealt xs threads in
     let list : counted 0 (suc i) ≡ counted 0 i ++ i ∷ [] = counted_suc 0 i ∙ ap (λ k. counted 0 i ++ k ∷ []) (zero-add i) in
-    let more : joined (map F (counted 0 (suc i))) ≡ some ++ (run ++ one) = ap (λ k. joined (map F k)) list ∙ ap joined (map-append F (counted 0 i) (i ∷ [])) ∙ joined_snoc (map F (counted 0 i)) (F i) in
+    let more : joined (map F (counted 0 (suc i))) ≡ some ++ (run ++ one) =
+    ap (λ k. joined (map F k)) list ∙ ap joined (map-append F (counted 0 i) (i ∷ [])) ∙ joined_snoc (map F (counted 0 i)) (F i) in
     let ones : take (suc i) R ≡ back ++ one = ap (λ k. take k R) f ∙ take_both i 1 R ∙ ap (λ k. back ++ take 1 k) (drop-drop i (each * threads) xs) in
     let runs : take (each * suc i) xs ≡ front ++ run = ap (λ k. take k xs) e ∙ take_both (each * i) each xs in
     let parts : take (each * suc i) xs ++ take (suc i) R ≡ (front ++ run) ++ (back ++ one) = rw (runs, ones) refl in
-    rw (parts, more) (IsPermutation-trans ((front ++ run) ++ (back ++ one)) ((front ++ back) ++ (run ++ one)) (some ++ (run ++ one)) (exchanged front run back one) (IsPermutation-append_left (run ++ one) (front ++ back) some (dealt_part xs threads i)))
+    rw (parts, more)
+    (IsPermutation-trans ((front ++ run) ++ (back ++ one)) ((front ++ back) ++ (run ++ one)) (some ++ (run ++ one)) (exchanged front run back one)
+    (IsPermutation-append_left (run ++ one) (front ++ back) some (dealt_part xs threads i)))
 
 -- together the threads hold every element once
 pub dealt_all : {A : Type 0} (xs : List A) (threads : ℕ) → 0 < threads → IsPermutation xs (joined (map (dealt xs threads) (counted 0 threads)))

@@ -49,7 +49,8 @@ total_same f g (suc n) h = let a = total_same f g n (λ i lt. h i (omega arith))
 total_but : (f g : ℕ → ℕ) (n k : ℕ) → k < n → ((i : ℕ) → i < n → i ≢ k → f i ≡ g i) → total f n + g k ≡ total g n + f k
 total_but f g zero k lt h = absurd (omega arith)
 total_but f g (suc n) k lt h = dite (ℕ_discrete n k)
-    (λ (e : n ≡ k). let a = total_same f g n (λ i lt. h i (omega arith) (λ z. omega arith)) in subst (λ (z : ℕ). total f n + f n + g z ≡ total g n + g n + f z) e (omega arith))
+    (λ (e : n ≡ k). let a = total_same f g n (λ i lt. h i (omega arith) (λ z. omega arith)) in
+    subst (λ (z : ℕ). total f n + f n + g z ≡ total g n + g n + f z) e (omega arith))
     (λ ne. let a = total_but f g n k (omega arith) (λ i lt. h i (omega arith)) in let b = h n (omega arith) ne in omega arith)
 
 onto_here : (i : ℕ) (f : Log → ℕ) (x : Log) → x.word ≡ place_word i → onto i f x ≡ f x
@@ -92,7 +93,8 @@ module _ (slots : ℕ) where
     kept credit below places requests flags = record {
       wide = length-set s.words i new ∙ r.wide;
       credits =
-          λ p v e. ⊎_elim (λ (h : (p ≡ id) × (noted c x me.0 ≡ v)). subst IsCredit h.1 (credit_after credit)) (λ (h : (p ≢ id) × (get_elem? s.views p ≡ some v)). r.credits p v h.1) (at_set s.views id p (noted c x me.0) v e);
+          λ p v e. ⊎_elim (λ (h : (p ≡ id) × (noted c x me.0 ≡ v)). subst IsCredit h.1 (credit_after credit))
+          (λ (h : (p ≢ id) × (get_elem? s.views p ≡ some v)). r.credits p v h.1) (at_set s.views id p (noted c x me.0) v e);
       never_below = below;
       places = places;
       requests = requests;
@@ -102,11 +104,14 @@ module _ (slots : ℕ) where
     -- a step that opens no place and removes none
     pub elsewhere : c + cost x.kind ≡ me.0.credit + gain x.kind x.found → opened x.kind ≡ 0 → removed x.kind x.found ≡ 0
         → ((j : ℕ) → get_or W (place_word j) 0 ≡ get_or s.words (place_word j) 0)
-        → ((t t' : ℕ) → get_or s.words 0 0 ≡ t % 2 ^ 64 → t' + me.0.credit ≡ t + c → get_or W 0 0 ≡ t' % 2 ^ 64) → ((j : ℕ) → IsFlag j → get_or W j 0 ≤ 1) → Result
+        → ((t t' : ℕ) → get_or s.words 0 0 ≡ t % 2 ^ 64 → t' + me.0.credit ≡ t + c → get_or W 0 0 ≡ t' % 2 ^ 64) → ((j : ℕ) → IsFlag j → get_or W j 0 ≤ 1)
+        → Result
     elsewhere credit none_opened none_removed others requests = kept credit
-        (λ j lt. let a = opened_after j in let b = removed_after j in let z = no_opened j in let y = no_removed j in let h = r.never_below j lt in omega arith)
+        (λ j lt. let a = opened_after j in let b = removed_after j in let z = no_opened j in let y = no_removed j in let h = r.never_below j lt in
+        omega arith)
         (λ j lt. others j ∙ r.places j lt ∙ ap (λ (z : ℕ). z % 2 ^ 64) (sym (as_before j)))
-        (let sums = sum_by_seat (λ v. v.credit) s.views id me.0 (noted c x me.0) at in let same = total_same (unfilled V) (unfilled s.views) slots (λ j lt. as_before j) in
+        (let sums = sum_by_seat (λ v. v.credit) s.views id me.0 (noted c x me.0) at in
+        let same = total_same (unfilled V) (unfilled s.views) slots (λ j lt. as_before j) in
         requests (standing slots s.views) (standing slots V) r.requests (omega arith))
       where
         no_opened : (j : ℕ) → onto j (λ y. opened y.kind) x ≡ 0
@@ -122,7 +127,8 @@ module _ (slots : ℕ) where
     -- a step at the slot k, which moves between its places and the credit
     pub at_slot : (k : ℕ) → k < slots → i ≡ place_word k → x.word ≡ place_word k → cost x.kind ≡ opened x.kind
         → gain x.kind x.found ≡ removed x.kind x.found → c + opened x.kind ≡ me.0.credit + removed x.kind x.found
-        → ((u : ℕ) → get_or s.words (place_word k) 0 ≡ u % 2 ^ 64 → (removed x.kind x.found ≤ u + opened x.kind) × (new ≡ (u + opened x.kind - removed x.kind x.found) % 2 ^ 64)) → Result
+        → ((u : ℕ) → get_or s.words (place_word k) 0 ≡ u % 2 ^ 64
+        → (removed x.kind x.found ≤ u + opened x.kind) × (new ≡ (u + opened x.kind - removed x.kind x.found) % 2 ^ 64)) → Result
     at_slot k low here there costs gains moved goes = let wide = r.wide in let most = r.never_below k low in
         let g = goes (unfilled s.views k) (r.places k low) in let g₀ = g.0 in
         let a = opened_after k in let b = removed_after k in let z = onto_here k (λ y. opened y.kind) x there in
@@ -130,11 +136,14 @@ module _ (slots : ℕ) where
         let other : (j : ℕ) → j ≢ place_word k → get_or W j 0 ≡ get_or s.words j 0 =
         (λ j ne. get_or-set_other s.words i j new 0 (λ e. ne (e ∙ here))) in
         kept (omega arith)
-        (λ j lt. dite (ℕ_discrete j k) (λ (e : j ≡ k). subst (λ (z : ℕ). removed_at z V ≤ opened_at z V) (sym e) (omega arith)) (λ ne. let h = r.never_below j lt in let o = opened_else j ne in let m = removed_else j ne in omega arith))
+        (λ j lt. dite (ℕ_discrete j k) (λ (e : j ≡ k). subst (λ (z : ℕ). removed_at z V ≤ opened_at z V) (sym e) (omega arith))
+        (λ ne. let h = r.never_below j lt in let o = opened_else j ne in let m = removed_else j ne in omega arith))
         (λ j lt. dite (ℕ_discrete j k)
-        (λ (e : j ≡ k). subst (λ (z : ℕ). get_or W (place_word z) 0 ≡ unfilled V z % 2 ^ 64) (sym e) (ap (λ (z : ℕ). get_or W z 0) (sym here) ∙ get_or-set_same s.words i new 0 (omega arith) ∙ g.1 ∙ ap (λ (z : ℕ). z % 2 ^ 64) (omega arith)))
+        (λ (e : j ≡ k). subst (λ (z : ℕ). get_or W (place_word z) 0 ≡ unfilled V z % 2 ^ 64) (sym e)
+        (ap (λ (z : ℕ). get_or W z 0) (sym here) ∙ get_or-set_same s.words i new 0 (omega arith) ∙ g.1 ∙ ap (λ (z : ℕ). z % 2 ^ 64) (omega arith)))
         (λ ne. other (place_word j) (λ e. ne (omega arith)) ∙ r.places j lt ∙ ap (λ (z : ℕ). z % 2 ^ 64) (sym (as_before j ne))))
-        (let sums = sum_by_seat (λ v. v.credit) s.views id me.0 (noted c x me.0) at in let parts = total_but (unfilled V) (unfilled s.views) slots k low (λ j lt ne. as_before j ne) in
+        (let sums = sum_by_seat (λ v. v.credit) s.views id me.0 (noted c x me.0) at in
+        let parts = total_but (unfilled V) (unfilled s.views) slots k low (λ j lt ne. as_before j ne) in
         other 0 (λ e. omega arith) ∙ r.requests ∙ ap (λ (z : ℕ). z % 2 ^ 64) (omega arith))
         (λ j f. subst (λ (z : ℕ). z ≤ 1) (sym (other j (λ e. ⊎_elim (λ (h : j ≡ 8). omega arith) (λ (h : j ≡ 16). omega arith) f))) (r.flags j f))
       where

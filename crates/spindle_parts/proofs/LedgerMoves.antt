@@ -53,8 +53,11 @@ module _ (slots : ℕ) where
         announcing i flag me.0,
         keeps,
         tt,
-        elsewhere slots s r i flag id me me.0.credit (trace i Announce flag flag) at refl refl refl (λ j. other (place_word j) (λ e. omega arith)) (λ t t' eq more. other 0 (λ e. off (sym e)) ∙ eq ∙ ap (λ (z : ℕ). z % 2 ^ 64) (omega arith))
-            (λ j f. dite (ℕ_discrete j i) (λ (e : j ≡ i). subst (λ (z : ℕ). get_or (set s.words i flag) z 0 ≤ 1) (sym e) (let here = get_or-set_same s.words i flag 0 (omega arith) in omega arith)) (λ ne. subst (λ (z : ℕ). z ≤ 1) (sym (other j ne)) (r.flags j f))),
+        elsewhere slots s r i flag id me me.0.credit (trace i Announce flag flag) at refl refl refl (λ j. other (place_word j) (λ e. omega arith))
+            (λ t t' eq more. other 0 (λ e. off (sym e)) ∙ eq ∙ ap (λ (z : ℕ). z % 2 ^ 64) (omega arith))
+            (λ j f. dite (ℕ_discrete j i)
+            (λ (e : j ≡ i). subst (λ (z : ℕ). get_or (set s.words i flag) z 0 ≤ 1) (sym e)
+            (let here = get_or-set_same s.words i flag 0 (omega arith) in omega arith)) (λ ne. subst (λ (z : ℕ). z ≤ 1) (sym (other j ne)) (r.flags j f))),
         (refl, refl),
       )
 
@@ -62,57 +65,88 @@ module _ (slots : ℕ) where
   at_requests : (s : Table) (r : Rule slots s) (id new c : ℕ) (me : M) (k : Kind)
       → let x : ℕ = get_or s.words 0 0 in get_elem? s.views id ≡ some me.0 → c + cost k ≡ me.0.credit + gain k x
       → opened k ≡ 0 → removed k x ≡ 0
-      → ((t t' : ℕ) → x ≡ t % 2 ^ 64 → t' + me.0.credit ≡ t + c → new ≡ t' % 2 ^ 64) → Rule slots (stepped s 0 new id me.1 (noted c (trace 0 k x new) me.0) keeps)
+      → ((t t' : ℕ) → x ≡ t % 2 ^ 64 → t' + me.0.credit ≡ t + c → new ≡ t' % 2 ^ 64)
+      → Rule slots (stepped s 0 new id me.1 (noted c (trace 0 k x new) me.0) keeps)
   at_requests s r id new c me k at credit opens removes moves = let wide = r.wide in
       let same : (j : ℕ) → j ≢ 0 → get_or (set s.words 0 new) j 0 ≡ get_or s.words j 0 =
       (λ j ne. get_or-set_other s.words 0 j new 0 ne) in
-      elsewhere slots s r 0 new id me c (trace 0 k (get_or s.words 0 0) new) at credit opens removes (λ j. same (place_word j) (λ e. omega arith)) (λ t t' is more. get_or-set_same s.words 0 new 0 (omega arith) ∙ moves t t' is more) (λ j f. subst (λ (z : ℕ). z ≤ 1) (sym (same j (λ e. ⊎_elim (λ (h : j ≡ 8). omega arith) (λ (h : j ≡ 16). omega arith) f))) (r.flags j f))
+      elsewhere slots s r 0 new id me c (trace 0 k (get_or s.words 0 0) new) at credit opens removes (λ j. same (place_word j) (λ e. omega arith))
+      (λ t t' is more. get_or-set_same s.words 0 new 0 (omega arith) ∙ moves t t' is more)
+      (λ j f. subst (λ (z : ℕ). z ≤ 1) (sym (same j (λ e. ⊎_elim (λ (h : j ≡ 8). omega arith) (λ (h : j ≡ 16). omega arith) f))) (r.flags j f))
 
   pub asks : (n id : ℕ) (me : M) (k : ℕ)
       → Allows (Rule slots) n id me 0 (λ x. (x + k) % 2 ^ 64) (asked (step n 0 k 0 none) me)
-  asks n id me k s r _ at _ = let x : ℕ = get_or s.words 0 0 in
-      (asking k x me.0, keeps, tt, at_requests s r id ((x + k) % 2 ^ 64) (me.0.credit + k) me (Ask k) at (omega arith) refl refl (λ t t' is more. omega arith), (refl, refl))
+  asks n id me k s r _ at _ = let x : ℕ = get_or s.words 0 0 in (
+    asking k x me.0,
+    keeps,
+    tt,
+    at_requests s r id ((x + k) % 2 ^ 64) (me.0.credit + k) me (Ask k) at (omega arith) refl refl (λ t t' is more. omega arith),
+    (refl, refl),
+  )
 
   pub subtracts : (n id : ℕ) (me : M) (k : ℕ) → k < 2 ^ 64 → k ≤ me.0.credit
       → Allows (Rule slots) n id me 0 (λ x. (x + (2 ^ 64 - k)) % 2 ^ 64) (subtracted (step n 0 k 0 none) me)
-  subtracts n id me k small covered s r _ at _ = let x : ℕ = get_or s.words 0 0 in
-      (subtracting k x me.0, keeps, tt, at_requests s r id ((x + (2 ^ 64 - k)) % 2 ^ 64) (me.0.credit - k) me (Subtract k) at (omega arith) refl refl (λ t t' is more. omega arith), (refl, refl))
+  subtracts n id me k small covered s r _ at _ = let x : ℕ = get_or s.words 0 0 in (
+    subtracting k x me.0,
+    keeps,
+    tt,
+    at_requests s r id ((x + (2 ^ 64 - k)) % 2 ^ 64) (me.0.credit - k) me (Subtract k) at (omega arith) refl refl (λ t t' is more. omega arith),
+    (refl, refl),
+  )
 
   pub installs : (n id : ℕ) (me : M) (k m : ℕ) → k < slots → m ≤ me.0.credit
       → Allows (Rule slots) n id me (place_word k) (λ x. (x + m) % 2 ^ 64) (installed (step n (place_word k) m 0 none) me)
   installs n id me k m low covered s r _ at _ = let x : ℕ = get_or s.words (place_word k) 0 in
-      let new : ℕ = (x + m) % 2 ^ 64 in
-      (installing (place_word k) m x me.0, keeps, tt, at_slot slots s r (place_word k) new id me (me.0.credit - m) (trace (place_word k) (Install m) x new) at k low refl refl refl refl (omega arith) (λ u is. (omega arith, omega arith)), (refl, refl))
+      let new : ℕ = (x + m) % 2 ^ 64 in (
+        installing (place_word k) m x me.0,
+        keeps,
+        tt,
+        at_slot slots s r (place_word k) new id me (me.0.credit - m) (trace (place_word k) (Install m) x new) at k low refl refl refl refl (omega arith)
+            (λ u is. (omega arith, omega arith)),
+        (refl, refl),
+      )
 
   pub closes : (n id : ℕ) (me : M) (k : ℕ) → k < slots
       → Allows (Rule slots) n id me (place_word k) (λ _. 0) (closed (step n (place_word k) 0 0 none) me)
-  closes n id me k low s r _ at _ = let x : ℕ = get_or s.words (place_word k) 0 in
-      (closing (place_word k) x me.0, keeps, tt, at_slot slots s r (place_word k) 0 id me (me.0.credit + x) (trace (place_word k) Close x 0) at k low refl refl refl refl (omega arith) (λ u is. (omega arith, omega arith)), (refl, refl))
+  closes n id me k low s r _ at _ = let x : ℕ = get_or s.words (place_word k) 0 in (
+    closing (place_word k) x me.0,
+    keeps,
+    tt,
+    at_slot slots s r (place_word k) 0 id me (me.0.credit + x) (trace (place_word k) Close x 0) at k low refl refl refl refl (omega arith)
+        (λ u is. (omega arith, omega arith)),
+    (refl, refl),
+  )
 
   pub takes : (n id : ℕ) (me : M) (k old : ℕ) → k < slots → 0 < old
       → Allows (Rule slots) n id me (place_word k) (λ x. either (eqb x old) (old - 1) x) (taken (step n (place_word k) old (old - 1) none) me)
   takes n id me k old low some_left s r _ at _ = let i : ℕ = place_word k in let x : ℕ = get_or s.words i 0 in
       let told = taken (step n i old (old - 1) none) me x in
-      exchanged x old (old - 1) (λ (z : ℕ). (w : Account) × (a : Act (Unit {0})) × Valid s.homes me.1 a × Rule slots (stepped s i z id me.1 w a) × told (w, carried_after me.1 a))
+      exchanged x old (old - 1)
+      (λ (z : ℕ). (w : Account) × (a : Act (Unit {0})) × Valid s.homes me.1 a × Rule slots (stepped s i z id me.1 w a) × told (w, carried_after me.1 a))
       (λ hit. (
         taking i x me.0,
         keeps,
         tt,
-        at_slot slots s r i (old - 1) id me (me.0.credit + 1) (trace i Take x (x - 1)) at k low refl refl refl refl (omega arith) (λ u is. (omega arith, omega arith)),
+        at_slot slots s r i (old - 1) id me (me.0.credit + 1) (trace i Take x (x - 1)) at k low refl refl refl refl (omega arith)
+            (λ u is. (omega arith, omega arith)),
         (refl, (λ _. refl), λ miss. absurd (miss hit)),
       ))
       (λ miss. (missing i x me.0, keeps, tt, stays s r i id me Miss at refl refl refl refl, (refl, (λ hit. absurd (miss hit)), λ _. refl)))
 
   pub splits : (id : ℕ) (v : Account) → Splits (Rule slots) id v v blank
   splits id v s r at =
-      subst (λ (l : List Account). Rule slots record { words = s.words; homes = s.homes; views = l ++ blank ∷ [] }) (sym (set_again s.views id v at)) record {
+      subst (λ (l : List Account). Rule slots record { words = s.words; homes = s.homes; views = l ++ blank ∷ [] })
+      (sym (set_again s.views id v at)) record {
         wide = r.wide;
         credits = λ p u e. ⊎_elim (r.credits p u) (λ (h : blank ≡ u). subst IsCredit h refl) (at_snoc s.views blank u p e);
         never_below = λ j lt. let a = opened_still j in let b = removed_still j in let h = r.never_below j lt in
             omega arith;
         places = λ j lt. r.places j lt ∙ ap (λ (z : ℕ). z % 2 ^ 64) (sym (as_before j));
         requests =
-            r.requests ∙ ap (λ (z : ℕ). z % 2 ^ 64) (let a = total_same (unfilled (s.views ++ blank ∷ [])) (unfilled s.views) slots (λ j _. as_before j) in let b = adds_none (λ u. u.credit) s.views refl in omega arith);
+            r.requests
+            ∙ ap (λ (z : ℕ). z % 2 ^ 64)
+            (let a = total_same (unfilled (s.views ++ blank ∷ [])) (unfilled s.views) slots (λ j _. as_before j) in
+            let b = adds_none (λ u. u.credit) s.views refl in omega arith);
         flags = r.flags;
       }
     where
@@ -134,7 +168,8 @@ module _ (slots : ℕ) where
     places = λ i lt. zeros (place_word i) (λ e. omega arith);
     requests = zeros 0 (λ e. omega arith) ∙ ap (λ (z : ℕ). z % 2 ^ 64) (sym (nothing slots));
     flags =
-        λ j f. ⊎_elim (λ (h : j ≡ 8). let z = zeros j (λ e. omega arith) in omega arith) (λ (h : j ≡ 16). subst (λ (z : ℕ). get_or ws z 0 ≤ 1) (sym h) rest) f;
+        λ j f. ⊎_elim (λ (h : j ≡ 8). let z = zeros j (λ e. omega arith) in omega arith)
+        (λ (h : j ≡ 16). subst (λ (z : ℕ). get_or ws z 0 ≤ 1) (sym h) rest) f;
   }
     where
       first : (p : ℕ) (v : Account) → get_elem? (blank ∷ []) p ≡ some v → IsCredit v

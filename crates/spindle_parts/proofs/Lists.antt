@@ -7,14 +7,16 @@ use Rattle.std.specs.List.{AllZip}
 use Rattle.spindle_parts.specs.Pieces.{joined, counted, total, lengths_of}
 
 -- one more at the end of both lists
-pub all_zip_snoc : {A B : Type 0} (R : A → B → Type 0) (xs : List A) (ys : List B) (x : A) (y : B) → AllZip R xs ys → R x y → AllZip R (xs ++ x ∷ []) (ys ++ y ∷ [])
+pub all_zip_snoc : {A B : Type 0} (R : A → B → Type 0) (xs : List A) (ys : List B) (x : A) (y : B) → AllZip R xs ys → R x y
+    → AllZip R (xs ++ x ∷ []) (ys ++ y ∷ [])
 all_zip_snoc R [] [] x y z r = (r, tt)
 all_zip_snoc R [] (b ∷ ys) x y z r = absurd z
 all_zip_snoc R (a ∷ xs) [] x y z r = absurd z
 all_zip_snoc R (a ∷ xs) (b ∷ ys) x y z r = (z.0, all_zip_snoc R xs ys x y z.1 r)
 
 -- two pairs of lists joined
-pub all_zip_append : {A B : Type 0} (R : A → B → Type 0) (xs : List A) (ys : List B) (vs : List A) (ws : List B) → AllZip R xs ys → AllZip R vs ws → AllZip R (xs ++ vs) (ys ++ ws)
+pub all_zip_append : {A B : Type 0} (R : A → B → Type 0) (xs : List A) (ys : List B) (vs : List A) (ws : List B) → AllZip R xs ys → AllZip R vs ws
+    → AllZip R (xs ++ vs) (ys ++ ws)
 all_zip_append R [] [] vs ws z r = r
 all_zip_append R [] (b ∷ ys) vs ws z r = absurd z
 all_zip_append R (a ∷ xs) [] vs ws z r = absurd z
@@ -96,4 +98,5 @@ reverse_snoc xs x = rw (reverse-append xs (x ∷ [])) refl
 -- a function of each element of the reversed list
 pub map-reverse : {A B : Type 0} (f : A → B) (xs : List A) → map f (reverse xs) ≡ reverse (map f xs)
 map-reverse f [] = refl
-map-reverse f (x ∷ xs) = rw (reverse-append (x ∷ []) xs, reverse-append (f x ∷ []) (map f xs), map-append f (reverse xs) (x ∷ [])) (ap (λ t. t ++ f x ∷ []) (map-reverse f xs))
+map-reverse f (x ∷ xs) =
+    rw (reverse-append (x ∷ []) xs, reverse-append (f x ∷ []) (map f xs), map-append f (reverse xs) (x ∷ [])) (ap (λ t. t ++ f x ∷ []) (map-reverse f xs))

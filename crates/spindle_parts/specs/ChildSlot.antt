@@ -1,5 +1,9 @@
--- What a guard of a child slot shows.
-use Rattle.std.specs.Prelude.{Option, Some, None, refl}
+-- What a guard of a child slot shows, and what a clear does at a word.
+use Rattle.std.specs.Prelude.{◌≡◌, ◌≢◌, ◌⊎◌, ℕ, ◌%◌, ◌<◌, Option, Some, None, refl}
+use Rattle.counted_slot.specs.Counting.{readers}
+use Rattle.counted_slot.specs.declared.TheConstants.{FREE, PRESENT, TAKEN}
+use Rattle.spindle_parts.specs.declared.aarc_imp.word.Clearing.{Clearing}
+use Rattle.spindle_parts.specs.declared.aarc_imp.word.Clearing.TheVariants.{Empty, Take, Mark, Wait}
 use Rattle.std.specs.Coded.{Coded, code_by, coded×, coded_option}
 
 -- the slot's tag, and the value that the guard shows
@@ -14,3 +18,11 @@ sight_code {G} {T} g t = code_by (G × Option T) (coded× g (coded_option t)) (�
 abbrev pub shown_value : {T : Type 0} → Option (Option T) → Option T
 shown_value None = None
 shown_value (Some value) = value
+
+-- It is empty where the word is free, takes where no guard is out, and marks where guards are out
+-- and may still come. Else it waits: another thread has the value, or guards are out and none may come
+abbrev pub IsClearing : ℕ → Clearing → Type 0
+IsClearing word Empty = word ≡ FREE
+IsClearing word Take = (word ≢ FREE) × (word % 4 < TAKEN) × (readers word ≡ 0)
+IsClearing word Mark = (word % 4 ≡ PRESENT) × (0 < readers word)
+IsClearing word Wait = (word % 4 ≡ TAKEN) ⊎ ((word % 4 ≢ PRESENT) × (0 < readers word))

@@ -5,17 +5,18 @@ use mathlib.Core.Option.{some}
 use lib.ListN.{get_elem?}
 use Rattle.atomic_table.specs.Table.{State}
 use Rattle.spindle_parts.specs.declared.trail.Trace.{Trace}
+use Rattle.spindle_parts.specs.declared.words.TheConstants.{LINE, REQUESTS, EXIT, REST, PLACES}
 use Rattle.spindle_parts.specs.declared.requests.plays.Kind.{Kind}
 use Rattle.spindle_parts.specs.declared.requests.plays.Kind.TheVariants.{Ask, Subtract, Install, Take, Close}
 use Rattle.spindle_parts.specs.declared.requests.plays.Account.{Account}
 
 -- the word of the places of the child slot i
 abbrev pub place_word : ℕ → ℕ
-place_word i = 24 + 8 * i
+place_word i = PLACES + LINE * i
 
 -- the words of the two flags: exit announced, rest announced
 abbrev pub IsFlag : ℕ → Type 0
-IsFlag word = (word ≡ 8) ⊎ (word ≡ 16)
+IsFlag word = (word ≡ EXIT) ⊎ (word ≡ REST)
 
 -- what a step of a kind adds to its seat's credit, by the value that it found
 abbrev pub gain : Kind → ℕ → ℕ
@@ -71,9 +72,17 @@ abbrev pub total : (ℕ → ℕ) → ℕ → ℕ
 total f zero = 0
 total f (suc n) = total f n + f n
 
+-- the credits of all seats
+abbrev pub credits_of : List Account → ℕ
+credits_of views = sum_by (λ v. v.credit) views
+
 -- the requests that stand: the unfilled places and the credits of all seats
 abbrev pub standing : ℕ → List Account → ℕ
-standing slots views = total (unfilled views) slots + sum_by (λ v. v.credit) views
+standing slots views = total (unfilled views) slots + credits_of views
+
+-- the unfilled places that the words of the slots show
+abbrev pub shown_places : ℕ → List ℕ → ℕ
+shown_places slots words = total (λ i. slice_index words (place_word i)) slots
 
 -- the books balance: requests are those that stand, as the words count
 pub record Balanced (slots : ℕ) (s : State (Unit {0}) Account) : Type 0 where
@@ -82,10 +91,18 @@ pub record Balanced (slots : ℕ) (s : State (Unit {0}) Account) : Type 0 where
   pub never_below : (i : ℕ) → i < slots → removed_at i s.views ≤ opened_at i s.views
   pub places : (i : ℕ) → i < slots
       → slice_index s.words (place_word i) ≡ unfilled s.views i % 2 ^ 64
-  pub requests : slice_index s.words 0 ≡ standing slots s.views % 2 ^ 64
+  pub requests : slice_index s.words REQUESTS ≡ standing slots s.views % 2 ^ 64
   pub flags : (word : ℕ) → IsFlag word → slice_index s.words word ≤ 1
+
+-- Requests are the unfilled places and all credits: by the trails of the seats, and by the
+-- words of the slots. Each seat's credit is that of its own trail
+pub record BooksBalance (slots : ℕ) (s : State (Unit {0}) Account) : Type 0 where
+  pub by_trails : slice_index s.words REQUESTS ≡ standing slots s.views % 2 ^ 64
+  pub by_words : slice_index s.words REQUESTS
+      ≡ (shown_places slots s.words + credits_of s.views) % 2 ^ 64
+  pub credits : (p : ℕ) (v : Account) → get_elem? s.views p ≡ some v → IsCredit v
 
 -- no word has wrapped
 pub record IsExact (slots : ℕ) (s : State (Unit {0}) Account) : Type 0 where
   pub places : (i : ℕ) → i < slots → slice_index s.words (place_word i) ≡ unfilled s.views i
-  pub requests : slice_index s.words 0 ≡ standing slots s.views
+  pub requests : slice_index s.words REQUESTS ≡ standing slots s.views

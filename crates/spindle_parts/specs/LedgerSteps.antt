@@ -3,6 +3,7 @@ use Rattle.std.specs.Prelude.{◌≡◌, ◌≢◌, ℕ, ◌+◌, ◌-◌, ◌%�
 use Rattle.atomic_table.specs.Table.{Me, Step}
 use Rattle.spindle_parts.specs.declared.trail.Trace.{Trace}
 use Rattle.spindle_parts.specs.Trail.{trace}
+use Rattle.spindle_parts.specs.declared.words.TheConstants.{REQUESTS}
 use Rattle.spindle_parts.specs.declared.requests.plays.Kind.{Kind}
 use Rattle.spindle_parts.specs.declared.requests.plays.Kind.TheVariants as kind
 use Rattle.spindle_parts.specs.declared.requests.plays.Account.{Account}
@@ -40,12 +41,12 @@ announcing word flag v = noted v.credit (trace word kind.Announce flag flag) v
 
 -- after asking for n helpers
 abbrev pub asking : ℕ → ℕ → Account → Account
-asking n found v = noted (v.credit + n) (trace 0 (kind.Ask n) found ((found + n) % 2 ^ 64)) v
+asking n found v = noted (v.credit + n) (trace REQUESTS (kind.Ask n) found ((found + n) % 2 ^ 64)) v
 
 -- after lowering requests by n
 abbrev pub subtracting : ℕ → ℕ → Account → Account
 subtracting n found v =
-    noted (v.credit - n) (trace 0 (kind.Subtract n) found ((found + (2 ^ 64 - n)) % 2 ^ 64)) v
+    noted (v.credit - n) (trace REQUESTS (kind.Subtract n) found ((found + (2 ^ 64 - n)) % 2 ^ 64)) v
 
 -- after opening n places
 abbrev pub installing : ℕ → ℕ → ℕ → Account → Account

@@ -8,12 +8,14 @@ ghost use Rattle.counted_slot.specs.Counting.{readers, IsTurn};
 
 #[cfg(test)]
 mod tests;
+mod word;
 
 pub use counted_slot::Fits;
-use counted_slot::{Claim, Counted, FREE, MARKED, MOST_READERS, ONE_READER, PRESENT, TAKEN};
+use counted_slot::{Claim, Counted, FREE, MARKED, ONE_READER, PRESENT, TAKEN};
 use crossbeam_utils::{Backoff, CachePadded};
 use std::marker::Model;
 use std::sync::Wait;
+use word::{Clearing, admits, clearing_of, is_free, is_present};
 
 /// A slot for a value, named after spindle's slot for an `Arc`. Each value that ever stands there meets `T::fits` at the
 /// slot's tag, which is fixed when the slot is made. In a clause the slot is its tag.
@@ -50,19 +52,6 @@ impl<'a, T: Fits> Model for Guard<'a, T> {
     ghost invariant = { λ g. (g.claim.right ≡ 1) × IsSome (shown_value g.claim.value) };
 }
 
-/// The state of a word.
-fn state_of(word: u64) -> u64
-    ensures { result ≡ word % 4 }
-{
-    word % 4
-}
-
-fn reader_count(word: u64) -> u64
-    ensures { result ≡ readers word }
-{
-    word % 0x1_0000_0000 / ONE_READER
-}
-
 impl<T: Fits> AtomicArc<T> {
     /// An empty slot for values that fit the tag.
     pub fn null(tag: &T::Tag) -> AtomicArc<T>
@@ -75,12 +64,12 @@ impl<T: Fits> AtomicArc<T> {
 
     /// Whether no value stands that a new guard could come to. True of an empty slot that no other thread is using.
     pub fn is_null(&self) -> bool {
-        state_of(self.slot.load()) != PRESENT
+        !is_present(self.slot.load())
     }
 
     /// Whether the slot is empty and no thread uses it.
     pub fn is_free(&self) -> bool {
-        self.slot.load() == FREE
+        is_free(self.slot.load())
     }
 
     /// A guard of the value. There is none where no value stands, where it is being cleared, where another step came
@@ -89,7 +78,7 @@ impl<T: Fits> AtomicArc<T> {
         ensures { IfSome result (λ guard. guard.tag ≡ self.now) }
     {
         let word = self.slot.load();
-        if state_of(word) != PRESENT || reader_count(word) == MOST_READERS {
+        if !admits(word) {
             return None;
         }
         let (found, claim) = self.slot.turn(word, word + ONE_READER);
@@ -128,16 +117,15 @@ impl<T: Fits> AtomicArc<T> {
         let pauses = Backoff::new();
         for _ in rt.forever() {
             let word = self.slot.load();
-            if word == FREE {
-                return None;
-            }
-            let state = state_of(word);
-            if reader_count(word) == 0 && state != TAKEN {
-                if let Ok(value) = self.take(word) {
-                    return value;
+            match clearing_of(word) {
+                Clearing::Empty => return None,
+                Clearing::Take => {
+                    if let Ok(value) = self.take(word) {
+                        return value;
+                    }
                 }
-            } else if state == PRESENT {
-                self.mark(word);
+                Clearing::Mark => self.mark(word),
+                Clearing::Wait => {}
             }
             pauses.snooze();
         }

@@ -9,3 +9,4 @@ pub mod numbers;
 pub mod requests;
 pub mod steps;
 pub mod trail;
+pub mod words;

@@ -1,9 +1,10 @@
-//! Thread numbers of a lock. A number in use is a bit: the bit `k % 32` of the word `k / 32` is that of number k.
+//! Thread numbers of a lock. A number in use is a bit: number k has the bit `k % BITS` of the word
+//! `LINE * (k / BITS)`.
 //!
-//! Bit 0 of word 0 is set from the start and is the leader's. The words stand a cache line apart, since threads with
-//! numbers of different words change them.
+//! Bit 0 of word 0 is set from the start and is the leader's.
 ghost use Rattle.std.specs.Prelude.{◌≡◌, ℕ, ◌%◌, ◌<◌, ◌≤◌, IfOk, OnErr, IsErrOf, []};
-ghost use Rattle.spindle_parts.specs.ThreadNumbers.{IsSeatOf, IsTake, IsExchange, IsSameSeat, leader_view, outsider_view, holding_after, giving};
+ghost use Rattle.atomic_table.specs.Table.{State};
+ghost use Rattle.spindle_parts.specs.ThreadNumbers.{IsNumbering, NumbersDiffer, IsSeatOf, IsTake, IsExchange, IsSameSeat, leader_view, outsider_view, holding_after, bit_of, giving};
 ghost use Rattle.spindle_parts.specs.declared.numbers.plays.Holding.TheVariants.{Nothing, Has};
 ghost use Rattle.std.specs.Int.{bit_at};
 ghost use Rattle.spindle_parts.specs.declared.fault.Fault.TheVariants.{Memory};
@@ -13,17 +14,12 @@ mod plays;
 mod tests;
 
 use crate::fault::Fault;
+use crate::words::{BITS, LINE};
 use atomic_table::Table;
 use plays::{Another, Gives, Loads, Takes};
 pub use plays::{Holding, InUse, Kind, View};
 use std::alloc::Global;
 use std::marker::Model;
-
-/// The numbers that one word has bits for.
-const BITS: usize = 32;
-
-/// The words of the table from one word with bits to the next: a cache line.
-const LINE: usize = 8;
 
 /// A token of one thread for a numbers table.
 pub type Seat = atomic_table::Seat<(), View>;
@@ -38,13 +34,14 @@ pub struct Numbers {
 impl Model for Numbers {
     ghost use Rattle.std.specs.Prelude.{◌≡◌, ◌*◌, ◌≤◌};
     ghost use Rattle.spindle_parts.specs.ThreadNumbers.{NumberTable, word_count};
+    ghost use Rattle.spindle_parts.specs.declared.words.TheConstants.{LINE};
 
     ghost Value = { NumberTable };
 
     ghost view = { λ n. record { table = n.table.shared.table_id; threads = n.threads } };
 
     ghost invariant = { λ n.
-        (n.table.shared.table_id.words ≡ 8 * word_count n.threads)
+        (n.table.shared.table_id.words ≡ LINE * word_count n.threads)
         × (n.table.shared.key ≡ n.threads) × (1 ≤ n.threads) × (n.threads ≤ 32767) };
 }
 
@@ -112,7 +109,7 @@ impl Numbers {
     fn exchange(&self, seat: &mut Seat, word: u64, number: usize) -> Take
         requires seated { seat.old.table_id ≡ self.now.table }
         requires no_number { seat.old.me.0.holding ≡ Nothing }
-        requires number { (number < self.now.threads) × (bit_at word (number % 32) ≡ 0) }
+        requires number { (number < self.now.threads) × (bit_at word (bit_of number) ≡ 0) }
         ensures seat { IsSameSeat seat.old seat.new }
         ensures answer { IsExchange number word result seat.old.me.0 seat.new.me.0 }
     {
@@ -142,3 +139,10 @@ impl Numbers {
             .fetch_and::<Gives>(seat, LINE * (number / BITS), !bit);
     }
 }
+
+/// Between any two steps on a numbers table two seats that have a number have different ones, 0 is
+/// the leader's alone, and each is below the threads.
+pub fn numbers_differ()
+    ensures { (threads : ℕ) (s : State (Unit {0}) View) → IsNumbering threads s
+        → NumbersDiffer threads s.views }
+{}

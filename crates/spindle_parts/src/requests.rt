@@ -3,22 +3,23 @@
 //!
 //! | word | holds | changed by |
 //! |---|---|---|
-//! | 0 | requests | `ask`, `subtract` |
-//! | 8 | 1 once exit is announced, else 0 | `announce_exit` |
-//! | 16 | 1 while rest is announced, else 0 | `announce_rest` |
-//! | 24 + 8 i | the unfilled places of child slot i | `install`, `try_take_place`, `close` |
+//! | `REQUESTS` | requests | `ask`, `subtract` |
+//! | `EXIT` | 1 once exit is announced, else 0 | `announce_exit` |
+//! | `REST` | 1 while rest is announced, else 0 | `announce_rest` |
+//! | `PLACES + LINE * i` | the unfilled places of child slot i | `install`, `try_take_place`, `close` |
 //!
-//! Eight words are a cache line, so no two words that are used share one. Each seat has a credit,
+//! The module `words` has these names. Each seat has a credit,
 //! which contracts alone see: the requests that it has to place or to take back. Between any two
 //! steps requests are the unfilled places and the credits of all seats together, modulo 2^64 since
 //! a word wraps, and exactly while these are fewer than 2^64.
 ghost use Rattle.std.specs.Prelude.{◌≡◌, ◌≢◌, ℕ, ◌+◌, ◌*◌, ◌^◌, ◌<◌, ◌≤◌, [], IfOk, OnErr, IsErrOf, if◌then◌else◌};
-ghost use Rattle.spindle_parts.specs.Ledger.{place_word, IsFlag, standing, Balanced, IsExact};
+ghost use Rattle.spindle_parts.specs.Ledger.{place_word, IsFlag, standing, Balanced, BooksBalance, IsExact};
 ghost use Rattle.spindle_parts.specs.declared.requests.plays.Account.{Account};
 ghost use Rattle.atomic_table.specs.Table.{State};
 ghost use Rattle.spindle_parts.specs.LedgerSteps.{TookBy, blank, loading, announcing, asking, subtracting, installing, taking, missing, closing};
 
 use crate::fault::Fault;
+use crate::words::{EXIT, LINE, PLACES, REQUESTS, REST};
 use atomic_table::Table;
 use plays::{Account, Announces, Another, Asks, Closes, Installs, Ledger, Loads, Subtracts, Takes};
 use std::alloc::Global;
@@ -26,17 +27,6 @@ use std::alloc::Global;
 pub mod plays;
 #[cfg(test)]
 mod tests;
-
-const REQUESTS: usize = 0;
-
-const EXIT: usize = 8;
-
-const REST: usize = 16;
-
-const PLACES: usize = 24;
-
-/// The words from one slot's places to the next one's.
-const LINE: usize = 8;
 
 /// A seat at the ledger, for one thread at a time.
 pub type Seat = atomic_table::Seat<(), Account>;
@@ -159,7 +149,7 @@ impl Requests {
     pub fn requests(&self, seat: &mut Seat) -> u64
         requires { IsSeatOf self.now seat.old }
         ensures seat { IsSameSeat seat.old seat.new }
-        ensures step { seat.new.me.0 ≡ loading 0 result seat.old.me.0 }
+        ensures step { seat.new.me.0 ≡ loading REQUESTS result seat.old.me.0 }
     {
         self.load(seat, REQUESTS)
     }
@@ -168,7 +158,7 @@ impl Requests {
     pub fn announce_exit(&self, seat: &mut Seat, exit: bool)
         requires { IsSeatOf self.now seat.old }
         ensures seat { IsSameSeat seat.old seat.new }
-        ensures step { seat.new.me.0 ≡ announcing 8 (if exit then 1 else 0) seat.old.me.0 }
+        ensures step { seat.new.me.0 ≡ announcing EXIT (if exit then 1 else 0) seat.old.me.0 }
     {
         self.store_flag(seat, EXIT, exit);
     }
@@ -177,7 +167,7 @@ impl Requests {
     pub fn announce_rest(&self, seat: &mut Seat, rest: bool)
         requires { IsSeatOf self.now seat.old }
         ensures seat { IsSameSeat seat.old seat.new }
-        ensures step { seat.new.me.0 ≡ announcing 16 (if rest then 1 else 0) seat.old.me.0 }
+        ensures step { seat.new.me.0 ≡ announcing REST (if rest then 1 else 0) seat.old.me.0 }
     {
         self.store_flag(seat, REST, rest);
     }
@@ -186,7 +176,7 @@ impl Requests {
     pub fn exit_announced(&self, seat: &mut Seat) -> bool
         requires { IsSeatOf self.now seat.old }
         ensures seat { IsSameSeat seat.old seat.new }
-        ensures step { seat.new.me.0 ≡ loading 8 (if result then 1 else 0) seat.old.me.0 }
+        ensures step { seat.new.me.0 ≡ loading EXIT (if result then 1 else 0) seat.old.me.0 }
     {
         self.load(seat, EXIT) == 1
     }
@@ -195,7 +185,7 @@ impl Requests {
     pub fn rest_announced(&self, seat: &mut Seat) -> bool
         requires { IsSeatOf self.now seat.old }
         ensures seat { IsSameSeat seat.old seat.new }
-        ensures step { seat.new.me.0 ≡ loading 16 (if result then 1 else 0) seat.old.me.0 }
+        ensures step { seat.new.me.0 ≡ loading REST (if result then 1 else 0) seat.old.me.0 }
     {
         self.load(seat, REST) == 1
     }
@@ -236,6 +226,12 @@ impl Requests {
         words.compare_exchange::<Takes>(seat, PLACES + LINE * slot, unfilled, unfilled - 1)
     }
 }
+
+/// Between any two steps on a ledger requests are the unfilled places and the credits of all seats,
+/// as the words count.
+pub fn books_balance()
+    ensures { (slots : ℕ) (s : State (Unit {0}) Account) → Balanced slots s → BooksBalance slots s }
+{}
 
 /// While fewer than 2^64 requests stand, the words show requests and unfilled places as they are.
 pub fn exact_while_few()

@@ -24,3 +24,4 @@ pub mod KeptLeaving
 pub mod KeptEnding
 pub mod BarrierClients
 pub mod Workers
+pub mod PartyWork

@@ -18,4 +18,5 @@ pub mod Holding
 pub mod Passing
 pub mod Working
 pub mod Sources
+pub mod PartyWork
 pub mod Parties

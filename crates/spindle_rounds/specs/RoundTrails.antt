@@ -53,3 +53,7 @@ module _ {N : Type 0} where
 abbrev pub EveryMoment : {S N : Type 0} → Discipline S N → Type 0
 EveryMoment {S} {N} D = (t : ℕ) (s : table.State S (View N)) (rule : Shown D t s)
     → LawfulRun t rule.run s
+
+-- this holds of the views of all seats, at every moment of every table
+abbrev pub AtEveryMoment : {S N : Type 0} → Discipline S N → (List (View N) → Type 0) → Type 0
+AtEveryMoment {S} {N} D P = (t : ℕ) (s : table.State S (View N)) → Shown D t s → P s.views

@@ -4,12 +4,14 @@ ghost use Rattle.std.specs.List.{AllZip};
 ghost use Rattle.std.proofs.Common.{rules};
 ghost use Rattle.spindle.specs.Rounds.{job_count};
 ghost use Rattle.spindle_parts.specs.Pieces.{joined};
-ghost use Rattle.spindle_vectors.specs.Callers.{AreAllOf, IsFunction, PublishedTwice};
+ghost use Rattle.spindle_vectors.specs.Callers.{AreAllOf, IsFunction, PublishedTwice, JobsDiffer};
 ghost use denote.Param.Send.{IsSync};
 
 use crate::chunks::AddOne;
 use spindle::cut::piece_lengths;
 use spindle::lock::{End, Gate, Job, JobCx, Leader, Limits, Nest, NoGate, Opens, Pool};
+use spindle::round_table::runs::every_moment;
+use spindle::round_table::slots::Slots;
 use spindle::{Fault, ListRun, SharedList, with_lock};
 use std::alloc::{AllocError, Global};
 use std::sync::Wait;
@@ -173,4 +175,15 @@ pub fn two_rounds<J: Opens<L>, G: Gate, L, H: Threads + Wait + Sync>(
     let by_first = leader.for_each(rt, alloc, jobs, first)?;
     let by_second = leader.for_each(rt, alloc, jobs, second)?;
     Ok((by_first, by_second))
+}
+
+/// Two jobs that two seats of one round table began in one round have different numbers, whatever the
+/// table's threads have done.
+///
+/// The run that the table shows has begun each number at most once, and the seats' trails together
+/// tell just what that run has begun.
+pub fn jobs_differ<D: Slots>()
+    ensures { JobsDiffer D.discipline }
+{
+    every_moment::<D>();
 }

@@ -11,8 +11,8 @@ use spindle_parts::numbers::Numbers;
 use spindle_parts::requests::Requests;
 use spindle_parts::{numbers, requests};
 use spindle_rounds::round::Round;
-use spindle_rounds::round_table::slots::Bare;
 use spindle_rounds::round_table;
+use spindle_rounds::round_table::slots::Bare;
 use std::alloc::Global;
 
 /// The leader's seats at the tables of its lock.

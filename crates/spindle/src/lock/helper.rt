@@ -9,21 +9,22 @@ ghost use Rattle.spindle_rounds.specs.Seating.{IsSeatAt};
 use crate::crew::notices::Notices;
 use crate::crew::post::Post;
 use crate::crew::tables::Tables;
+use crate::crew::worker::Worker;
 use crate::job::Job;
 use crate::job::gate::Gate;
 use crate::job::nest::Nest;
 use crate::lock::shared::Opens;
 use crate::pieces::trays::Trays;
 use crate::work::runner::Runner;
-use spindle_parts::numbers::{Numbers, Take};
 use spindle_parts::numbers;
+use spindle_parts::numbers::{Numbers, Take};
 use spindle_rounds::round::task::Task;
-use spindle_rounds::round_table::slots::Bare;
 use spindle_rounds::round_table;
+use spindle_rounds::round_table::slots::Bare;
 use std::alloc::Global;
 use std::sync::Wait;
-use std::thread::Threads;
 use std::thread;
+use std::thread::Threads;
 
 /// A thread that isn't in the lock yet: its seats at the lock's tables.
 #[derive(Drop)]
@@ -55,7 +56,8 @@ impl<'a> Recruit<'a> {
         } = self;
         let thread = take_number(rt, &tables.numbers, &mut numbers);
         let post = Post::join(rt, tables, round, thread);
-        let runner = Runner::<'a, J, G>::new(J::slots(lock), gate, tables, notices);
+        let worker = Worker { tables, thread };
+        let runner = Runner::<'a, J, G>::new(J::slots(lock), gate, worker, notices);
         live(rt, alloc, post, runner, J::trays(lock));
         tables.numbers.give(&mut numbers, thread);
     }
@@ -86,8 +88,7 @@ fn live<'a, J: Job, G: Gate, H: Threads + Wait + Sync>(
     mut runner: Runner<'a, J, G>,
     trays: &Trays<J>,
 )
-    requires helper { post.barrier.seat.me.0.leader ≡ false }
-    requires crew { post.thread < runner.tables.now.crew.threads }
+    requires { post.barrier.seat.me.0.leader ≡ false }
 {
     for _ in rt.forever() {
         let Some(task) = await_task(rt, &mut post, &mut runner.notices) else {

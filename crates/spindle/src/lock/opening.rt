@@ -9,6 +9,7 @@ use crate::crew::notices::Notices;
 use crate::crew::post::Post;
 use crate::crew::seats::Seats;
 use crate::crew::tables::Tables;
+use crate::crew::worker::Worker;
 use crate::job::gate::Gate;
 use crate::job::nest::Nest;
 use crate::lock::helper::Recruit;
@@ -100,7 +101,8 @@ where
     start::<_, J, G, L, H>(scope, rt, alloc, tables, lock, gate, &mut seats, starts);
     let mut notices = Notices::new(&tables.ledger, seats.ledger);
     let post = LeaderPost::new(Post::join(rt, tables, seats.round, 0));
-    let runner = Runner::new(J::slots(lock), gate, tables, notices);
+    let worker = Worker { tables, thread: 0 };
+    let runner = Runner::new(J::slots(lock), gate, worker, notices);
     let mut leader = Leader::new(lock, runner, post);
     let answer = f(&mut leader);
     leader.dismiss(rt);

@@ -18,8 +18,8 @@ use crate::lock::shared::Opens;
 use spindle_parts::fault::Fault;
 use std::alloc::Global;
 use std::sync::Wait;
-use std::thread::Threads;
 use std::thread;
+use std::thread::Threads;
 
 /// Opens a lock over jobs of kind J, runs f with its leader, and closes the lock.
 ///

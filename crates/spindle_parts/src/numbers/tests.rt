@@ -196,9 +196,8 @@ fn the_most_threads_have_a_number_each(rt: HostRuntime) -> Result<(), Fail> {
     Ok(())
 }
 
-/// It ends well whichever allocation is refused: `rt try --test --fail-alloc N`.
 #[test]
-fn a_table_without_memory_is_refused(rt: HostRuntime) {
+fn refused_numbers_are_answered(rt: HostRuntime) {
     for threads in [1, 33, 32767] {
         match Numbers::new(rt.alloc(), threads) {
             Ok((numbers, mut leader)) => {

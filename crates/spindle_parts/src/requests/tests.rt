@@ -1,17 +1,13 @@
-//! The worked rows of the ledger, its flags, a table with no room, and eight threads at one ledger.
-ghost use Rattle.std.specs.Prelude.{◌≡◌, ◌≤◌, ◌<◌};
-ghost use Rattle.spindle_parts.specs.LedgerSeats.{slot_count, IsSeatOf};
+//! The worked rows of the ledger, its flags, the ends of its words and of its slots, and no memory.
+
+mod clerks;
 
 use crate::fault::Fault;
-use crate::requests::{Requests, Seat, TakePlace};
+use crate::requests::{Requests, TakePlace};
+use clerks::Clerk;
 use std::test::Fail;
-use std::thread;
-
-const THREADS: u64 = 8;
 
 const SLOTS: usize = 3;
-
-const TURNS: usize = 4000;
 
 #[test]
 fn one_of_three_places_is_taken(rt: HostRuntime) -> Result<(), Fail> {
@@ -98,202 +94,46 @@ fn counts_wrap_at_the_end_of_a_word(rt: HostRuntime) -> Result<(), Fail> {
     Ok(())
 }
 
+/// Each slot has places of its own, however many slots there are.
 #[test]
-fn too_many_slots_have_no_room(rt: HostRuntime) {
+fn a_ledger_has_as_many_slots_as_asked_for(rt: HostRuntime) -> Result<(), Fail> {
+    for slots in [2, 63, 64, 65, 1000, 32767] {
+        let (books, mut seat) = Requests::new(rt.alloc(), slots)?;
+        books.ask(&mut seat, 2);
+        books.install(&mut seat, slots - 1, 2);
+        assert!(rt;
+            books.try_take_place(&mut seat, slots - 2) == TakePlace::None,
+            "of {slots}"
+        );
+        assert!(rt;
+            books.try_take_place(&mut seat, slots - 1) == TakePlace::Taken,
+            "of {slots}"
+        );
+        assert_eq!(rt; books.close(&mut seat, slots - 1), 1, "of {slots}");
+        assert_eq!(rt; books.requests(&mut seat), 2, "of {slots}");
+    }
+    Ok(())
+}
+
+#[test]
+fn refused_ledgers_are_answered(rt: HostRuntime) {
+    for slots in [0, 1, 32767] {
+        match Requests::new(rt.alloc(), slots) {
+            Ok((books, mut seat)) => {
+                books.ask(&mut seat, 1);
+                assert_eq!(rt; books.requests(&mut seat), 1, "of {slots}");
+            }
+            Err(fault) => assert!(rt; matches!(fault, Fault::Memory)),
+        }
+    }
+}
+
+#[test]
+fn refused_slots_beyond_all_memory(rt: HostRuntime) {
     for slots in [usize::MAX, usize::MAX / 8, 1 << 60, 1 << 57] {
         match Requests::new(rt.alloc(), slots) {
             Err(Fault::Memory) => {}
             _ => panic!(rt; "{slots} slots were made"),
         }
     }
-}
-
-/// What a clerk did, in all.
-#[derive(Drop)]
-struct Tally {
-    asked: u64,
-    installed: u64,
-    taken: u64,
-    closed: u64,
-    subtracted: u64,
-}
-
-impl Tally {
-    fn add(&mut self, other: &Tally) {
-        self.asked = self.asked.wrapping_add(other.asked);
-        self.installed = self.installed.wrapping_add(other.installed);
-        self.taken = self.taken.wrapping_add(other.taken);
-        self.closed = self.closed.wrapping_add(other.closed);
-        self.subtracted = self.subtracted.wrapping_add(other.subtracted);
-    }
-}
-
-/// One thread at the ledger. It draws its steps at random, and owes no more than its seat's credit.
-#[derive(Drop)]
-struct Clerk<'a> {
-    books: &'a Requests,
-    seat: Seat,
-    credit: u64,
-    state: u64,
-    done: Tally,
-    ghost seated: { IsSeatOf books.now seat × (slot_count books.now ≡ 3) },
-    ghost covered: { credit ≤ seat.me.0.credit },
-}
-
-impl<'a> Clerk<'a> {
-    fn new(books: &'a Requests, seat: Seat, number: u64) -> Clerk<'a>
-        requires { IsSeatOf books.now seat × (slot_count books.now ≡ 3) }
-    {
-        let done = Tally {
-            asked: 0,
-            installed: 0,
-            taken: 0,
-            closed: 0,
-            subtracted: 0,
-        };
-        Clerk {
-            books,
-            seat,
-            credit: 0,
-            state: number.wrapping_mul(2654435769) ^ 88172645463325252,
-            done,
-        }
-    }
-
-    /// A clerk with a seat split off this one's.
-    fn hire(&mut self, number: u64) -> Clerk<'a> {
-        let seat = self.books.new_seat(&mut self.seat);
-        Clerk::new(self.books, seat, number)
-    }
-
-    fn announce(&mut self, exit: bool, rest: bool) {
-        self.books.announce_exit(&mut self.seat, exit);
-        self.books.announce_rest(&mut self.seat, rest);
-    }
-
-    fn flags(&mut self) -> (bool, bool) {
-        let exit = self.books.exit_announced(&mut self.seat);
-        let rest = self.books.rest_announced(&mut self.seat);
-        (exit, rest)
-    }
-
-    fn requests(&mut self) -> u64 {
-        self.books.requests(&mut self.seat)
-    }
-
-    /// A number below `end`.
-    fn draw(&mut self, end: usize) -> usize
-        requires { 0 < end }
-        ensures { result < end }
-    {
-        self.state ^= self.state.wrapping_shl(13);
-        self.state ^= self.state >> 7;
-        self.state ^= self.state.wrapping_shl(17);
-        (self.state % end as u64) as usize
-    }
-
-    fn ask(&mut self) {
-        let n = self.draw(4);
-        self.books.ask(&mut self.seat, n);
-        self.credit = self.credit.saturating_add(n as u64);
-        self.done.asked = self.done.asked.wrapping_add(n as u64);
-    }
-
-    /// Up to `end - 1` of the requests that it owes.
-    fn part(&mut self, end: usize) -> usize
-        requires { 0 < end }
-        ensures part { result ≤ self.new.credit }
-    {
-        let n = self.draw(end);
-        n.min(self.credit as usize)
-    }
-
-    fn install(&mut self, slot: usize)
-        requires { slot < 3 }
-    {
-        let n = self.part(4);
-        self.books.install(&mut self.seat, slot, n);
-        self.credit -= n as u64;
-        self.done.installed = self.done.installed.wrapping_add(n as u64);
-    }
-
-    fn take(&mut self, slot: usize)
-        requires { slot < 3 }
-    {
-        if self.books.try_take_place(&mut self.seat, slot) == TakePlace::Taken {
-            self.credit = self.credit.saturating_add(1);
-            self.done.taken = self.done.taken.wrapping_add(1);
-        }
-    }
-
-    fn close(&mut self, slot: usize)
-        requires { slot < 3 }
-    {
-        let found = self.books.close(&mut self.seat, slot) as u64;
-        self.credit = self.credit.saturating_add(found);
-        self.done.closed = self.done.closed.wrapping_add(found);
-    }
-
-    fn subtract(&mut self, n: usize)
-        requires { n ≤ self.old.credit }
-    {
-        self.books.subtract(&mut self.seat, n);
-        self.credit -= n as u64;
-        self.done.subtracted = self.done.subtracted.wrapping_add(n as u64);
-    }
-
-    fn turn(&mut self) {
-        let slot = self.draw(SLOTS);
-        match self.draw(10) {
-            0 => self.close(slot),
-            1 | 2 => self.ask(),
-            3 | 4 => self.install(slot),
-            5 => {
-                let n = self.part(3);
-                self.subtract(n);
-            }
-            _ => self.take(slot),
-        }
-    }
-
-    /// Works for a while, and then takes back all that it owes.
-    fn work(mut self) -> Tally {
-        for _ in 0..TURNS {
-            self.turn();
-        }
-        self.leave()
-    }
-
-    fn leave(mut self) -> Tally {
-        let rest = self.credit as usize;
-        self.subtract(rest);
-        let Clerk { done, .. } = self;
-        done
-    }
-}
-
-#[test]
-fn the_books_balance_after_eight_threads(rt: HostRuntime) -> Result<(), Fail> {
-    let (books, seat) = Requests::new(rt.alloc(), SLOTS)?;
-    let mut leader = Clerk::new(&books, seat, 0);
-    let mut clerks = Vec::new(rt.alloc());
-    for number in 1..=THREADS {
-        clerks.push(leader.hire(number))?;
-    }
-    let tallies = thread::map_vec(&rt, clerks, &|clerk: Clerk| clerk.work())?;
-    let standing = leader.requests();
-    for slot in 0..SLOTS {
-        leader.close(slot);
-    }
-    assert_eq!(rt; standing, leader.credit);
-    let mut last = leader.hire(0);
-    let mut all = leader.leave();
-    assert_eq!(rt; last.requests(), 0);
-    for tally in &tallies {
-        all.add(tally);
-    }
-    assert!(rt; all.taken > 0 && all.closed > 0);
-    assert_eq!(rt; all.asked, all.subtracted);
-    assert_eq!(rt; all.installed, all.taken.wrapping_add(all.closed));
-    Ok(())
 }

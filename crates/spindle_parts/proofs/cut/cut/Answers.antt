@@ -17,7 +17,8 @@ loop-done-init g c =
       left =
           let some : 0 < vec_len c.args.items.now = search rules in
           let jobs : 0 < c.args.n_jobs = c.requires some in
-          let t : total (cut_lengths (vec_len c.args.items.now) c.args.n_jobs) ≡ vec_len c.args.items.now = total-lengths (vec_len c.args.items.now) (min (vec_len c.args.items.now) c.args.n_jobs) (omega arith) in
+          let t : total (cut_lengths (vec_len c.args.items.now) c.args.n_jobs) ≡ vec_len c.args.items.now =
+          total-lengths (vec_len c.args.items.now) (min (vec_len c.args.items.now) c.args.n_jobs) (omega arith) in
           let b : ls ≡ cut_lengths (vec_len c.args.items.now) c.args.n_jobs = search rules in
           let a : length c.args.items.now.items ≡ vec_len c.args.items.now = sym c.args.items.now.ok.0 in
           rw (take_all (c.len-count.result - 0) ls n) (a ∙ sym t ∙ ap total (sym b));
@@ -35,7 +36,8 @@ overflow_sub-at g c =
     let k : n - d ≡ i + 1 = omega arith in
     let h : i < length ls = omega (arith, c.len-count.ensures, c.in_ok-lengths.lengths.ok.0) in
     let r : c.index.result.now ≡ get_or ls i 0 = c.index.ensures ∙ get_or_default ls i c.index.result.now 0 h in
-    let t : length c.loop-done.items.items ≡ total (take i ls) + get_or ls i 0 = c.loop-done.invariant.left ∙ ap (λ m. total (take m ls)) k ∙ total_last ls i h in
+    let t : length c.loop-done.items.items ≡ total (take i ls) + get_or ls i 0 =
+    c.loop-done.invariant.left ∙ ap (λ m. total (take m ls)) k ∙ total_last ls i h in
     omega (arith, r, t, c.len-in-loop-done.ensures, c.loop-done.items.ok.0)
 
 pub loop-done-preserved : goal.loop-done-preserved
@@ -50,20 +52,38 @@ loop-done-preserved g c =
     let k' : n - (d + 1) ≡ i = omega arith in
     let h : i < length ls = omega (arith, c.len-count.ensures, c.in_ok-lengths.lengths.ok.0) in
     let r : c.index.result.now ≡ get_or ls i 0 = c.index.ensures ∙ get_or_default ls i c.index.result.now 0 h in
-    let t : length c.loop-done.items.items ≡ total (take i ls) + get_or ls i 0 = c.loop-done.invariant.left ∙ ap (λ m. total (take m ls)) k ∙ total_last ls i h in
+    let t : length c.loop-done.items.items ≡ total (take i ls) + get_or ls i 0 =
+    c.loop-done.invariant.left ∙ ap (λ m. total (take m ls)) k ∙ total_last ls i h in
     let at : ℕ = c.len-in-loop-done.result - c.index.result.now in
     let p : P = record { number = i; items = c.in-Ok.run' } in
     let ps : List P = c.loop-done.pieces.items in
     let e : c.push_reserved.new.self.items ≡ ps ++ p ∷ [] = c.push_reserved.ensures.items in
     let m : vec_len c.in-Ok.run' ≡ get_or ls i 0 = omega (arith, c.in-Ok.ensures.tail_len, r, t, c.len-in-loop-done.ensures, c.loop-done.items.ok.0) in
     record {
-      joined = rw (e, back_snoc f ps p, c.in-Ok.ensures.items, c.in-Ok.ensures.tail, sym (append_assoc (take at c.loop-done.items.items) (drop at c.loop-done.items.items) (joined (reverse (map f ps)))), take-append-drop at c.loop-done.items.items) c.loop-done.invariant.joined;
+      joined =
+          rw (
+            e,
+            back_snoc f ps p,
+            c.in-Ok.ensures.items,
+            c.in-Ok.ensures.tail,
+            sym (append_assoc (take at c.loop-done.items.items) (drop at c.loop-done.items.items) (joined (reverse (map f ps)))),
+            take-append-drop at c.loop-done.items.items,
+          ) c.loop-done.invariant.joined;
       lengths =
-          rw (e, map_snoc (λ (q : P). vec_len q.items) ps p, reverse_snoc (map (λ (q : P). vec_len q.items) ps) (vec_len c.in-Ok.run'), k', drop_more ls i 0 h, m) (ap (λ z. get_or ls i 0 ∷ z) (c.loop-done.invariant.lengths ∙ ap (λ z. drop z ls) k));
+          rw (
+            e,
+            map_snoc (λ (q : P). vec_len q.items) ps p,
+            reverse_snoc (map (λ (q : P). vec_len q.items) ps) (vec_len c.in-Ok.run'),
+            k',
+            drop_more ls i 0 h,
+            m,
+          ) (ap (λ z. get_or ls i 0 ∷ z) (c.loop-done.invariant.lengths ∙ ap (λ z. drop z ls) k));
       numbers =
-          rw (e, map_snoc (λ (q : P). q.number) ps p, reverse_snoc (map (λ (q : P). q.number) ps) i, k', add-one d) (ap (λ z. i ∷ z) (c.loop-done.invariant.numbers ∙ ap (λ z. counted z d) k));
+          rw (e, map_snoc (λ (q : P). q.number) ps p, reverse_snoc (map (λ (q : P). q.number) ps) i, k', add-one d)
+          (ap (λ z. i ∷ z) (c.loop-done.invariant.numbers ∙ ap (λ z. counted z d) k));
       left =
-          let l : length c.split_off.new.self.items ≡ total (take i ls) = omega (arith, c.in-Ok.ensures.len, c.split_off.new.self.ok.0, r, t, c.len-in-loop-done.ensures, c.loop-done.items.ok.0) in
+          let l : length c.split_off.new.self.items ≡ total (take i ls) =
+          omega (arith, c.in-Ok.ensures.len, c.split_off.new.self.ok.0, r, t, c.len-in-loop-done.ensures, c.loop-done.items.ok.0) in
           l ∙ ap (λ z. total (take z ls)) (sym k');
       len = search rules;
       room = search rules;
@@ -74,7 +94,8 @@ pub returns-clause-joined : goal.returns-clause-joined
 returns-clause-joined g c =
     let f : Piece g.row.T.Denot → List g.row.T.Denot = λ p. p.items.items in
     let z : c.len-count.result - c.loop-done.done ≡ 0 = omega arith in
-    let none : c.loop-done.items.items ≡ [] = nil_from_length c.loop-done.items.items (c.loop-done.invariant.left ∙ ap (λ m. total (take m c.in_ok-lengths.lengths.items)) z) in
+    let none : c.loop-done.items.items ≡ [] =
+    nil_from_length c.loop-done.items.items (c.loop-done.invariant.left ∙ ap (λ m. total (take m c.in_ok-lengths.lengths.items)) z) in
     let j : joined (reverse (map f c.loop-done.pieces.items)) ≡ c.args.items.now.items = rw none at c.loop-done.invariant.joined in
     rw (c.reverse.ensures.items, map-reverse f c.loop-done.pieces.items) j
 
@@ -82,10 +103,12 @@ pub returns-clause-lengths : goal.returns-clause-lengths
 returns-clause-lengths g c =
     let z : c.len-count.result - c.loop-done.done ≡ 0 = omega arith in
     let b : c.in_ok-lengths.lengths.items ≡ cut_lengths (vec_len c.args.items.now) c.args.n_jobs = search rules in
-    rw (c.reverse.ensures.items, map-reverse (λ (p : Piece g.row.T.Denot). vec_len p.items) c.loop-done.pieces.items) (c.loop-done.invariant.lengths ∙ ap (λ m. drop m c.in_ok-lengths.lengths.items) z ∙ b)
+    rw (c.reverse.ensures.items, map-reverse (λ (p : Piece g.row.T.Denot). vec_len p.items) c.loop-done.pieces.items)
+    (c.loop-done.invariant.lengths ∙ ap (λ m. drop m c.in_ok-lengths.lengths.items) z ∙ b)
 
 pub returns-clause-numbers : goal.returns-clause-numbers
 returns-clause-numbers g c =
     let z : c.len-count.result - c.loop-done.done ≡ 0 = omega arith in
     let b : c.loop-done.done ≡ vec_len c.reverse.new.self = sym (c.reverse.ensures.len ∙ c.loop-done.invariant.len) in
-    rw (c.reverse.ensures.items, map-reverse (λ (p : Piece g.row.T.Denot). p.number) c.loop-done.pieces.items) (c.loop-done.invariant.numbers ∙ ap (λ m. counted m c.loop-done.done) z ∙ ap (λ m. counted 0 m) b)
+    rw (c.reverse.ensures.items, map-reverse (λ (p : Piece g.row.T.Denot). p.number) c.loop-done.pieces.items)
+    (c.loop-done.invariant.numbers ∙ ap (λ m. counted m c.loop-done.done) z ∙ ap (λ m. counted 0 m) b)

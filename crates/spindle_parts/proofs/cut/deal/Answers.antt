@@ -13,11 +13,13 @@ count : {H : Type 0} (f : H → ℕ) (hands : List H) (len threads : ℕ) → 0 
 count f hands len threads h e = sym (length-map hands f) ∙ ap length e ∙ length-lengths_of len threads h
 
 -- before its turn, a hand is empty
-empty : {H A : Type 0} (f : H → List A) (hands : List H) (F : ℕ → List A) (threads i : ℕ) (d : H) → i < length hands → i < threads → map f hands ≡ map F (counted 0 i) ++ replicate (threads - i) [] → f (get_or hands i d) ≡ []
+empty : {H A : Type 0} (f : H → List A) (hands : List H) (F : ℕ → List A) (threads i : ℕ) (d : H) → i < length hands → i < threads
+    → map f hands ≡ map F (counted 0 i) ++ replicate (threads - i) [] → f (get_or hands i d) ≡ []
 empty f hands F threads i d h k e = sym (get_or-map f hands i d [] h) ∙ ap (λ z. get_or z i []) e ∙ hand_empty F threads i k
 
 -- its room is the length of what it gets
-room : {H : Type 0} (f : H → ℕ) (hands : List H) (len threads i : ℕ) (d : H) → i < length hands → map f hands ≡ lengths_of len threads → f (get_or hands i d) ≡ get_or (lengths_of len threads) i 0
+room : {H : Type 0} (f : H → ℕ) (hands : List H) (len threads i : ℕ) (d : H) → i < length hands → map f hands ≡ lengths_of len threads
+    → f (get_or hands i d) ≡ get_or (lengths_of len threads) i 0
 room f hands len threads i d h e = sym (get_or-map f hands i d 0 h) ∙ ap (λ z. get_or z i 0) e
 
 pub move_last-requires : goal.move_last-requires
@@ -35,7 +37,8 @@ move_last-requires g c =
     let k : i < t = omega arith in
     let hand : H = get_or hs i c.hand-item.result in
     let none : hand.items ≡ [] = empty (λ (h : H). h.items) hs (dealt c.args.pieces.now.items t) t i c.hand-item.result lt k c.loop-hand.invariant.hands in
-    let cap : vec_capacity hand ≡ get_or (lengths_of len t) i 0 = room (λ (h : H). vec_capacity h) hs len t i c.hand-item.result lt c.loop-hand.invariant.rooms in
+    let cap : vec_capacity hand ≡ get_or (lengths_of len t) i 0 =
+    room (λ (h : H). vec_capacity h) hs len t i c.hand-item.result lt c.loop-hand.invariant.rooms in
     let f : len / t + min 1 (len - len / t * t - i) ≤ get_or (lengths_of len t) i 0 = fits len t i (len - len / t * t - i) k refl in
     record { room = omega (arith, hand.ok.0, ap length none, cap, f, min-le_left each (vec_len c.loop-hand.pieces), same) }
 
@@ -55,12 +58,17 @@ move_last-requires-in-loop-hand g c =
     let k : i < t = omega arith in
     let hand : H = get_or hs i c.hand-item.result in
     let none : hand.items ≡ [] = empty (λ (h : H). h.items) hs (dealt ps t) t i c.hand-item.result lt k c.loop-hand.invariant.hands in
-    let cap : vec_capacity hand ≡ get_or (lengths_of len t) i 0 = room (λ (h : H). vec_capacity h) hs len t i c.hand-item.result lt c.loop-hand.invariant.rooms in
+    let cap : vec_capacity hand ≡ get_or (lengths_of len t) i 0 =
+    room (λ (h : H). vec_capacity h) hs len t i c.hand-item.result lt c.loop-hand.invariant.rooms in
     let run : List P = take each (reverse c.loop-hand.pieces.items) in
     let got : length c.move_last.new.hand.items ≡ length run = rw none at (ap length c.move_last.ensures.hand) in
-    let short : length run ≤ each = omega (arith, length-take each (reverse c.loop-hand.pieces.items), min-le_left each (length (reverse c.loop-hand.pieces.items))) in
-    let left : length c.loop-hand.rest.items ≡ length ps - each * t - i = sym (length-reverse c.loop-hand.rest.items) ∙ ap length c.loop-hand.invariant.rest ∙ length-drop i (drop (each * t) ps) ∙ ap (λ z. z - i) (length-drop (each * t) ps) in
-    let left' : vec_len c.loop-hand.rest ≡ len - len / t * t - i = rw (← same) (c.loop-hand.rest.ok.0 ∙ left ∙ ap (λ z. z - each * t - i) (sym c.args.pieces.now.ok.0)) in
+    let short : length run ≤ each =
+    omega (arith, length-take each (reverse c.loop-hand.pieces.items), min-le_left each (length (reverse c.loop-hand.pieces.items))) in
+    let left : length c.loop-hand.rest.items ≡ length ps - each * t - i =
+    sym (length-reverse c.loop-hand.rest.items) ∙ ap length c.loop-hand.invariant.rest ∙ length-drop i (drop (each * t) ps)
+    ∙ ap (λ z. z - i) (length-drop (each * t) ps) in
+    let left' : vec_len c.loop-hand.rest ≡ len - len / t * t - i =
+    rw (← same) (c.loop-hand.rest.ok.0 ∙ left ∙ ap (λ z. z - each * t - i) (sym c.args.pieces.now.ok.0)) in
     let f : len / t + min 1 (vec_len c.loop-hand.rest) ≤ get_or (lengths_of len t) i 0 = fits len t i (vec_len c.loop-hand.rest) k left' in
     record { room = omega (arith, c.move_last.new.hand.ok.0, got, short, cap, f, same, c.move_last.ensures.room) }
 
@@ -82,15 +90,20 @@ loop-hand-preserved g c =
     let hand : H = get_or hs i d in
     let none : hand.items ≡ [] = empty (λ (h : H). h.items) hs (dealt ps t) t i d lt k c.loop-hand.invariant.hands in
     let new : H = c.move_last-in-loop-hand.new.hand in
-    let own : take each (reverse c.loop-hand.pieces.items) ≡ take each (drop (each * i) ps) = ap (take each) c.loop-hand.invariant.own ∙ own_run ps each t i k in
-    let rest : take 1 (reverse c.loop-hand.rest.items) ≡ take 1 (drop (each * t + i) ps) = ap (take 1) (c.loop-hand.invariant.rest ∙ drop-drop i (each * t) ps) in
+    let own : take each (reverse c.loop-hand.pieces.items) ≡ take each (drop (each * i) ps) =
+    ap (take each) c.loop-hand.invariant.own ∙ own_run ps each t i k in
+    let rest : take 1 (reverse c.loop-hand.rest.items) ≡ take 1 (drop (each * t + i) ps) =
+    ap (take 1) (c.loop-hand.invariant.rest ∙ drop-drop i (each * t) ps) in
     let items : new.items ≡ dealt ps t i = rw (← same) (c.move_last-in-loop-hand.ensures.hand ∙ rw (c.move_last.ensures.hand, none, own, rest) refl) in
     let cap : vec_capacity new ≡ vec_capacity hand = c.move_last-in-loop-hand.ensures.room ∙ c.move_last.ensures.room in
     record {
       own = c.move_last.ensures.pieces ∙ ap (drop each) c.loop-hand.invariant.own ∙ own_left (take (each * t) ps) each i;
       rest = c.move_last-in-loop-hand.ensures.pieces ∙ ap (drop 1) c.loop-hand.invariant.rest ∙ drop-drop 1 i (drop (each * t) ps);
       hands = hands_next (λ (h : H). h.items) hs (dealt ps t) t i new k c.loop-hand.invariant.hands items;
-      rooms = map-set (λ (h : H). vec_capacity h) hs i new ∙ ap (λ z. set (map (λ (h : H). vec_capacity h) hs) i z) (cap ∙ sym (get_or-map (λ (h : H). vec_capacity h) hs i d 0 lt)) ∙ set-get_or (map (λ (h : H). vec_capacity h) hs) i 0 ∙ c.loop-hand.invariant.rooms;
+      rooms =
+          map-set (λ (h : H). vec_capacity h) hs i new
+          ∙ ap (λ z. set (map (λ (h : H). vec_capacity h) hs) i z) (cap ∙ sym (get_or-map (λ (h : H). vec_capacity h) hs i d 0 lt))
+          ∙ set-get_or (map (λ (h : H). vec_capacity h) hs) i 0 ∙ c.loop-hand.invariant.rooms;
     }
 
 pub returns-clause-dealt : goal.returns-clause-dealt
@@ -103,11 +116,13 @@ returns-clause-dealt g c =
     let i = c.loop-hand.hand-index in
     let hs : List H = c.loop-hand.hand-items in
     let n : length hs ≡ t = count (λ (h : H). vec_capacity h) hs len t c.requires.threads c.loop-hand.invariant.rooms in
-    let m : length c.in_ok-hands.hands.items ≡ t = count (λ (h : H). vec_capacity h) c.in_ok-hands.hands.items len t c.requires.threads (search (rules, c.in_ok-hands.ensures.rooms)) in
+    let m : length c.in_ok-hands.hands.items ≡ t =
+    count (λ (h : H). vec_capacity h) c.in_ok-hands.hands.items len t c.requires.threads (search (rules, c.in_ok-hands.ensures.rooms)) in
     let all : i ≡ t = omega arith in
     let same : length hs ≡ c.in_ok-hands.hands.len = n ∙ sym m ∙ sym c.in_ok-hands.hands.ok.0 in
     let z : t - i ≡ 0 = omega arith in
-    let got : map (λ (h : H). h.items) hs ≡ map (dealt ps t) (counted 0 t) = rw (z, all) at c.loop-hand.invariant.hands ∙ append-nil (map (dealt ps t) (counted 0 t)) in
+    let got : map (λ (h : H). h.items) hs ≡ map (dealt ps t) (counted 0 t) =
+    rw (z, all) at c.loop-hand.invariant.hands ∙ append-nil (map (dealt ps t) (counted 0 t)) in
     rw (take_at hs (drop (length hs) c.in_ok-hands.hands.items) c.in_ok-hands.hands.len same) got
 
 pub returns-clause-taken : goal.returns-clause-taken
@@ -122,15 +137,18 @@ returns-clause-taken g c =
     let n : length hs ≡ t = count (λ (h : H). vec_capacity h) hs len t c.requires.threads c.loop-hand.invariant.rooms in
     let all : i ≡ t = omega arith in
     let run : List P = take (each * t) c.args.pieces.now.items in
-    let short : length run ≤ each * i = rw all (omega (arith, length-take (each * t) c.args.pieces.now.items, min-le_left (each * t) (length c.args.pieces.now.items))) in
-    nil_from_length c.loop-hand.pieces.items (sym (length-reverse c.loop-hand.pieces.items) ∙ ap length (c.loop-hand.invariant.own ∙ drop_all (each * i) run short))
+    let short : length run ≤ each * i =
+    rw all (omega (arith, length-take (each * t) c.args.pieces.now.items, min-le_left (each * t) (length c.args.pieces.now.items))) in
+    nil_from_length c.loop-hand.pieces.items
+    (sym (length-reverse c.loop-hand.pieces.items) ∙ ap length (c.loop-hand.invariant.own ∙ drop_all (each * i) run short))
 
 pub returns-clause-numbers : goal.returns-clause-numbers
 returns-clause-numbers g c =
     let P : Type 0 = Piece g.row.T.Denot in
     let number : P → ℕ = λ p. p.number in
     let t = c.args.threads in
-    sym (map-map (map number) (λ (h : Vec P Global). h.items) (take c.in_ok-hands.hands.len (c.loop-hand.hand-items ++ drop (length c.loop-hand.hand-items) c.in_ok-hands.hands.items)))
+    sym (map-map (map number) (λ (h : Vec P Global). h.items)
+    (take c.in_ok-hands.hands.len (c.loop-hand.hand-items ++ drop (length c.loop-hand.hand-items) c.in_ok-hands.hands.items)))
     ∙ ap (map (map number)) (returns-clause-dealt g c)
     ∙ map-dealt_all number c.args.pieces.now.items t (counted 0 t)
     ∙ ap (λ z. map (dealt z t) (counted 0 t)) c.requires.numbers

@@ -7,6 +7,7 @@ abbrev pub invariant-loop-hand : goal.invariant-loop-hand
 invariant-loop-hand g l = record {
   own : reverse l.pieces.items ≡ drop (l.each * l.hand-index) (take (l.each * l.threads) l.fn.pieces.items);
   rest : reverse l.rest.items ≡ drop l.hand-index (drop (l.each * l.threads) l.fn.pieces.items);
-  hands : map (λ hand. hand.items) l.hand-items ≡ map (dealt l.fn.pieces.items l.threads) (counted 0 l.hand-index) ++ replicate (l.threads - l.hand-index) [];
+  hands : map (λ hand. hand.items) l.hand-items
+      ≡ map (dealt l.fn.pieces.items l.threads) (counted 0 l.hand-index) ++ replicate (l.threads - l.hand-index) [];
   rooms : map (λ hand. vec_capacity hand) l.hand-items ≡ lengths_of (vec_len l.fn.pieces) l.threads;
 }

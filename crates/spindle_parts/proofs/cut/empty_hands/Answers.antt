@@ -22,8 +22,16 @@ loop-thread-preserved g c =
     let cap : vec_capacity hand ≡ get_or ls i 0 = c.in_ok-with_capacity.ensures.exact ∙ sym here in
     let h : i < length ls = omega (arith, length-lengths_of c.args.count c.args.threads c.requires) in
     record {
-      empty = rw (c.push_reserved.ensures.items, map_push (λ (h : Vec P Global). h.items) old hand, c.loop-thread.invariant.empty, c.in_ok-with_capacity.ensures.items) (replicate_more i []);
-      rooms = rw (c.push_reserved.ensures.items, map_push (λ (h : Vec P Global). vec_capacity h) old hand, c.loop-thread.invariant.rooms, cap) (sym (take_more ls i 0 h));
+      empty =
+          rw (
+            c.push_reserved.ensures.items,
+            map_push (λ (h : Vec P Global). h.items) old hand,
+            c.loop-thread.invariant.empty,
+            c.in_ok-with_capacity.ensures.items,
+          ) (replicate_more i []);
+      rooms =
+          rw (c.push_reserved.ensures.items, map_push (λ (h : Vec P Global). vec_capacity h) old hand, c.loop-thread.invariant.rooms, cap)
+          (sym (take_more ls i 0 h));
       len = omega arith;
       room = omega arith;
     }

@@ -10,9 +10,12 @@ loop-preserved g c =
     let R : List P = reverse c.args.pieces.now.items in
     let n = c.loop.counter in
     let left : List P = c.take_last.new.self.items in
-    let e : drop n R ≡ c.take_last.result ∷ reverse left = sym c.loop.invariant.pieces ∙ ap reverse c.take_last.ensures.items ∙ reverse_snoc left c.take_last.result in
+    let e : drop n R ≡ c.take_last.result ∷ reverse left =
+    sym c.loop.invariant.pieces ∙ ap reverse c.take_last.ensures.items ∙ reverse_snoc left c.take_last.result in
     record {
-      hand = rw (c.push_reserved.ensures.items, c.loop.invariant.hand, taken_next R n c.take_last.result (reverse left) e) (append_assoc c.args.hand.now.items (take n R) (c.take_last.result ∷ []));
+      hand =
+          rw (c.push_reserved.ensures.items, c.loop.invariant.hand, taken_next R n c.take_last.result (reverse left) e)
+          (append_assoc c.args.hand.now.items (take n R) (c.take_last.result ∷ []));
       pieces = sym (dropped_next R n c.take_last.result (reverse left) e);
       len = omega arith;
       hand_len = omega arith;

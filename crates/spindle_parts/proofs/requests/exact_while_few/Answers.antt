@@ -7,7 +7,8 @@ use Rattle.spindle_parts.proofs.requests.exact_while_few.Goals as goal
 -- a part is no more than the sum
 part_le_total : (f : ℕ → ℕ) (n i : ℕ) → i < n → f i ≤ total f n
 part_le_total f zero i lt = absurd (omega arith)
-part_le_total f (suc n) i lt = dite (ℕ_discrete i n) (λ e. let same : f i ≡ f n = ap f e in omega arith) (λ ne. let a = part_le_total f n i (omega arith) in omega arith)
+part_le_total f (suc n) i lt =
+    dite (ℕ_discrete i n) (λ e. let same : f i ≡ f n = ap f e in omega arith) (λ ne. let a = part_le_total f n i (omega arith) in omega arith)
 
 pub returns : goal.returns
 returns c = λ slots s r few. record {

@@ -1,6 +1,6 @@
--- It isn't the leader, and its number is one of its lock's.
-use Rattle.std.proofs.Common.{◌≡◌, ◌<◌, false}
+-- It isn't the leader.
+use Rattle.std.proofs.Common.{◌≡◌, false}
 use Rattle.spindle.proofs.lock.helper.live.Given as goal
 
 abbrev pub invariant-loop : goal.invariant-loop
-invariant-loop g l = (l.post.barrier.seat.me.0.leader ≡ false) × (l.post.thread < l.runner.tables.now.crew.threads)
+invariant-loop g l = l.post.barrier.seat.me.0.leader ≡ false
