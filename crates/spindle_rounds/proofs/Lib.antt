@@ -25,3 +25,4 @@ pub mod KeptEnding
 pub mod BarrierClients
 pub mod Workers
 pub mod PartyWork
+pub mod PieceRounds

@@ -20,3 +20,4 @@ pub mod Working
 pub mod Sources
 pub mod PartyWork
 pub mod Parties
+pub mod PieceRounds
