@@ -16,9 +16,14 @@ pub mod KeptShares
 pub mod KeptFinish
 pub mod KeptStops
 pub mod RoundFilled
+pub mod PlainRounds
+pub mod KeptSlots
+pub mod SlotsTold
+pub mod PieceClients
 pub mod RoundClients
 pub mod KeptLeaving
 pub mod KeptEnding
 pub mod BarrierClients
 pub mod Workers
 pub mod PartyWork
+pub mod PieceRounds

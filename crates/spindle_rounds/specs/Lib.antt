@@ -6,6 +6,10 @@ pub mod RoundSlots
 pub mod RoundRule
 pub mod RoundSteps
 pub mod RoundTells
+pub mod SlotSteps
+pub mod SpotPlaces
+pub mod RoundPieces
+pub mod PiecesKept
 pub mod RoundConditions
 pub mod RoundRuns
 pub mod RoundTrails
@@ -18,3 +22,4 @@ pub mod Working
 pub mod Sources
 pub mod PartyWork
 pub mod Parties
+pub mod PieceRounds

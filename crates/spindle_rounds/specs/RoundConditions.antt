@@ -1,11 +1,12 @@
 -- What a call on a round table asks of its seat.
-use Rattle.std.specs.Prelude.{◌≡◌, ◌⊎◌, ℕ, ◌+◌, ◌%◌, ◌≤◌, Bool, true, false, Option, Some, None}
+use Rattle.std.specs.Prelude.{◌≡◌, ◌⊎◌, ℕ, ◌+◌, ◌%◌, ◌≤◌, ◌<◌, Bool, true, false, List, [], ◌∷◌, Option, Some, None}
 use Rattle.atomic_table.specs.Table.{Me}
 use Rattle.spindle_rounds.specs.declared.round_table.view.Standing.{Standing}
 use Rattle.spindle_rounds.specs.declared.round_table.view.Standing.TheVariants.{Away, Inside, Waiting, Closing}
 use Rattle.spindle_rounds.specs.declared.round_table.view.View.{View}
+use Rattle.spindle_rounds.specs.declared.round_table.view.Spot.{Spot}
 use Rattle.spindle_rounds.specs.Spans.{Span}
-use Rattle.spindle_rounds.specs.RoundSlots.{Discipline}
+use Rattle.spindle_rounds.specs.RoundSlots.{Discipline, spot_at}
 use Rattle.spindle_rounds.specs.RoundRule.{IsListed, IsFilled}
 
 -- a member that hasn't arrived, has nothing to finish and no number left in its share
@@ -94,3 +95,18 @@ IsClosing v = (q : ℕ) × (member was : Bool) × (read : Option ℕ) × (v.stan
 -- and it has cleared it
 abbrev pub HasCleared : {N : Type 0} → View N → Type 0
 HasCleared v = (q : ℕ) × (member : Bool) × (read : Option ℕ) × (v.standing ≡ Closing q member true read)
+
+-- the leader, having published nothing in its round, may take every slot out
+abbrev pub MayTakeOut : {S N : Type 0} → Discipline S N → ℕ → View N → Type 0
+MayTakeOut D slots v = MayFill v × ((k : ℕ) → k < slots → D.may_take (spot_at v.board k))
+
+module _ {S N : Type 0} (D : Discipline S N) where
+  -- what it holds may go back, one slot after the other
+  abbrev pub MayPutAll : ℕ → List (ℕ × S) → List (ℕ × Spot N) → Type 0
+  MayPutAll q [] b = Unit {0}
+  MayPutAll q (x ∷ c) b = D.may_put (spot_at b x.0) x.1 × MayPutAll q c ((x.0, D.spot_of q x.1) ∷ b)
+
+  -- the leader, having published nothing in its round, may give back the slots that it holds
+  abbrev pub MayGiveBack : Me S (View N) → Type 0
+  MayGiveBack m = (q : ℕ) × (m.0.standing ≡ Inside q) × (m.0.known.unpublished ≡ true)
+      × MayPutAll q m.1 m.0.board

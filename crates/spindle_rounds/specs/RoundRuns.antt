@@ -19,6 +19,8 @@ use Rattle.spindle_rounds.specs.Words.{count_of, most_of, sense_of, start_of, en
 use Rattle.spindle_rounds.specs.RoundSteps.{outsider, new_view, exit_word, turned_word, stolen_from, number_or}
 use Rattle.spindle_rounds.specs.RoundTells as tells
 use Rattle.spindle_rounds.specs.RoundConditions.{MayFill, MayPublish, MayClaim, MayBegin, MayFinish, MayGive}
+use Rattle.spindle_rounds.specs.SlotSteps.{TakeOutTells, GiveBackTells}
+use Rattle.spindle_rounds.specs.RoundConditions.{MayTakeOut, MayGiveBack}
 use Rattle.spindle_rounds.specs.RoundConditions.{MayStop, MaySee, MayPutBack, IsFreeInside, IsDone}
 use Rattle.spindle_rounds.specs.RoundConditions.{IsWaiting, HasSense, MayLeave, MayExit, IsClosing}
 
@@ -82,6 +84,9 @@ module _ {S N : Type 0} (D : Discipline S N) (t slots id : ℕ) (me : Me S (View
         → Store published_at n (Publish id n ∷ []) tells.PublishTells
     pub publish_try : (n : ℕ) → 0 < t → 2 ≤ n → n ≤ most_jobs → MayPublish D t n me.0
         → Store published_at (n + high_half) (PublishTry id n ∷ []) tells.PublishTryTells
+    -- the leader, with nothing published, takes every slot out, and gives back those that it holds
+    pub take_slots : MayTakeOut D slots me.0 → PlainLoad published_at (TakeOutTells D)
+    pub give_slots : MayGiveBack D me → PlainLoad published_at (GiveBackTells D)
     -- a member that is in claims the front of a range
     pub claim_own : (i range : ℕ) → i < t → range < 18446744073709551616
         → start_of range < end_of range → MayClaim me.0 → let k : ℕ = start_of range in

@@ -1,5 +1,5 @@
 -- What the slots of a round table hold, as a parameter of its rule.
-use Rattle.std.specs.Prelude.{◌≡◌, ◌≢◌, ◌⊎◌, ℕ, ◌<◌, List, [], ◌∷◌, ◌++◌, map, slice_set, Option, Some, None}
+use Rattle.std.specs.Prelude.{◌≡◌, ◌≢◌, ◌⊎◌, ℕ, ◌<◌, List, [], ◌∷◌, ◌++◌, map, length, slice_set, Option, Some, None, if◌then◌else◌, ◌==◌}
 use mathlib.Core.Option as m
 use mathlib.Core.Option.{some, none}
 use lib.ListN.{get_elem?}
@@ -7,6 +7,7 @@ use Rattle.spindle_parts.specs.State.{State, times, now, fresh}
 use Rattle.atomic_table.specs.Table.{Act, Valid, homes_after, carried_after}
 use Rattle.spindle_rounds.specs.declared.round_table.view.View.{View}
 use Rattle.spindle_rounds.specs.declared.round_table.view.Spot.{Spot}
+use Rattle.spindle_rounds.specs.declared.round_table.view.Spot.TheVariants.{Vacant, Out, Filled}
 
 -- no number begins, finishes or is published
 pub record Quiet (s s' : State) : Type 0 where
@@ -42,9 +43,29 @@ pub record Publishes (s s' : State) (n : ℕ) : Type 0 where
   pub begun : (r j : ℕ) → times j (s'.rounds r).begun ≡ times j (s.rounds r).begun
   pub finished : (r j : ℕ) → times j (s'.rounds r).finished ≡ times j (s.rounds r).finished
 
+-- nothing is published, nothing of the current round has begun, and what has begun has finished
+pub record AtRest (s : State) : Type 0 where
+  pub hidden : s.published ≡ None
+  pub unbegun : (k : ℕ) → times k (now s).begun ≡ 0
+  pub over : (r k : ℕ) → times k (s.rounds r).finished ≡ times k (s.rounds r).begun
+
+-- what the leader did last with the slot k
+abbrev pub spot_at : {N : Type 0} → List (ℕ × Spot N) → ℕ → Spot N
+spot_at [] k = Vacant
+spot_at (x ∷ xs) k = if x.0 == k then x.1 else spot_at xs k
+
+-- the number k has finished in the round in which the leader put a piece there
+abbrev pub HasFinished : {N : Type 0} → State → ℕ → Spot N → Type 0
+HasFinished s k (Filled r x) = 0 < times k (s.rounds r).finished
+HasFinished s k _ = ⊥
+
 -- the views are the same to the slots
 abbrev pub SameSlots : {N : Type 0} → View N → View N → Type 0
 SameSlots v w = (w.board ≡ v.board) × (w.note ≡ v.note) × (w.claim ≡ v.claim)
+
+-- the leader's view once it has done p with the slot k
+abbrev pub Spotted : {N : Type 0} → ℕ → Spot N → View N → View N → Type 0
+Spotted k p v w = (w.board ≡ (k, p) ∷ v.board) × (w.note ≡ v.note) × (w.claim ≡ v.claim)
 
 -- a seat that has done nothing with slots
 abbrev pub NoSlots : {N : Type 0} → View N → Type 0
@@ -63,6 +84,14 @@ pub record Discipline (S N : Type 0) : Type 1 where
   pub may_give : ℕ → Option N → List (ℕ × S) → Type 0
   -- the round, the number, and what the leader has put into the slots
   pub may_publish : ℕ → ℕ → List (ℕ × Spot N) → Type 0
+  -- by what the leader did last with a slot: whether it may take it out, what it finds there, and
+  -- what it finds where the number has finished
+  pub may_take : Spot N → Type 0
+  pub found : Spot N → S → Type 0
+  pub answered : Spot N → S → Type 0
+  -- which value it may put into a slot, and what it has then done with it, by the round
+  pub may_put : Spot N → S → Type 0
+  pub spot_of : ℕ → S → Spot N
 
 -- every step of the table keeps what holds of the slots
 pub record Lawful {S N : Type 0} (D : Discipline S N) : Type 0 where
@@ -78,16 +107,30 @@ pub record Lawful {S N : Type 0} (D : Discipline S N) : Type 0 where
       → (w.board ≡ v.board) × (w.claim ≡ None) → D.may_give k v.note c → Valid hs c D.gives × D.clause s' (homes_after hs c D.gives) (slice_set vs id w)
   pub publishes : (s s' : State) (hs : List (m.Option S)) (vs : List (View N)) (id : ℕ) (v w : View N) (n : ℕ) → D.clause s hs vs → Publishes s s' n
       → get_elem? vs 0 ≡ some v → id ≡ 0 → SameSlots v w → D.may_publish s.round n v.board → D.clause s' hs (slice_set vs id w)
+  pub takes : (s : State) (hs : List (m.Option S)) (vs : List (View N)) (v w : View N) (k : ℕ)
+      → let p : Spot N = spot_at v.board k in D.clause s hs vs → AtRest s
+      → get_elem? vs 0 ≡ some v → k < length hs → D.may_take p → Spotted k Out v w
+      → (y : S) × (get_elem? hs k ≡ some (some y))
+      × D.clause s (slice_set hs k none) (slice_set vs 0 w) × D.found p y
+      × (HasFinished s k p → D.answered p y)
+  pub puts : (s : State) (hs : List (m.Option S)) (vs : List (View N)) (v w : View N) (k : ℕ) (y : S)
+      → D.clause s hs vs → AtRest s → get_elem? vs 0 ≡ some v → D.may_put (spot_at v.board k) y
+      → Spotted k (D.spot_of s.round y) v w → D.clause s (slice_set hs k (some y)) (slice_set vs 0 w)
 
 -- a table without slots
 abbrev pub bare : Discipline (Unit {0}) (Unit {0})
 bare = record {
   clause = λ s hs vs. Unit {0};
-  starts = λ xs. xs ≡ [];
+  starts = λ xs. Unit {0};
   took = λ k c x c'. (c' ≡ c) × (x ≡ None);
   gives = Act.keeps;
   may_give = λ k x c. Unit {0};
   may_publish = λ q n b. Unit {0};
+  may_take = λ p. ⊥;
+  found = λ p y. Unit {0};
+  answered = λ p y. Unit {0};
+  may_put = λ p y. Unit {0};
+  spot_of = λ q y. Vacant;
 }
 
 abbrev pub bare_lawful : Lawful bare
@@ -98,4 +141,6 @@ bare_lawful = record {
   begins = λ s s' hs vs id v c k w cl b at same. (None, Act.keeps, tt, tt, (λ i. c, λ i. None));
   finishes = λ s s' hs vs id v w c k cl f at mine alone same may. (tt, tt);
   publishes = λ s s' hs vs id v w n c p at lead same may. tt;
+  takes = λ s hs vs v w k c rest at lt may is. absurd may;
+  puts = λ s hs vs v w k y c rest at may is. tt;
 }

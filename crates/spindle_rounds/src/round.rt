@@ -11,9 +11,12 @@ use std::alloc::Global;
 
 pub mod claim;
 pub mod claiming;
+pub mod collecting;
 pub mod finishing;
 pub mod party;
+pub mod pieces;
 pub mod publishing;
+pub mod slots;
 pub mod source;
 pub mod stealing;
 pub mod stopping;

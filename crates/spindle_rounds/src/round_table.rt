@@ -23,6 +23,7 @@ use atomic_table::{Shared, Table, TableRule};
 use std::alloc::Global;
 use std::marker::PhantomData;
 
+pub mod pieces;
 pub mod plays;
 pub mod runs;
 pub mod slots;

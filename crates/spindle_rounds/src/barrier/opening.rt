@@ -1,7 +1,7 @@
 //! Opening a barrier over a fresh table, and seats for the parties that are to join.
 ghost use Rattle.std.specs.Prelude.{◌≡◌, ◌≤◌, [], true, IfOk, OnErr, IsErrOf};
 ghost use Rattle.spindle_rounds.specs.RoundSteps.{outsider, new_view};
-ghost use Rattle.spindle_rounds.specs.Seating.{IsSeatAt, IsSameSeat};
+ghost use Rattle.spindle_rounds.specs.Seating.{HasSlots, IsSeatAt, IsSameSeat};
 
 use crate::barrier::BarrierInit;
 use crate::barrier::word::{FIELD, MEMBER};
@@ -35,7 +35,7 @@ impl<D: Slots> BarrierInit<D> {
     ) -> Result<(BarrierInit<D>, Seat<D>), Fault>
         requires few { threads ≤ 32767 }
         ensures opened { IfOk result (λ t. (t.0.threads ≡ threads)
-            × IsSeatAt t.0 t.1 × (t.1.id ≡ 0)
+            × IsSeatAt t.0 t.1 × (t.1.id ≡ 0) × HasSlots t.0 slots
             × (t.1.me ≡ (outsider threads true, []))) }
         ensures memory { OnErr result (IsErrOf result Fault.Memory) }
     {

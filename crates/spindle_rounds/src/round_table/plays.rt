@@ -1,6 +1,7 @@
 //! The kinds of step of the round table: what each tells its seat.
 ghost use Rattle.spindle_rounds.specs.RoundSteps.{same_view, new_view};
 ghost use Rattle.spindle_rounds.specs.RoundTells.{LoadTells, JoinTells, ArrivalTells, LookTells, LeaveTells, ExitTells, CloserReadTells, ClearTells, EndTells, LearnTells, FillTells, PublishTells, PublishTryTells, SearchTells, RemainderReadTells, RecallTells, ClaimTells, StealTells, RemainderClaimTells, ShareTells, FinishTells, StopTells, SeeTells, PutBackTells};
+ghost use Rattle.spindle_rounds.specs.SlotSteps.{TakeOutTells, GiveBackTells};
 
 use crate::round_table::slots::Slots;
 use crate::round_table::view::View;
@@ -176,4 +177,22 @@ pub(crate) struct PutsBack;
 
 impl<S, N> Play<S, View<N>> for PutsBack {
     ghost then = { PutBackTells };
+}
+
+/// The leader takes every slot out.
+pub(crate) struct TakesOut<D: Slots> {
+    of: PhantomData<D>,
+}
+
+impl<D: Slots> Play<D::Slot, View<D::Note>> for TakesOut<D> {
+    ghost then = { TakeOutTells D.discipline };
+}
+
+/// The leader gives back the slots that it holds.
+pub(crate) struct GivesBack<D: Slots> {
+    of: PhantomData<D>,
+}
+
+impl<D: Slots> Play<D::Slot, View<D::Note>> for GivesBack<D> {
+    ghost then = { GiveBackTells D.discipline };
 }

@@ -11,9 +11,9 @@ use spindle_parts::steps::every_run;
 
 /// What each kind of step adds to the run that a table shows, whatever run that is.
 ///
-/// A store to fill, a load that sees no stop, and an exchange that finds another value add nothing;
-/// a claim adds a take and a begin; the share store adds a begin, and every other step the one event
-/// of its name.
+/// A store to fill, a load that sees no stop, the leader's taking out and giving back of slots, and
+/// an exchange that finds another value add nothing; a claim adds a take and a begin; the share
+/// store adds a begin, and every other step the one event of its name.
 pub fn every_step<D: Slots>()
     ensures { EveryStep D.discipline }
 {}

@@ -1,5 +1,5 @@
 //! What the slots of a round table hold, as a parameter: nothing, or the pieces of a round.
-ghost use Rattle.std.specs.Prelude.{◌≡◌, IfOk};
+ghost use Rattle.std.specs.Prelude.{◌≡◌, IfOk, length};
 ghost use Rattle.spindle_rounds.specs.RoundSlots.{Discipline, Lawful, bare, bare_lawful};
 
 use std::alloc::{AllocError, Global};
@@ -17,7 +17,8 @@ pub trait Slots {
 
     /// As many slots as a table may open with.
     fn vacant(alloc: Global, slots: usize) -> Result<Vec<Self::Slot>, AllocError>
-        ensures { IfOk result (λ v. discipline.starts v.items) };
+        ensures starts { IfOk result (λ v. discipline.starts v.items) }
+        ensures many { IfOk result (λ v. length v.items ≡ slots) };
 
     ghost lawful: { Lawful discipline };
 }
@@ -32,8 +33,8 @@ impl Slots for Bare {
 
     ghost discipline = { bare };
 
-    fn vacant(alloc: Global, _slots: usize) -> Result<Vec<()>, AllocError> {
-        Ok(Vec::new(alloc))
+    fn vacant(alloc: Global, slots: usize) -> Result<Vec<()>, AllocError> {
+        Vec::from_elem(alloc, (), slots)
     }
 
     ghost lawful = { bare_lawful };

@@ -5,6 +5,7 @@ use Rattle.spindle_rounds.proofs.RoundOpening.{opens, splits}
 use Rattle.spindle_rounds.proofs.KeptLoads.{loads, learns, searches, rest_reads, recalls}
 use Rattle.spindle_rounds.proofs.KeptBarrier.{joins, arrives, looks, closer_reads}
 use Rattle.spindle_rounds.proofs.KeptFill.{fills, publishes, publishes_try}
+use Rattle.spindle_rounds.proofs.KeptSlots.{takes_out, gives_back}
 use Rattle.spindle_rounds.proofs.KeptClaims.{claims}
 use Rattle.spindle_rounds.proofs.KeptSteals.{steals, rests}
 use Rattle.spindle_rounds.proofs.KeptShares.{shares}
@@ -21,6 +22,8 @@ returns g c = let D = g.D.Slots.discipline in let law : Lawful D = g.met.D.Slots
     fill = λ j x low l. fills D law t slots id me l.0.0 j x low l.0.1 l.1;
     publish = λ n some low high l. publishes D law t slots id me l.0 n some l.1 l.2 l.3 low high l.4;
     publish_try = λ n some low high l. publishes_try D law t slots id me l.0 n some l.1 l.2 l.3 low high l.4;
+    take_slots = λ may. takes_out D law t slots id me may;
+    give_slots = λ may. gives_back D law t slots id me may;
     claim_own = λ i range low small left may. claims D law t slots id me i range low may small left;
     steal = λ i range low small left may. steals D law t slots id me i range _ low may small left refl;
     claim_rest = λ rest some may. rests D law t slots id me rest may some;
