@@ -25,4 +25,5 @@ pub mod KeptLeaving
 pub mod KeptEnding
 pub mod BarrierClients
 pub mod Workers
+pub mod FreeLists
 mod Helpers

@@ -3,6 +3,7 @@
 #![tactic(auto)]
 
 pub mod barrier;
+pub mod free;
 pub mod lists;
 pub mod lock;
 pub mod round;
@@ -10,6 +11,7 @@ pub mod round_table;
 #[cfg(test)]
 mod tests;
 
+pub use free::{for_each, for_each_raw};
 pub use lists::SharedList;
 pub use lists::run::ListRun;
 pub use lists::same::EqualIsSame;

@@ -10,7 +10,7 @@ ghost use denote.Param.Send.{IsSync};
 use crate::chunks::AddOne;
 use spindle::cut::piece_lengths;
 use spindle::lock::{End, Gate, Job, JobCx, Leader, Limits, Nest, NoGate, Opens, Pool};
-use spindle::{Fault, ListRun, SharedList, with_lock};
+use spindle::{Fault, ListRun, SharedList, for_each, with_lock};
 use std::alloc::{AllocError, Global};
 use std::sync::Wait;
 use std::thread::Threads;
@@ -173,4 +173,27 @@ pub fn two_rounds<J: Opens<L>, G: Gate, L, H: Threads + Wait + Sync>(
     let by_first = leader.for_each(rt, alloc, jobs, first)?;
     let by_second = leader.for_each(rt, alloc, jobs, second)?;
     Ok((by_first, by_second))
+}
+
+/// The squares of the numbers, without a lock: by a closure, in threads of this one call.
+pub fn squares_without_a_lock<G: Gate, H: Threads + Sync>(
+    rt: &H,
+    alloc: Global,
+    pool: &Pool<G>,
+    jobs: usize,
+    numbers: Vec<u32>,
+) -> Result<Vec<u64>, Fault>
+    requires { 0 < jobs }
+    ensures { IfOk result (λ squares. squares.items ≡ map (λ x. x * x) numbers.items) }
+{
+    for_each(
+        rt,
+        alloc,
+        pool,
+        jobs,
+        numbers,
+        |x: u32| -> u64
+            ensures { result ≡ x * x }
+        { u64::from(x) * u64::from(x) },
+    )
 }
