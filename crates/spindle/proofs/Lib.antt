@@ -5,4 +5,5 @@ pub mod Outputs
 pub mod Places
 pub mod TrayPlaces
 pub mod PieceRuns
+pub mod FreeLists
 mod Helpers

@@ -3,12 +3,14 @@
 #![tactic(auto)]
 
 mod crew;
+pub mod free;
 mod job;
 pub mod lists;
 pub mod lock;
 mod pieces;
 mod work;
 
+pub use free::{for_each, for_each_raw};
 pub use lists::SharedList;
 pub use lists::run::ListRun;
 pub use lists::same::EqualIsSame;

@@ -12,7 +12,7 @@ use spindle::cut::piece_lengths;
 use spindle::lock::{End, Gate, Job, JobCx, Leader, Limits, Nest, NoGate, Opens, Pool};
 use spindle::round_table::runs::every_moment;
 use spindle::round_table::slots::Slots;
-use spindle::{Fault, ListRun, SharedList, with_lock};
+use spindle::{Fault, ListRun, SharedList, for_each, with_lock};
 use std::alloc::{AllocError, Global};
 use std::sync::Wait;
 use std::thread::Threads;
@@ -186,4 +186,27 @@ pub fn jobs_differ<D: Slots>()
     ensures { JobsDiffer D.discipline }
 {
     every_moment::<D>();
+}
+
+/// The squares of the numbers, without a lock: by a closure, in threads of this one call.
+pub fn squares_without_a_lock<G: Gate, H: Threads + Sync>(
+    rt: &H,
+    alloc: Global,
+    pool: &Pool<G>,
+    jobs: usize,
+    numbers: Vec<u32>,
+) -> Result<Vec<u64>, Fault>
+    requires { 0 < jobs }
+    ensures { IfOk result (λ squares. squares.items ≡ map (λ x. x * x) numbers.items) }
+{
+    for_each(
+        rt,
+        alloc,
+        pool,
+        jobs,
+        numbers,
+        |x: u32| -> u64
+            ensures { result ≡ x * x }
+        { u64::from(x) * u64::from(x) },
+    )
 }

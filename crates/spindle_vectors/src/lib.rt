@@ -5,6 +5,8 @@
 pub mod callers;
 pub mod chunks;
 #[cfg(test)]
+mod free_rows;
+#[cfg(test)]
 mod gathering_rows;
 #[cfg(test)]
 mod jobs;

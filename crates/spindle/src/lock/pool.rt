@@ -2,8 +2,10 @@
 ghost use Rattle.std.specs.Prelude.{◌≡◌, ◌<◌, IsNone};
 
 use crate::crew::limits::Limits;
-use crate::job::gate::Gate;
+use crate::job::gate::{Gate, NoGate};
+use rayon::current_num_threads;
 use std::marker::Model;
+use std::thread::Threads;
 
 /// What a root lock is opened with. It holds no threads: each lock starts its own, and joins them when it closes. It
 /// stands where spindle asks rayon's global pool for its size.
@@ -82,5 +84,13 @@ impl<G: Gate> Pool<G> {
     /// How many helpers a lock may start.
     pub(crate) fn starts(&self) -> usize {
         self.starts
+    }
+}
+
+impl Pool<NoGate> {
+    /// A pool of as many threads as std says that this process may run at once, or of one where it can't tell; with
+    /// the default limits and no gate. That is the size of rayon's global pool, which spindle's locks have.
+    pub fn of_machine<H: Threads>(rt: &H) -> Pool<NoGate> {
+        Pool::new(current_num_threads(rt), Limits::new(), NoGate)
     }
 }
