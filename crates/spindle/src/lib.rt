@@ -6,7 +6,7 @@ mod crew;
 mod job;
 pub mod lists;
 pub mod lock;
-mod pieces;
+pub mod pieces;
 mod work;
 
 pub use lists::SharedList;

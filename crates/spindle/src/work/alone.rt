@@ -22,6 +22,7 @@ use spindle_parts::cut::Piece;
 use spindle_rounds::round::Round;
 use spindle_rounds::round::claim::{Claim, Claimed};
 use spindle_rounds::round::source::Source;
+use spindle_rounds::round::task::Task;
 use spindle_rounds::round_table::Seat;
 use spindle_rounds::round_table::slots::Bare;
 use std::alloc::Global;
@@ -61,7 +62,11 @@ impl<'a> LeaderPost<'a> {
         let post = &mut self.post;
         let tables = post.tables;
         let jobs = pieces.len() as u64;
-        publish(rt, tables, &mut post.barrier, &mut runner.notices, jobs);
+        let task = Task {
+            jobs,
+            may_stop: false,
+        };
+        publish(rt, tables, &mut post.barrier, &mut runner.notices, task);
         let mut worker = LoneWorker {
             round: &tables.round,
             pieces,

@@ -26,8 +26,8 @@ use spindle_rounds::round_table::Seat;
 use spindle_rounds::round_table::slots::Bare;
 use std::alloc::Global;
 use std::sync::Wait;
-use std::thread::Threads;
 use std::thread;
+use std::thread::Threads;
 
 /// A thread of a lock, with its number.
 #[derive(Drop)]
@@ -52,6 +52,7 @@ impl<'a> Post<'a> {
         requires crew { self.old.thread < runner.old.tables.now.crew.threads }
         ensures post { (self.new.tables ≡ self.old.tables) × (self.new.thread ≡ self.old.thread) }
         ensures leader { self.new.barrier.seat.me.0.leader ≡ false }
+        ensures seat { IsSameSeat self.old.barrier.seat self.new.barrier.seat }
         ensures crew { runner.new.tables ≡ runner.old.tables }
     {
         let tables = self.tables;
@@ -83,15 +84,15 @@ impl<'a> LeaderPost<'a> {
     {
         let post = &mut self.post;
         let tables = post.tables;
-        publish(rt, tables, &mut post.barrier, &mut runner.notices, jobs);
+        let task = Task {
+            jobs,
+            may_stop: false,
+        };
+        publish(rt, tables, &mut post.barrier, &mut runner.notices, task);
         let worker = Worker {
             round: &tables.round,
             trays,
             thread: 0,
-        };
-        let task = Task {
-            jobs,
-            may_stop: false,
         };
         worker.work(rt, alloc, runner, &mut post.barrier.seat, task);
         end_round(rt, tables, &mut post.barrier);

@@ -1,6 +1,13 @@
--- It isn't the leader, and its number is one of its lock's.
+-- It isn't the leader, stands at the same tables with the same seat, and its number is one of its lock's.
 use Rattle.std.proofs.Common.{◌≡◌, ◌<◌, false}
+use Rattle.spindle.specs.Posts.{party_view}
+use Rattle.spindle_rounds.specs.Seating.{IsSameSeat}
 use Rattle.spindle.proofs.lock.helper.live.Given as goal
 
 abbrev pub invariant-loop : goal.invariant-loop
-invariant-loop g l = (l.post.barrier.seat.me.0.leader ≡ false) × (l.post.thread < l.runner.tables.now.crew.threads)
+invariant-loop g l = record {
+  helper : (party_view l.post.barrier).leader ≡ false;
+  numbered : l.post.thread < l.runner.tables.now.crew.threads;
+  tables : l.post.tables ≡ l.fn.post.tables;
+  seat : IsSameSeat l.fn.post.barrier.seat l.post.barrier.seat;
+}
