@@ -18,7 +18,7 @@ inputs_of None = []
 inputs_of (Some inputs) = inputs
 
 -- the place of a piece: its number, the piece until a thread takes it, and what the thread brings back
-pub record Slot (A B : Type 0) : Type 0 where
+pub record PlaceView (A B : Type 0) : Type 0 where
   pub number : ℕ
   pub ready : Option (Given A)
   pub finished : Option (Done A B)

@@ -3,7 +3,8 @@ use Rattle.std.specs.Prelude.{◌≡◌, ℕ}
 use Rattle.spindle_parts.specs.declared.fault.Fault.{Fault}
 use Rattle.spindle_parts.specs.declared.fault.Fault.TheVariants.{Memory, Lost}
 use Rattle.spindle_parts.specs.declared.requests.plays.Account.{Account}
-use Rattle.spindle_parts.specs.LedgerSteps.{announcing}
+use Rattle.spindle.specs.Accounts as accounts
+use Rattle.spindle.specs.Notices as notices
 use Rattle.spindle.specs.declared.lock.leader.Leader.{Leader}
 use Rattle.spindle_rounds.specs.declared.round_table.view.View.{View}
 use Rattle.spindle_rounds.specs.RoundConditions.{MayFill}
@@ -19,11 +20,11 @@ view_of leader = leader.post.post.barrier.seat.me.0
 
 -- what its seat at the ledger knows, with the trail of its own steps
 abbrev pub account_of : {J G L I O N S : Type 0} → Leader J G L I O N S → Account
-account_of leader = leader.runner.notices.seat.me.0
+account_of leader = accounts.account_of leader.runner.notices
 
 -- it told the idle threads to rest, and did nothing else at the ledger
 abbrev pub AnnouncedRest : {J G L I O N S : Type 0} → (old new : Leader J G L I O N S) → Type 0
-AnnouncedRest old new = account_of new ≡ announcing 16 1 (account_of old)
+AnnouncedRest old new = notices.AnnouncedRest (account_of old) (account_of new)
 
 -- it is in, and nothing is published
 abbrev pub IsBetweenRounds : {J G L I O N S : Type 0} → Leader J G L I O N S → Type 0

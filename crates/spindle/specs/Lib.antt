@@ -10,3 +10,6 @@ pub mod Rounds
 pub mod Opening
 pub mod Alone
 pub mod Posts
+pub mod Notices
+pub mod Accounts
+pub mod Helpers

@@ -6,13 +6,13 @@ use Rattle.spindle.specs.Done.{Done}
 use Rattle.spindle_parts.specs.Pieces.{joined}
 
 -- what a place holds is the piece of a number with these items, run
-abbrev pub IsRunOf : {A B : Type 0} → ℕ → List A → Option (Done A B) → Type 0
-IsRunOf number items None = ⊥
-IsRunOf number items (Some done) = (done.number ≡ number) × (done.inputs ≡ items)
+abbrev pub IsDoneOf : {A B : Type 0} → ℕ → List A → Option (Done A B) → Type 0
+IsDoneOf number items None = ⊥
+IsDoneOf number items (Some done) = (done.number ≡ number) × (done.inputs ≡ items)
 
 -- the place holds the piece, finished: under its number, with its inputs
 abbrev pub HoldsPiece : {A B : Type 0} → Piece A → Option (Done A B) → Type 0
-HoldsPiece piece place = IsRunOf piece.number piece.items.items place
+HoldsPiece piece place = IsDoneOf piece.number piece.items.items place
 
 -- the places hold the pieces, one by one
 abbrev pub HoldAll : {A B : Type 0} → List (Piece A) → List (Option (Done A B)) → Type 0

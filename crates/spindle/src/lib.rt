@@ -7,7 +7,7 @@ pub mod free;
 mod job;
 pub mod lists;
 pub mod lock;
-mod pieces;
+pub mod pieces;
 mod work;
 
 pub use free::{for_each, for_each_raw};

@@ -8,12 +8,12 @@ mod leader;
 mod opening;
 mod pool;
 mod root;
-mod shared;
+mod workspace;
 
 pub use self::leader::Leader;
 pub use self::pool::Pool;
 pub use self::root::with_lock;
-pub use self::shared::{Lock, Opens};
+pub use self::workspace::{Opens, Workspace};
 pub use crate::crew::limits::Limits;
 pub use crate::job::Job;
 pub use crate::job::context::JobCx;

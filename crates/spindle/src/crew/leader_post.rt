@@ -1,5 +1,6 @@
 //! The leader's post: it publishes rounds, and works in them.
 ghost use Rattle.std.specs.Prelude.{◌≡◌, true};
+ghost use Rattle.spindle.specs.Posts.{party_view};
 
 use crate::crew::post::Post;
 
@@ -7,14 +8,14 @@ use crate::crew::post::Post;
 #[derive(Drop)]
 pub struct LeaderPost<'a> {
     pub(crate) post: Post<'a>,
-    ghost leads: { post.barrier.seat.me.0.leader ≡ true },
+    ghost leads: { (party_view post.barrier).leader ≡ true },
     ghost first: { post.thread ≡ 0 },
 }
 
 impl<'a> LeaderPost<'a> {
     /// The post of a party whose seat is the leader's.
     pub(crate) fn new(post: Post<'a>) -> LeaderPost<'a>
-        requires leader { post.barrier.seat.me.0.leader ≡ true }
+        requires leader { (party_view post.barrier).leader ≡ true }
         requires thread { post.thread ≡ 0 }
         ensures { result.post ≡ post.entry }
     {

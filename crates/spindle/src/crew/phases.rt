@@ -1,51 +1,76 @@
 //! What stands around a thread's work in a round: the leader's publish before it, and the round's end after it.
 ghost use Rattle.std.specs.Prelude.{◌≡◌, ◌≤◌, ◌∷◌, ◌<◌, false, true};
-ghost use Rattle.spindle_rounds.specs.RoundConditions.{IsFreeInside, IsDone, IsWaiting, MayFill};
+ghost use Rattle.spindle_rounds.specs.RoundConditions.{IsFreeInside, IsDone, IsWaiting, MayFill, MayPublish};
 ghost use Rattle.spindle_rounds.specs.RoundRule.{Showed};
-ghost use Rattle.spindle_rounds.specs.RoundSteps.{round_of};
+ghost use Rattle.spindle_rounds.specs.RoundSlots.{bare};
+ghost use Rattle.spindle_rounds.specs.RoundSteps.{publishing, round_of};
+ghost use Rattle.spindle_rounds.specs.Seating.{IsSeatAt, IsSameSeat};
 ghost use Rattle.spindle_rounds.specs.RoundViews.{published_of};
 ghost use Rattle.spindle_rounds.specs.Holding.{IsHeld, Keeps};
 ghost use Rattle.spindle_rounds.specs.Passing.{InNext};
 ghost use Rattle.spindle_rounds.specs.Working.{OnTask, IsIdle};
-ghost use Rattle.spindle.specs.Posts.{IsAt};
+ghost use Rattle.spindle.specs.Accounts.{account_of};
+ghost use Rattle.spindle.specs.Notices.{EndedRest};
+ghost use Rattle.spindle.specs.Posts.{IsAt, party_view};
 
 use crate::crew::notices::Notices;
 use crate::crew::tables::Tables;
 use spindle_rounds::barrier::Barrier;
 use spindle_rounds::barrier::steps::{Arrival, Look};
+use spindle_rounds::round::Round;
+use spindle_rounds::round::task::Task;
+use spindle_rounds::round_table::Seat;
 use spindle_rounds::round_table::slots::Bare;
 use std::sync::Wait;
 
-/// The leader publishes so many jobs, and wakes the helpers.
+/// The leader publishes a task, and wakes the helpers.
 pub(crate) fn publish<'a, H: Wait>(
     rt: &H,
     tables: &Tables,
     barrier: &mut Barrier<'a, Bare>,
     notices: &mut Notices<'a>,
-    jobs: u64,
+    task: Task,
 )
     requires at { IsAt tables.now barrier.old }
-    requires leads { MayFill barrier.old.seat.me.0 }
-    requires idle { IsIdle barrier.old.seat.me.0 }
-    requires counted { (2 ≤ jobs) × (jobs ≤ 4294967295) }
+    requires leads { MayFill (party_view barrier.old) }
+    requires idle { IsIdle (party_view barrier.old) }
+    requires counted { (2 ≤ task.jobs) × (task.jobs ≤ 4294967295) }
     ensures at { IsAt tables.now barrier.new × Keeps barrier.old barrier.new }
-    ensures task { OnTask jobs false barrier.new.seat.me.0 }
-    ensures idle { IsIdle barrier.new.seat.me.0 }
-    ensures leader { barrier.new.seat.me.0.leader ≡ barrier.old.seat.me.0.leader }
-    ensures published { let old = barrier.old.seat.me.0 in let new = barrier.new.seat.me.0 in
-        (new.standing ≡ old.standing) × (published_of new.trail ≡ Showed (round_of old.standing) jobs false ∷ published_of old.trail) }
+    ensures task { OnTask task.jobs task.may_stop (party_view barrier.new) }
+    ensures idle { IsIdle (party_view barrier.new) }
+    ensures leader { (party_view barrier.new).leader ≡ (party_view barrier.old).leader }
+    ensures published { let old = party_view barrier.old in let new = party_view barrier.new in
+        (new.standing ≡ old.standing) × (published_of new.trail
+        ≡ Showed (round_of old.standing) task.jobs task.may_stop ∷ published_of old.trail) }
+    ensures rest { EndedRest (account_of notices.old) (account_of notices.new) }
 {
-    tables.round.fill(&mut barrier.seat, jobs);
+    tables.round.fill(&mut barrier.seat, task.jobs);
     notices.end_rest();
-    tables.round.publish(&mut barrier.seat, jobs);
+    publish_task(&tables.round, &mut barrier.seat, task);
     tables.sleep.wake(rt);
+}
+
+// One store of the task's word: that of a plain round, or of one that may stop.
+fn publish_task(round: &Round<Bare>, seat: &mut Seat<Bare>, task: Task)
+    requires seated { IsSeatAt round.now.init seat.old }
+    requires leads { MayPublish bare round.now.init.threads task.jobs seat.old.me.0 }
+    requires counted { (2 ≤ task.jobs) × (task.jobs ≤ 4294967295) }
+    requires ranges { 0 < round.now.init.threads }
+    ensures seat { IsSameSeat seat.old seat.new }
+    ensures step { seat.new.me ≡ (publishing task.may_stop task.jobs seat.old.me.0, seat.old.me.1) }
+{
+    if task.may_stop {
+        round.publish_try(seat, task.jobs);
+    } else {
+        round.publish(seat, task.jobs);
+    }
 }
 
 /// Arrives, and waits until the round has ended. The closer ends it, and wakes the others.
 pub(crate) fn end_round<'a, H: Wait>(rt: &H, tables: &Tables, barrier: &mut Barrier<'a, Bare>)
     requires held { IsHeld barrier.old }
-    requires free { IsFreeInside barrier.old.seat.me.0 }
-    requires done { IsDone barrier.old.seat.me.0 }
+    requires free { IsFreeInside (party_view barrier.old) }
+    requires done { IsDone (party_view barrier.old) }
     ensures held { Keeps barrier.old barrier.new }
     ensures next { InNext barrier.old.seat.me barrier.new.seat.me }
 {
@@ -61,7 +86,7 @@ pub(crate) fn end_round<'a, H: Wait>(rt: &H, tables: &Tables, barrier: &mut Barr
 // Waits for the closer, as idle threads do.
 fn await_end<'a, H: Wait>(rt: &H, tables: &Tables, barrier: &mut Barrier<'a, Bare>)
     requires held { IsHeld barrier.old }
-    requires waiting { IsWaiting barrier.old.seat.me.0 }
+    requires waiting { IsWaiting (party_view barrier.old) }
     ensures held { Keeps barrier.old barrier.new }
     ensures next { InNext barrier.old.seat.me barrier.new.seat.me }
 {

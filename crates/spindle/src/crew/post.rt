@@ -1,10 +1,10 @@
 //! A thread's post at the barrier of its lock: between rounds it stands inside, with no job claimed.
 ghost use Rattle.std.specs.Prelude.{◌≡◌, ℕ, ◌<◌, ◌%◌, false, true, IfSome};
-ghost use Rattle.spindle_rounds.specs.declared.round_table.view.Standing.TheVariants.{Away, Inside};
+ghost use Rattle.spindle_rounds.specs.declared.round_table.view.Standing.TheVariants.{Inside};
 ghost use Rattle.spindle_rounds.specs.RoundSteps.{round_of};
 ghost use Rattle.spindle_rounds.specs.Working.{OnTask, IsIdle};
-ghost use Rattle.spindle.specs.Posts.{IsAt};
-ghost use Rattle.spindle_rounds.specs.Seating.{IsSeatAt, IsSameTable};
+ghost use Rattle.spindle.specs.Posts.{IsAt, IsOut, IsSized, party_view};
+ghost use Rattle.spindle_rounds.specs.Seating.{IsSeatAt, IsSameSeat, IsSameTable};
 
 use crate::crew::tables::Tables;
 use spindle_rounds::barrier::Barrier;
@@ -22,12 +22,12 @@ pub struct Post<'a> {
     pub(crate) thread: usize,
     ghost seated: { IsSeatAt tables.now.round.init barrier.seat },
     ghost home: { IsSameTable tables.now.round.init barrier.init.now },
-    ghost sized: { barrier.seat.me.0.threads ≡ tables.now.round.init.threads },
-    ghost inside: { barrier.seat.me.0.standing ≡ Inside (round_of barrier.seat.me.0.standing) },
-    ghost sense: { barrier.sense ≡ round_of barrier.seat.me.0.standing % 2 },
+    ghost sized: { IsSized tables.now (party_view barrier) },
+    ghost inside: { (party_view barrier).standing ≡ Inside (round_of (party_view barrier).standing) },
+    ghost sense: { barrier.sense ≡ round_of (party_view barrier).standing % 2 },
     ghost member: { barrier.is_member ≡ true },
-    ghost idle: { IsIdle barrier.seat.me.0 },
-    ghost role: { barrier.seat.me.0.known.unpublished ≡ barrier.seat.me.0.leader },
+    ghost idle: { IsIdle (party_view barrier) },
+    ghost role: { (party_view barrier).known.unpublished ≡ (party_view barrier).leader },
     ghost numbered: { thread < tables.now.crew.threads },
 }
 
@@ -35,13 +35,14 @@ impl<'a> Post<'a> {
     // The post of a party that is inside its round.
     fn new(tables: &'a Tables, barrier: Barrier<'a, Bare>, thread: usize) -> Post<'a>
         requires at { IsAt tables.now barrier }
-        requires inside { (q : ℕ) × (barrier.seat.me.0.standing ≡ Inside q) }
-        requires idle { IsIdle barrier.seat.me.0 }
-        requires role { barrier.seat.me.0.known.unpublished ≡ barrier.seat.me.0.leader }
+        requires inside { (q : ℕ) × ((party_view barrier).standing ≡ Inside q) }
+        requires idle { IsIdle (party_view barrier) }
+        requires role { (party_view barrier).known.unpublished ≡ (party_view barrier).leader }
         requires numbered { thread < tables.now.crew.threads }
         ensures tables { result.tables.now ≡ tables.now }
-        ensures leader { result.barrier.seat.me.0.leader ≡ barrier.entry.seat.me.0.leader }
+        ensures leader { (party_view result.barrier).leader ≡ (party_view barrier.entry).leader }
         ensures thread { result.thread ≡ thread }
+        ensures seat { result.barrier.seat ≡ barrier.entry.seat }
     {
         Post {
             tables,
@@ -57,14 +58,12 @@ impl<'a> Post<'a> {
         mut seat: Seat<Bare>,
         thread: usize,
     ) -> Post<'a>
-        requires seated { IsSeatAt tables.now.round.init seat }
-        requires sized { seat.me.0.threads ≡ tables.now.round.init.threads }
-        requires away { seat.me.0.standing ≡ Away }
-        requires idle { IsIdle seat.me.0 }
+        requires out { IsOut tables.now seat }
         requires thread { thread < tables.now.crew.threads }
         ensures tables { result.tables.now ≡ tables.now }
         ensures thread { result.thread ≡ thread }
-        ensures leader { result.barrier.seat.me.0.leader ≡ seat.me.0.leader }
+        ensures leader { (party_view result.barrier).leader ≡ seat.me.0.leader }
+        ensures seat { IsSameSeat seat result.barrier.seat }
     {
         for _ in rt.forever() {
             seat = match tables.round.init().barrier(rt, seat, thread) {
@@ -79,9 +78,10 @@ impl<'a> Post<'a> {
     /// The task of the published round, where there is one.
     pub(crate) fn task(&mut self) -> Option<Task>
         ensures task { IfSome result (λ task.
-            OnTask task.jobs task.may_stop self.new.barrier.seat.me.0) }
+            OnTask task.jobs task.may_stop (party_view self.new.barrier)) }
         ensures post { (self.new.tables ≡ self.old.tables) × (self.new.thread ≡ self.old.thread) }
-        ensures leader { self.new.barrier.seat.me.0.leader ≡ self.old.barrier.seat.me.0.leader }
+        ensures leader { (party_view self.new.barrier).leader ≡ (party_view self.old.barrier).leader }
+        ensures seat { IsSameSeat self.old.barrier.seat self.new.barrier.seat }
     {
         let tables = self.tables;
         let word = tables.round.published(&mut self.barrier.seat);
@@ -91,16 +91,20 @@ impl<'a> Post<'a> {
         None
     }
 
-    /// Leaves the barrier for good.
-    pub(crate) fn leave<H: Wait>(self, rt: &H)
-        requires helper { self.barrier.seat.me.0.leader ≡ false }
+    /// Leaves the barrier.
+    pub(crate) fn leave<H: Wait>(self, rt: &H) -> Seat<Bare>
+        requires helper { (party_view self.barrier).leader ≡ false }
+        ensures out { IsOut self.entry.tables.now result }
+        ensures leader { result.me.0.leader ≡ false }
+        ensures seat { IsSameSeat self.entry.barrier.seat result }
     {
         let Post {
             tables,
             barrier,
             thread: _,
         } = self;
-        drop(barrier.exit(rt));
+        let seat = barrier.exit(rt);
         tables.sleep.wake(rt);
+        seat
     }
 }

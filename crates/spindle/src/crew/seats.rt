@@ -1,6 +1,7 @@
-//! The leader's seats at the tables of a fresh lock, from which the seats of its helpers are split.
+//! The seats of a thread at the tables of its lock, and the tables of a fresh lock with its leader's seats.
 ghost use Rattle.std.specs.Prelude.{◌≡◌, IfOk, OnErr, IsErrOf};
 ghost use Rattle.spindle.specs.Opening.{AreSeatsAt};
+ghost use Rattle.spindle_parts.specs.LedgerSeats.{slot_count};
 
 use crate::crew::Crew;
 use crate::crew::limits::Limits;
@@ -15,7 +16,7 @@ use spindle_rounds::round_table;
 use spindle_rounds::round_table::slots::Bare;
 use std::alloc::Global;
 
-/// The leader's seats at the tables of its lock.
+/// A thread's seats at the tables of its lock.
 #[derive(Drop)]
 pub(crate) struct Seats {
     pub(crate) round: round_table::Seat<Bare>,
@@ -24,16 +25,22 @@ pub(crate) struct Seats {
 }
 
 impl Tables {
-    /// The tables of a lock, with the leader's seats.
-    pub(crate) fn new(alloc: Global, crew: Crew, limits: Limits) -> Result<(Tables, Seats), Fault>
+    /// The tables of a lock with so many child slots, and the leader's seats.
+    pub(crate) fn new(
+        alloc: Global,
+        crew: Crew,
+        limits: Limits,
+        child_slots: usize,
+    ) -> Result<(Tables, Seats), Fault>
         ensures crew { IfOk result (λ t. t.0.crew ≡ crew) }
+        ensures slots { IfOk result (λ t. slot_count t.0.ledger ≡ child_slots) }
         ensures seats { IfOk result (λ t. AreSeatsAt t.0 t.1) }
         ensures memory { OnErr result (IsErrOf result Fault.Memory) }
     {
         let threads = crew.threads();
         let (round, round_seat) = Round::new(alloc, threads)?;
         let (numbers, numbers_seat) = Numbers::new(alloc, threads)?;
-        let (ledger, ledger_seat) = Requests::new(alloc, 0)?;
+        let (ledger, ledger_seat) = Requests::new(alloc, child_slots)?;
         let sleep = Sleep::new(limits);
         let tables = Tables {
             crew,

@@ -16,17 +16,20 @@ pub struct JobCx<'a, N: Nest> {
 }
 
 impl<'a, N: Nest> Model for JobCx<'a, N> {
-    ghost use Rattle.spindle.specs.Locks.{ContextView, IsPlace};
+    ghost use Rattle.spindle.specs.Locks.{ContextView, IsContext};
+    ghost use Rattle.spindle.specs.Accounts.{account_of};
 
     ghost Value = { ContextView };
 
-    ghost view = { λ c. record { threads = c.threads } };
+    ghost view = { λ c. record { threads = c.threads; account = account_of c.notices } };
 
-    ghost invariant = { λ c. IsPlace c.index c.current c.threads };
+    ghost invariant = { λ c. IsContext c.index c.current c.threads };
 }
 
 impl<'a, N: Nest> JobCx<'a, N> {
-    ghost use Rattle.spindle.specs.Locks.{IsPlace};
+    ghost use Rattle.spindle.specs.Locks.{IsContext};
+    ghost use Rattle.spindle.specs.Accounts.{account_of};
+    ghost use Rattle.spindle.specs.Notices.{AnnouncedRest};
 
     /// The context of a job that runs in a lock of so many threads, of which so many are there.
     pub(crate) fn new(
@@ -36,8 +39,9 @@ impl<'a, N: Nest> JobCx<'a, N> {
         current: usize,
         threads: usize,
     ) -> JobCx<'a, N>
-        requires { IsPlace index current threads }
-        ensures { result.threads ≡ threads }
+        requires { IsContext index current threads }
+        ensures threads { result.threads ≡ threads }
+        ensures account { result.account ≡ account_of notices.entry }
     {
         JobCx {
             slots,
@@ -73,7 +77,8 @@ impl<'a, N: Nest> JobCx<'a, N> {
 
     /// Tells idle helpers of the lock to sleep at once until its next round. A leader that works alone has none.
     pub fn relieve_workers(&mut self)
-        ensures { self.new.threads ≡ self.old.threads }
+        ensures rest { AnnouncedRest self.old.account self.new.account }
+        ensures lock { self.new.threads ≡ self.old.threads }
     {
         self.notices.announce_rest();
     }

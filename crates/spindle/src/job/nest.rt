@@ -5,12 +5,14 @@
 ghost use Rattle.std.specs.Prelude.{OnErr, IsErrOf};
 
 use crate::job::Job;
+use crate::job::sealed::IsNest;
 use spindle_parts::fault::Fault;
 use std::alloc::Global;
 use std::marker::PhantomData;
 
-/// The locks that a job may open. A user names `End` or `Under<K>`; the trait's call is the library's own.
-pub trait Nest {
+/// The locks that a job may open. A user names `End` or `Under<K>`; the trait's call is the library's own, and nobody else can
+/// implement it.
+pub trait Nest: IsNest {
     /// Where a lock keeps the locks that its jobs open.
     type Slots: Drop;
 
@@ -21,6 +23,8 @@ pub trait Nest {
 
 /// No nested locks.
 pub struct End;
+
+impl IsNest for End {}
 
 impl Nest for End {
     type Slots = ();
@@ -34,6 +38,8 @@ impl Nest for End {
 pub struct Under<K: Job> {
     kind: PhantomData<K>,
 }
+
+impl<K: Job> IsNest for Under<K> {}
 
 impl<K: Job> Nest for Under<K> {
     type Slots = ();

@@ -1,19 +1,20 @@
 //! The life of a helper: it takes a number, joins the barrier, works in each round, and ends once exit is announced.
-ghost use Rattle.std.specs.Prelude.{◌≡◌, ◌<◌, ◌≤◌, IfSome, false};
-ghost use Rattle.spindle_parts.specs.ThreadNumbers.{IsSeatOf};
+ghost use Rattle.std.specs.Prelude.{◌≡◌, ◌<◌, ◌≤◌, false};
+ghost use Rattle.spindle_parts.specs.ThreadNumbers.{IsSeatOf, IsSameSeat as IsSameNumberSeat};
 ghost use Rattle.spindle_parts.specs.declared.numbers.plays.Holding.TheVariants.{Nothing, Has};
-ghost use Rattle.spindle_rounds.specs.RoundSteps.{outsider};
-ghost use Rattle.spindle_rounds.specs.Working.{OnTask, IsIdle};
-ghost use Rattle.spindle_rounds.specs.Seating.{IsSeatAt};
+ghost use Rattle.spindle.specs.Posts.{IsOut, AreOut, AreSameSeats, party_view};
+ghost use Rattle.spindle.specs.Helpers.{IsNews};
+ghost use Rattle.spindle_rounds.specs.Seating.{IsSameSeat};
 
 use crate::crew::notices::Notices;
 use crate::crew::post::Post;
+use crate::crew::seats::Seats;
 use crate::crew::tables::Tables;
 use crate::crew::worker::Worker;
 use crate::job::Job;
 use crate::job::gate::Gate;
 use crate::job::nest::Nest;
-use crate::lock::shared::Opens;
+use crate::lock::workspace::Opens;
 use crate::pieces::trays::Trays;
 use crate::work::runner::Runner;
 use spindle_parts::numbers;
@@ -30,36 +31,40 @@ use std::thread::Threads;
 #[derive(Drop)]
 pub(crate) struct Recruit<'a> {
     pub(crate) tables: &'a Tables,
-    pub(crate) round: round_table::Seat<Bare>,
-    pub(crate) numbers: numbers::Seat,
-    pub(crate) notices: Notices<'a>,
-    ghost seated: { IsSeatAt tables.now.round.init round },
-    ghost outside: { round.me.0 ≡ outsider tables.now.round.init.threads false },
-    ghost registered: { numbers.table_id ≡ tables.now.numbers.table },
-    ghost unnumbered: { numbers.me.0.holding ≡ Nothing },
+    pub(crate) seats: Seats,
+    ghost out: { AreOut tables.now seats },
 }
 
 impl<'a> Recruit<'a> {
-    /// The helper's life, from its number to its end.
+    /// The helper's life, from its number to its end. Its seats come back.
     pub(crate) fn help<J: Opens<L> + 'a, L, G: Gate, H: Threads + Wait + Sync>(
         self,
         rt: &H,
         alloc: Global,
-        lock: &'a L,
+        workspace: &'a L,
         gate: &'a G,
-    ) {
-        let Recruit {
-            tables,
+    ) -> Seats
+        ensures out { AreOut self.entry.tables.now result }
+        ensures own { AreSameSeats self.entry.seats result }
+    {
+        let Recruit { tables, seats } = self;
+        let Seats {
             round,
             mut numbers,
-            notices,
-        } = self;
+            mut ledger,
+        } = seats;
         let thread = take_number(rt, &tables.numbers, &mut numbers);
         let post = Post::join(rt, tables, round, thread);
+        let notices = Notices::new(&tables.ledger, tables.ledger.new_seat(&mut ledger));
         let worker = Worker { tables, thread };
-        let runner = Runner::<'a, J, G>::new(J::slots(lock), gate, worker, notices);
-        live(rt, alloc, post, runner, J::trays(lock));
+        let runner = Runner::<'a, J, G>::new(J::slots(workspace), gate, worker, notices);
+        let round = live(rt, alloc, post, runner, J::trays(workspace));
         tables.numbers.give(&mut numbers, thread);
+        Seats {
+            round,
+            numbers,
+            ledger,
+        }
     }
 }
 
@@ -68,6 +73,7 @@ fn take_number<H: Wait>(rt: &H, numbers: &Numbers, seat: &mut numbers::Seat) -> 
     requires seated { IsSeatOf numbers.now seat.old }
     requires no_number { seat.old.me.0.holding ≡ Nothing }
     ensures seat { IsSeatOf numbers.now seat.new }
+    ensures same { IsSameNumberSeat seat.old seat.new }
     ensures own { seat.new.me.0.holding ≡ Has result }
     ensures number { result < numbers.now.threads }
 {
@@ -80,6 +86,14 @@ fn take_number<H: Wait>(rt: &H, numbers: &Numbers, seat: &mut numbers::Seat) -> 
     unreachable!()
 }
 
+// What a helper has waited for.
+enum News {
+    // Exit is announced.
+    Exit,
+    // A round is published.
+    Round(Task),
+}
+
 // Takes part in each round, until exit is announced.
 fn live<'a, J: Job, G: Gate, H: Threads + Wait + Sync>(
     rt: &H,
@@ -87,32 +101,35 @@ fn live<'a, J: Job, G: Gate, H: Threads + Wait + Sync>(
     mut post: Post<'a>,
     mut runner: Runner<'a, J, G>,
     trays: &Trays<J>,
-)
-    requires { post.barrier.seat.me.0.leader ≡ false }
+) -> round_table::Seat<Bare>
+    requires { (party_view post.barrier).leader ≡ false }
+    ensures out { IsOut post.entry.tables.now result }
+    ensures leader { result.me.0.leader ≡ false }
+    ensures seat { IsSameSeat post.entry.barrier.seat result }
 {
     for _ in rt.forever() {
-        let Some(task) = await_task(rt, &mut post, &mut runner.notices) else {
-            break;
-        };
-        post.take_part(rt, alloc, trays, &mut runner, task);
+        match await_news(rt, &mut post, &mut runner.notices) {
+            News::Exit => return post.leave(rt),
+            News::Round(task) => post.take_part(rt, alloc, trays, &mut runner, task),
+        }
     }
-    post.leave(rt);
+    unreachable!()
 }
 
-// Waits for a round, or for the announcement of exit: then it answers none.
-fn await_task<'a, H: Wait>(rt: &H, post: &mut Post<'a>, notices: &mut Notices<'a>) -> Option<Task>
-    ensures task { IfSome result (λ task.
-        OnTask task.jobs task.may_stop post.new.barrier.seat.me.0) }
+// Waits for a round, or for the announcement of exit.
+fn await_news<'a, H: Wait>(rt: &H, post: &mut Post<'a>, notices: &mut Notices<'a>) -> News
+    ensures news { IsNews (party_view post.new.barrier) result }
     ensures post { (post.new.tables ≡ post.old.tables) × (post.new.thread ≡ post.old.thread) }
-    ensures leader { post.new.barrier.seat.me.0.leader ≡ post.old.barrier.seat.me.0.leader }
+    ensures leader { (party_view post.new.barrier).leader ≡ (party_view post.old.barrier).leader }
+    ensures seat { IsSameSeat post.old.barrier.seat post.new.barrier.seat }
 {
     let mut idle = post.tables.sleep.idle();
     for _ in rt.forever() {
         if notices.is_exit_announced() {
-            return None;
+            return News::Exit;
         }
         if let Some(task) = post.task() {
-            return Some(task);
+            return News::Round(task);
         }
         idle.pass(rt, notices.is_rest_announced());
     }

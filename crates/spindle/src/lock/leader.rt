@@ -12,7 +12,7 @@ use crate::crew::leader_post::LeaderPost;
 use crate::job::Job;
 use crate::job::gate::Gate;
 use crate::lists::SharedList;
-use crate::lock::shared::{Lock, Opens};
+use crate::lock::workspace::{Opens, Workspace};
 use crate::pieces::runs::Pieces;
 use crate::work::runner::Runner;
 use spindle_parts::cut::cut;
@@ -26,8 +26,8 @@ const MOST_JOBS: usize = 4294967295;
 
 /// The leader of a lock over jobs of kind J, lent to the closure that the lock was opened for.
 #[derive(Drop)]
-pub struct Leader<'a, J: Job, G: Gate, L = Lock<J>> {
-    lock: &'a L,
+pub struct Leader<'a, J: Job, G: Gate, L = Workspace<J>> {
+    workspace: &'a L,
     runner: Runner<'a, J, G>,
     post: LeaderPost<'a>,
 }
@@ -35,13 +35,17 @@ pub struct Leader<'a, J: Job, G: Gate, L = Lock<J>> {
 impl<'a, J: Opens<L>, G: Gate, L> Leader<'a, J, G, L> {
     /// The leader of a lock, in whose barrier it stands.
     pub(crate) fn new(
-        lock: &'a L,
+        workspace: &'a L,
         runner: Runner<'a, J, G>,
         post: LeaderPost<'a>,
     ) -> Leader<'a, J, G, L>
         ensures { threads_of result ≡ post.entry.post.tables.now.crew.threads }
     {
-        Leader { lock, runner, post }
+        Leader {
+            workspace,
+            runner,
+            post,
+        }
     }
 
     /// Tells the helpers to end.
@@ -113,7 +117,7 @@ impl<'a, J: Opens<L>, G: Gate, L> Leader<'a, J, G, L> {
     {
         let mut outputs = Vec::with_capacity(alloc, items.len())?;
         let pieces = Pieces::new(SharedList::from_vec(alloc, items)?, jobs);
-        let trays = J::trays(self.lock);
+        let trays = J::trays(self.workspace);
         trays.hand_out(rt, alloc, &pieces)?;
         self.post
             .play(rt, alloc, trays, &mut self.runner, pieces.count() as u64);

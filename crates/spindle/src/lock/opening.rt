@@ -14,7 +14,7 @@ use crate::job::gate::Gate;
 use crate::job::nest::Nest;
 use crate::lock::helper::Recruit;
 use crate::lock::leader::Leader;
-use crate::lock::shared::Opens;
+use crate::lock::workspace::Opens;
 use crate::work::runner::Runner;
 use std::alloc::Global;
 use std::sync::Wait;
@@ -26,12 +26,12 @@ impl Seats {
         requires { AreSeatsAt tables.now self.old }
         ensures { AreSeatsAt tables.now self.new }
     {
-        Recruit {
-            tables,
+        let seats = Seats {
             round: tables.round.init().new_seat(&mut self.round),
             numbers: tables.numbers.new_seat(&mut self.numbers),
-            notices: Notices::new(&tables.ledger, tables.ledger.new_seat(&mut self.ledger)),
-        }
+            ledger: tables.ledger.new_seat(&mut self.ledger),
+        };
+        Recruit { tables, seats }
     }
 }
 
@@ -48,7 +48,7 @@ fn start<
     rt: &'s H,
     alloc: Global,
     tables: &'s Tables,
-    lock: &'s L,
+    workspace: &'s L,
     gate: &'s G,
     seats: &mut Seats,
     starts: usize,
@@ -63,7 +63,7 @@ where
 {
     for _ in 0..starts.min(tables.crew.threads() - 1) {
         let recruit = seats.recruit(tables);
-        drop(scope.spawn(move || recruit.help::<J, L, G, H>(rt, alloc, lock, gate)));
+        drop(scope.spawn(move || drop(recruit.help::<J, L, G, H>(rt, alloc, workspace, gate))));
     }
 }
 
@@ -82,7 +82,7 @@ pub(crate) fn lead<
     rt: &'s H,
     alloc: Global,
     tables: &'s Tables,
-    lock: &'s L,
+    workspace: &'s L,
     gate: &'s G,
     mut seats: Seats,
     starts: usize,
@@ -98,12 +98,14 @@ where
     ensures { (old : _) × (new : _) × (threads_of old ≡ tables.now.crew.threads)
         × FnOnceReturnsAtMut F.FnOnce f old result new }
 {
-    start::<_, J, G, L, H>(scope, rt, alloc, tables, lock, gate, &mut seats, starts);
+    start::<_, J, G, L, H>(
+        scope, rt, alloc, tables, workspace, gate, &mut seats, starts,
+    );
     let mut notices = Notices::new(&tables.ledger, seats.ledger);
     let post = LeaderPost::new(Post::join(rt, tables, seats.round, 0));
     let worker = Worker { tables, thread: 0 };
-    let runner = Runner::new(J::slots(lock), gate, worker, notices);
-    let mut leader = Leader::new(lock, runner, post);
+    let runner = Runner::new(J::slots(workspace), gate, worker, notices);
+    let mut leader = Leader::new(workspace, runner, post);
     let answer = f(&mut leader);
     leader.dismiss(rt);
     answer

@@ -14,7 +14,7 @@ use crate::job::nest::Nest;
 use crate::lock::leader::Leader;
 use crate::lock::opening::lead;
 use crate::lock::pool::Pool;
-use crate::lock::shared::Opens;
+use crate::lock::workspace::Opens;
 use spindle_parts::fault::Fault;
 use std::alloc::Global;
 use std::sync::Wait;
@@ -46,9 +46,9 @@ where
     ensures memory { OnErr result (IsErrOf result Fault.Memory) }
 {
     let crew = Crew::new(pool.max_num_threads(), max_threads);
-    let lock = J::open(alloc, crew.threads())?;
-    let (tables, seats) = Tables::new(alloc, crew, pool.limits())?;
-    Ok(scoped(rt, alloc, &tables, &lock, pool, seats, f))
+    let workspace = J::open(alloc, crew.threads())?;
+    let (tables, seats) = Tables::new(alloc, crew, pool.limits(), 0)?;
+    Ok(scoped(rt, alloc, &tables, &workspace, pool, seats, f))
 }
 
 // Opens the scope of the helpers' threads, which joins them at its end.
@@ -59,7 +59,7 @@ fn scoped<
     F: FnOnce(&mut Leader<J, G, L>) -> R,
     L: Send + Sync,
     H: Threads + Wait + Sync,
->(rt: &H, alloc: Global, tables: &Tables, lock: &L, pool: &Pool<G>, seats: Seats, f: F) -> R
+>(rt: &H, alloc: Global, tables: &Tables, workspace: &L, pool: &Pool<G>, seats: Seats, f: F) -> R
 where
     J::In: Send + Sync,
     J::Out: Send,
@@ -81,6 +81,8 @@ where
             requires sync { IsSync H.row }
             ensures { (old : _) × (new : _) × (threads_of old ≡ tables.entry.now.crew.threads)
                 × FnOnceReturnsAtMut F.FnOnce f old result new }
-        { lead::<_, J, G, R, F, L, H>(scope, rt, alloc, tables, lock, gate, seats, starts, f) },
+        {
+            lead::<_, J, G, R, F, L, H>(scope, rt, alloc, tables, workspace, gate, seats, starts, f)
+        },
     )
 }

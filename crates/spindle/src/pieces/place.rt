@@ -1,7 +1,7 @@
 //! The place of a piece in a tray: the piece until a thread takes it, and then what the thread brings back.
 ghost use Rattle.std.specs.Prelude.{◌≡◌, ◌+◌, ◌≤◌, ◌↔◌, None, Some, OnOk, OnErr, IfErr, IsTrue, IsOk, true, length, vec_len, vec_capacity};
 ghost use Rattle.spindle.specs.Rounds.{AddsAnswers};
-ghost use Rattle.spindle.specs.Outputs.{IsRunOf};
+ghost use Rattle.spindle.specs.Outputs.{IsDoneOf};
 ghost use Rattle.spindle.specs.Trays.{Awaits};
 
 use crate::job::Job;
@@ -21,9 +21,9 @@ pub(crate) struct Place<J: Job> {
 
 impl<J: Job> Model for Place<J> {
     ghost use Rattle.std.specs.Prelude.{◌≡◌, IfSome};
-    ghost use Rattle.spindle.specs.Done.{Slot};
+    ghost use Rattle.spindle.specs.Done.{PlaceView};
 
-    ghost Value = { Slot J.In J.Out };
+    ghost Value = { PlaceView J.In J.Out };
 
     ghost view = { λ place. record { number = place.number; ready = place.ready; finished = place.finished } };
 
@@ -112,7 +112,7 @@ impl<J: Job> Place<J> {
             → AddsAnswers J.meets items.now outputs.old.items outputs.new.items }
         ensures room { vec_capacity outputs.old ≤ vec_capacity outputs.new }
         ensures number { self.new.number ≡ self.old.number }
-        ensures held { IsTrue result ↔ IsRunOf number items.now self.old.finished }
+        ensures held { IsTrue result ↔ IsDoneOf number items.now self.old.finished }
     {
         match &mut self.finished {
             Some(finished) if finished.is_of(number, items) => {

@@ -8,7 +8,7 @@ use std::marker::Model;
 
 /// A piece with room for an output for each of its items.
 #[derive(Drop)]
-pub(crate) struct Ready<J: Job> {
+pub struct Ready<J: Job> {
     number: usize,
     inputs: ListRun<J::In>,
     room: Vec<J::Out>,

@@ -9,7 +9,7 @@ use std::alloc::AllocError;
 
 /// A list of items, and how many pieces it is cut into.
 #[derive(Drop)]
-pub(crate) struct Pieces<T> {
+pub struct Pieces<T> {
     items: SharedList<T>,
     count: usize,
     short: usize,
@@ -23,7 +23,7 @@ pub(crate) struct Pieces<T> {
 
 impl<T> Pieces<T> {
     /// The pieces for so many jobs: as many as jobs, but no empty one.
-    pub(crate) fn new(items: SharedList<T>, n_jobs: usize) -> Pieces<T>
+    pub fn new(items: SharedList<T>, n_jobs: usize) -> Pieces<T>
         requires items { 0 < length items }
         requires jobs { 0 < n_jobs }
         ensures items { result.items ≡ items }

@@ -7,8 +7,8 @@ ghost use Rattle.std.specs.List.{AllZip};
 ghost use Rattle.spindle_parts.specs.Pieces.{counted, dealt};
 ghost use Rattle.spindle.specs.PieceRuns.{items_before};
 ghost use Rattle.spindle.specs.Rounds.{AddsAnswers};
-ghost use Rattle.spindle.specs.Outputs.{IsRunOf};
-ghost use Rattle.spindle.specs.Trays.{ready_at, finished_at, number_at, AwaitsAll};
+ghost use Rattle.spindle.specs.Outputs.{IsDoneOf};
+ghost use Rattle.spindle.specs.Trays.{ready_at, finished_at, number_at, AwaitsAll, HoldsDone, IsFirstMissing};
 
 use crate::job::Job;
 use crate::pieces::address::{Address, hand_length};
@@ -65,6 +65,14 @@ impl<J: Job> Tray<J> {
         Ok(())
     }
 
+    /// Lets go of all pieces.
+    pub(crate) fn empty(&mut self)
+        ensures { self.new.places.items ≡ [] }
+    {
+        self.pieces = 0;
+        self.places.clear();
+    }
+
     /// Takes the piece that waits at a place, if there is one.
     pub(crate) fn take(&mut self, at: usize) -> Option<Ready<J>>
         ensures piece { result ≡ ready_at self.old.places.items at }
@@ -97,8 +105,8 @@ impl<J: Job> Tray<J> {
         place.put(finished)
     }
 
-    /// Moves the outputs of so many pieces, whose places begin at `from`, to the end of the list. Answers the first number
-    /// whose place doesn't hold its piece, run.
+    /// Moves the outputs of so many pieces, whose places begin at `from`, to the end of the list. Ok exactly where each of
+    /// these places holds its piece, run; else the first number whose place doesn't.
     pub(crate) fn gather(
         &mut self,
         from: usize,
@@ -115,7 +123,11 @@ impl<J: Job> Tray<J> {
         ensures answers { OnOk result (AllZip J.meets
             (items_before pieces.now.items pieces.now.count (number + count)) outputs.new.items) }
         ensures room { length pieces.now.items ≤ vec_capacity outputs.new }
-        ensures lost { IfErr result (λ k. k < pieces.now.count) }
+        ensures complete { IsOk result ↔ HoldsDone pieces.now.items pieces.now.count number from count
+            self.old.places.items }
+        ensures lost { IfErr result (IsFirstMissing pieces.now.items pieces.now.count number from count
+            self.old.places.items) }
+        ensures within { IfErr result (λ k. k < pieces.now.count) }
     {
         for at in 0..count {
             let items = pieces.piece(number + at);
@@ -139,7 +151,9 @@ impl<J: Job> Tray<J> {
             → AddsAnswers J.meets items.now outputs.old.items outputs.new.items }
         ensures room { vec_capacity outputs.old ≤ vec_capacity outputs.new }
         ensures held { IsTrue result
-            ↔ IsRunOf number items.now (finished_at self.old.places.items at) }
+            ↔ IsDoneOf number items.now (finished_at self.old.places.items at) }
+        ensures others { (k : ℕ) → k ≢ at
+            → slice_get self.new.places.items k ≡ slice_get self.old.places.items k }
     {
         if at >= self.places.len() {
             return false;

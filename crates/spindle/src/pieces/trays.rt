@@ -23,7 +23,7 @@ pub struct Trays<J: Job> {
 
 impl<J: Job> Trays<J> {
     /// A tray of no pieces for each of so many threads.
-    pub(crate) fn new(alloc: Global, threads: usize) -> Result<Trays<J>, Fault>
+    pub fn new(alloc: Global, threads: usize) -> Result<Trays<J>, Fault>
         requires { 0 < threads }
         ensures threads { IfOk result (λ trays. vec_len trays.trays ≡ threads) }
         ensures memory { OnErr result (IsErrOf result Fault.Memory) }
@@ -39,13 +39,24 @@ impl<J: Job> Trays<J> {
     /// Puts the pieces into the trays of those that they are dealt to. All that the pieces' runs need is made
     /// here, and what earlier rounds made is used again.
     ///
-    /// After a refusal the trays hold no round's pieces as a whole; the next round fills them again.
-    pub(crate) fn hand_out<H: Wait>(
+    /// After a refusal the trays hold no piece.
+    pub fn hand_out<H: Wait>(
         &self,
         rt: &H,
         alloc: Global,
         pieces: &Pieces<J::In>,
     ) -> Result<(), Fault>
+        ensures { OnErr result (IsErrOf result Fault.Memory) }
+    {
+        let handed_out = self.refill(rt, alloc, pieces);
+        if handed_out.is_err() {
+            self.empty(rt);
+        }
+        handed_out
+    }
+
+    // Fills one tray after the other, up to the first that is refused memory.
+    fn refill<H: Wait>(&self, rt: &H, alloc: Global, pieces: &Pieces<J::In>) -> Result<(), Fault>
         ensures { OnErr result (IsErrOf result Fault.Memory) }
     {
         for tray in &self.trays {
@@ -54,8 +65,15 @@ impl<J: Job> Trays<J> {
         Ok(())
     }
 
+    // Lets go of all pieces.
+    fn empty<H: Wait>(&self, rt: &H) {
+        for tray in &self.trays {
+            tray.lock(rt).empty();
+        }
+    }
+
     /// Takes a piece of a round of so many out of the tray where it was dealt, if it waits there.
-    pub(crate) fn take<H: Wait>(&self, rt: &H, pieces: usize, number: usize) -> Option<Ready<J>>
+    pub fn take<H: Wait>(&self, rt: &H, pieces: usize, number: usize) -> Option<Ready<J>>
         requires { number < pieces }
         ensures { IfSome result (λ piece. piece.number ≡ number) }
     {
@@ -67,7 +85,7 @@ impl<J: Job> Trays<J> {
     }
 
     /// Brings a piece of a round of so many back, run, to the tray where it was dealt. A tray may refuse it.
-    pub(crate) fn put<H: Wait>(
+    pub fn put<H: Wait>(
         &self,
         rt: &H,
         pieces: usize,
@@ -113,9 +131,29 @@ impl<J: Job> Trays<J> {
         }
     }
 
-    /// Moves the outputs of the pieces to the end of the list, in order. Answers the first number whose place is empty or
-    /// holds another number or other inputs than the piece; what has moved by then stays. Takes no memory.
-    pub(crate) fn gather<H: Wait>(
+    /// Moves the outputs of the pieces to the end of the list, in order. Answers the least number whose place is empty or
+    /// holds another number or other inputs than the piece; what has moved by then stays, and the trays hold no piece any
+    /// more. Takes no memory.
+    pub fn gather<H: Wait>(
+        &self,
+        rt: &H,
+        pieces: &Pieces<J::In>,
+        outputs: &mut Vec<J::Out>,
+    ) -> Result<(), usize>
+        requires empty { outputs.old.items ≡ [] }
+        requires room { length pieces.now.items ≤ vec_capacity outputs.old }
+        ensures answers { OnOk result (AllZip J.meets pieces.now.items outputs.new.items) }
+        ensures lost { IfErr result (λ k. k < pieces.now.count) }
+    {
+        let gathered = self.move_outputs(rt, pieces, outputs);
+        if gathered.is_err() {
+            self.empty(rt);
+        }
+        gathered
+    }
+
+    // The outputs of each thread's run of numbers, thread by thread, and then those of the numbers left over.
+    fn move_outputs<H: Wait>(
         &self,
         rt: &H,
         pieces: &Pieces<J::In>,

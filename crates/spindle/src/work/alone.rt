@@ -57,14 +57,15 @@ impl<'a> LeaderPost<'a> {
         let post = &mut self.post;
         let tables = post.tables;
         let jobs = pieces.len() as u64;
-        publish(rt, tables, &mut post.barrier, &mut runner.notices, jobs);
+        let task = Task {
+            jobs,
+            may_stop: false,
+        };
+        publish(rt, tables, &mut post.barrier, &mut runner.notices, task);
         let party = Party {
             round: &tables.round,
             thread: 0,
-            task: Task {
-                jobs,
-                may_stop: false,
-            },
+            task,
         };
         let work = LoneWork {
             pieces,

@@ -1,5 +1,6 @@
 //! The work of one thread in a published round: it runs the pieces of the numbers that it claims, out of the trays.
 ghost use Rattle.std.specs.Prelude.{◌≡◌, ◌≤◌, false};
+ghost use Rattle.spindle_rounds.specs.Seating.{IsSameSeat};
 ghost use Rattle.spindle_rounds.specs.Working.{OnTask, PlayedRound};
 
 use crate::crew::leader_post::LeaderPost;
@@ -42,6 +43,7 @@ impl<'a> Post<'a> {
         requires helper { self.old.barrier.seat.me.0.leader ≡ false }
         ensures post { (self.new.tables ≡ self.old.tables) × (self.new.thread ≡ self.old.thread) }
         ensures leader { self.new.barrier.seat.me.0.leader ≡ false }
+        ensures seat { IsSameSeat self.old.barrier.seat self.new.barrier.seat }
     {
         let tables = self.tables;
         let party = Party {
@@ -78,11 +80,11 @@ impl<'a> LeaderPost<'a> {
     {
         let post = &mut self.post;
         let tables = post.tables;
-        publish(rt, tables, &mut post.barrier, &mut runner.notices, jobs);
         let task = Task {
             jobs,
             may_stop: false,
         };
+        publish(rt, tables, &mut post.barrier, &mut runner.notices, task);
         let party = Party {
             round: &tables.round,
             thread: 0,

@@ -1,6 +1,12 @@
--- It isn't the leader.
+-- It isn't the leader, and stands at the same tables with the same seat.
 use Rattle.std.proofs.Common.{◌≡◌, false}
+use Rattle.spindle.specs.Posts.{party_view}
+use Rattle.spindle_rounds.specs.Seating.{IsSameSeat}
 use Rattle.spindle.proofs.lock.helper.live.Given as goal
 
 abbrev pub invariant-loop : goal.invariant-loop
-invariant-loop g l = l.post.barrier.seat.me.0.leader ≡ false
+invariant-loop g l = record {
+  helper : (party_view l.post.barrier).leader ≡ false;
+  tables : l.post.tables ≡ l.fn.post.tables;
+  seat : IsSameSeat l.fn.post.barrier.seat l.post.barrier.seat;
+}

@@ -2,15 +2,10 @@
 use Rattle.std.proofs.Common.{ap, refl, arith, ◌∙◌}
 use Rattle.spindle.proofs.lock.opening.lead.Goals as goal
 
-pub join-requires-clause-sized : goal.join-requires-clause-sized
-join-requires-clause-sized g c = ap (λ m. m.0.threads) c.start.ensures.outside
-
-pub join-requires-clause-away : goal.join-requires-clause-away
-join-requires-clause-away g c = ap (λ m. m.0.standing) c.start.ensures.outside
-
-pub join-requires-clause-idle : goal.join-requires-clause-idle
-join-requires-clause-idle g c = let i = c.start.ensures.outside in
-    (ap (λ m. m.0.claim) i, (let f = ap (λ m. m.0.from) i in let t = ap (λ m. m.0.to) i in omega arith))
+pub join-requires-clause-out : goal.join-requires-clause-out
+join-requires-clause-out g c = let s = c.start.ensures in let i = s.outside in
+    let f = ap (λ m. m.0.from) i in let t = ap (λ m. m.0.to) i in
+    (s.round, ap (λ m. m.0.threads) i, ap (λ m. m.0.standing) i, (ap (λ m. m.0.claim) i, omega arith))
 
 pub new-post-requires-clause-leader : goal.new-post-requires-clause-leader
 new-post-requires-clause-leader g c = c.join.ensures.leader ∙ ap (λ m. m.0.leader) c.start.ensures.outside

@@ -2,7 +2,7 @@
 use Rattle.std.proofs.Common.{◌+◌, ◌*◌, ◌≤◌, length, vec_capacity}
 use Rattle.std.specs.List.{AllZip}
 use Rattle.spindle.specs.PieceRuns.{items_before}
-use Rattle.spindle.proofs.pieces.trays.Trays.gather.Given as goal
+use Rattle.spindle.proofs.pieces.trays.Trays.move_outputs.Given as goal
 
 abbrev pub invariant-loop-thread : goal.invariant-loop-thread
 invariant-loop-thread g l =

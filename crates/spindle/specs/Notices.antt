@@ -1,0 +1,28 @@
+-- What a thread's account at the ledger gains by the notices that it reads and gives.
+use Rattle.std.specs.Prelude.{◌≡◌, ◌⊎◌, ℕ}
+use Rattle.spindle_parts.specs.declared.requests.plays.Account.{Account}
+use Rattle.spindle_parts.specs.LedgerSteps.{loading, announcing}
+
+-- the word that says that the helpers end
+abbrev pub exit_word : ℕ
+exit_word = 8
+
+-- the word that says that idle threads rest
+abbrev pub rest_word : ℕ
+rest_word = 16
+
+-- one load of a notice, which found this
+abbrev pub Read : (word found : ℕ) → (old new : Account) → Type 0
+Read word found old new = new ≡ loading word found old
+
+-- one store: the helpers are to end, and nothing else was done at the ledger
+abbrev pub AnnouncedExit : (old new : Account) → Type 0
+AnnouncedExit old new = new ≡ announcing exit_word 1 old
+
+-- one store: idle threads are to rest, and nothing else was done at the ledger
+abbrev pub AnnouncedRest : (old new : Account) → Type 0
+AnnouncedRest old new = new ≡ announcing rest_word 1 old
+
+-- idle threads are to make their turns again: the notice was read as 0, or it was read and then 0 stored
+abbrev pub EndedRest : (old new : Account) → Type 0
+EndedRest old new = Read rest_word 0 old new ⊎ (new ≡ announcing rest_word 0 (loading rest_word 1 old))

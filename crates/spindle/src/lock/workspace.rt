@@ -1,0 +1,52 @@
+//! What the threads of a lock share that depends on the kind of job: the trays of its pieces, and the child slots.
+//!
+//! A closure's bound can't name a type that keeps a fact about a kind of job, and a workspace keeps such facts. So a leader
+//! knows its workspace as a type L of which only the calls of `Opens<L>` are known.
+ghost use Rattle.std.specs.Prelude.{◌<◌, OnErr, IsErrOf};
+
+use crate::job::Job;
+use crate::job::nest::Nest;
+use crate::job::sealed::HasWorkspace;
+use crate::pieces::trays::Trays;
+use spindle_parts::fault::Fault;
+use std::alloc::Global;
+
+/// What the threads of a lock over jobs of kind J share, beside the tables that every lock has.
+#[derive(Drop)]
+pub struct Workspace<J: Job> {
+    slots: <J::Inner as Nest>::Slots,
+    trays: Trays<J>,
+}
+
+/// The kinds of jobs whose locks have a workspace of type L. Each kind of job has one, `Workspace<J>`, which a caller leaves
+/// to the compiler; the trait's calls are the library's own, and nobody else can implement it.
+pub trait Opens<L>: Job + HasWorkspace<L> {
+    /// The workspace of a lock of so many threads.
+    fn open(alloc: Global, threads: usize) -> Result<L, Fault>
+        requires { 0 < threads }
+        ensures { OnErr result (IsErrOf result Fault.Memory) };
+
+    /// The slots for the locks that its jobs open.
+    fn slots(workspace: &L) -> &<Self::Inner as Nest>::Slots;
+
+    /// The trays of its pieces.
+    fn trays(workspace: &L) -> &Trays<Self>;
+}
+
+impl<J: Job> HasWorkspace<Workspace<J>> for J {}
+
+impl<J: Job> Opens<Workspace<J>> for J {
+    fn open(alloc: Global, threads: usize) -> Result<Workspace<J>, Fault> {
+        let slots = <J::Inner as Nest>::make(alloc, threads)?;
+        let trays = Trays::new(alloc, threads)?;
+        Ok(Workspace { slots, trays })
+    }
+
+    fn slots(workspace: &Workspace<J>) -> &<J::Inner as Nest>::Slots {
+        &workspace.slots
+    }
+
+    fn trays(workspace: &Workspace<J>) -> &Trays<J> {
+        &workspace.trays
+    }
+}
