@@ -16,6 +16,7 @@ use std::sync::Wait;
 use std::thread::Threads;
 
 /// A piece of no items.
+#[derive(Drop)]
 struct Empty {
     number: u64,
 }
