@@ -218,10 +218,6 @@ round_published {N = N} m w q n b inside_q a = subst (λ (u : View N). AtWork n 
 pub claims_again : {N : Type 0} (v w : View N) → MayClaim v → Onward v w → SeesAsBefore v w → w.to ≤ w.from → w.claim ≡ None → MayClaim w
 claims_again v w may on same empty idle = ((may.0.0, on.standing ∙ may.0.1, idle, empty), (may.1.0, on.number ∙ may.1.1), same ∙ may.2)
 
--- and so after a claim from its own range or the remainder, whose job is finished
-pub claims_on : {N : Type 0} (v u w : View N) → MayClaim v → Onward v u × SeesAsBefore v u × SharesAsBefore v u → Onward u w × SeesAsBefore u w → SharesAsBefore u w × (w.claim ≡ None) → MayClaim w
-claims_on v u w may claim job done = claims_again v w may (onward_then v u w claim.0 job.0) (job.1 ∙ claim.1) (let a = claim.2.0 in let b = claim.2.1 in let c = done.0.0 in let d = done.0.1 in let le = may.0.3 in omega arith) done.1
-
 -- the published word tells a member the number
 pub number_learned : {S N : Type 0} (m w : Me S (View N)) (q found : ℕ) → m.0.standing ≡ Inside q → w ≡ (learning found m.0, m.1) → found ≢ 0
     → AtWork (found % high_half) (nat_lt most_jobs found) w.0 × (found ≤ most_jobs → w.0.known.seen_stop ≡ false) × (w.0.claim ≡ m.0.claim) × SharesAsBefore m.0 w.0 × (published_of w.0.trail ≡ published_of m.0.trail)

@@ -1,5 +1,5 @@
 -- What a party's work in a round keeps of its seat.
-use Rattle.std.specs.Prelude.{◌≡◌, ℕ, ◌≤◌, List, None, false}
+use Rattle.std.specs.Prelude.{◌≡◌, ℕ, List, None, false}
 use Rattle.atomic_table.specs.Table.{Me}
 use Rattle.atomic_table.specs.declared.shared.Seat.{Seat}
 use Rattle.spindle_rounds.specs.declared.round.Round.{Round}

@@ -1,5 +1,5 @@
 -- What a party takes numbers from, and what a claim from there leaves it.
-use Rattle.std.specs.Prelude.{◌≡◌, ℕ, ◌<◌, ◌≤◌, List, Option, Some, None}
+use Rattle.std.specs.Prelude.{◌≡◌, ℕ, ◌<◌, ◌≤◌, Option, Some, None}
 use Rattle.atomic_table.specs.Table.{Me}
 use Rattle.spindle_rounds.specs.declared.round.claim.Claim.{Claim}
 use Rattle.spindle_rounds.specs.declared.round.claim.Claim.TheVariants as claim

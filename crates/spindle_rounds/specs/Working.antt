@@ -1,10 +1,10 @@
 -- What a thread's work in a round keeps of what its seat knows.
-use Rattle.std.specs.Prelude.{◌≡◌, ℕ, ◌+◌, ◌<◌, ◌≤◌, ◌∷◌, Bool, false, None}
+use Rattle.std.specs.Prelude.{◌≡◌, ℕ, ◌+◌, ◌≤◌, ◌∷◌, Bool, false, None}
 use Rattle.spindle_rounds.specs.declared.round_table.view.View.{View}
 use Rattle.spindle_rounds.specs.declared.round_table.view.Standing.TheVariants.{Inside}
-use Rattle.spindle_rounds.specs.RoundRule.{IsListed, Showed}
+use Rattle.spindle_rounds.specs.RoundRule.{Showed}
 use Rattle.spindle_rounds.specs.RoundSteps.{round_of}
-use Rattle.spindle_rounds.specs.RoundViews.{AtWork, Onward, published_of}
+use Rattle.spindle_rounds.specs.RoundViews.{AtWork, published_of}
 
 -- the seat is at work in a round of n jobs, and has seen no stop of a round that can't stop
 abbrev pub OnTask : {N : Type 0} → ℕ → Bool → View N → Type 0
@@ -13,14 +13,6 @@ OnTask n may_stop v = AtWork n may_stop v × (may_stop ≡ false → v.known.see
 -- it has nothing to finish, and no number left in its share
 abbrev pub IsIdle : {N : Type 0} → View N → Type 0
 IsIdle v = (v.claim ≡ None) × (v.to ≤ v.from)
-
--- it has worked on, and may claim again
-abbrev pub Worked : {N : Type 0} → ℕ → Bool → View N → View N → Type 0
-Worked n may_stop v w = Onward v w × OnTask n may_stop w × IsIdle w
-
--- it has read all ranges as empty
-abbrev pub HasSearched : {N : Type 0} → View N → Type 0
-HasSearched v = (i : ℕ) → i < v.threads → IsListed i v.known.emptied
 
 -- one round more was published, of n jobs, and it has ended
 abbrev pub PlayedRound : {N : Type 0} → ℕ → View N → View N → Type 0

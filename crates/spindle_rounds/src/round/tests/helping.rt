@@ -5,15 +5,17 @@ ghost use Rattle.spindle_rounds.specs.Parties.{IsOut, IsIn};
 use super::turns::Player;
 use crate::barrier::Barrier;
 use crate::barrier::waiting::ExitStatus;
+use crate::round::task::Task;
+use crate::round_table::Seat;
 use crate::round_table::slots::Bare;
-use crate::round_table::{HIGH, Seat};
 use std::sync::Wait;
 use std::thread;
+use std::thread::Threads;
 
 impl<'a> Player<'a> {
-    /// One turn of a member, if a round is published: it arrives once nothing is left for it, and then waits, or
+    /// A member's part of the round, if one is published: it arrives once nothing is left for it, and then waits, or
     /// leaves where `leaves` is positive.
-    fn attend<'b, R: Wait>(
+    fn attend<'b, R: Threads + Wait + Sync>(
         &self,
         rt: &R,
         mut member: Barrier<'b, Bare>,
@@ -28,9 +30,7 @@ impl<'a> Player<'a> {
             thread::yield_now();
             return Ok(member);
         }
-        if self.turn(rt, member.seat(), found >= HIGH) {
-            return Ok(member);
-        }
+        self.work(rt, member.seat(), Task::new(found));
         match member.wait_and_clear_while(rt, || leaves) {
             ExitStatus::Exit(seat) => Err(seat),
             ExitStatus::Remain(member) => Ok(member),
@@ -38,7 +38,13 @@ impl<'a> Player<'a> {
     }
 
     /// From a join to a leave, or to an exit after so many turns.
-    fn visit<R: Wait>(&self, rt: &R, member: Barrier<Bare>, turns: u64, leaves: u64) -> Seat<Bare>
+    fn visit<R: Threads + Wait + Sync>(
+        &self,
+        rt: &R,
+        member: Barrier<Bare>,
+        turns: u64,
+        leaves: u64,
+    ) -> Seat<Bare>
         requires helper { IsIn self.now.round.now false member }
         ensures goes { IsOut self.now.round.now false result }
     {
@@ -53,7 +59,7 @@ impl<'a> Player<'a> {
     }
 
     /// Visits until the rounds are over.
-    pub fn help<R: Wait>(&self, rt: &R, mut seat: Seat<Bare>)
+    pub fn help<R: Threads + Wait + Sync>(&self, rt: &R, mut seat: Seat<Bare>)
         requires helper { IsOut self.now.round.now false seat }
     {
         for visit in 0..u64::MAX {

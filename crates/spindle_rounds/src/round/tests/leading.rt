@@ -1,16 +1,19 @@
 //! The leader's part of rounds that threads play at once: it publishes, works, and compares the counts after each round.
 ghost use Rattle.std.specs.Prelude.{◌≡◌, ◌≤◌, true, IfSome};
-ghost use Rattle.spindle_rounds.specs.RoundConditions.{MayFill, MaySee};
+ghost use Rattle.spindle_rounds.specs.RoundConditions.{MayFill};
 ghost use Rattle.spindle_rounds.specs.RoundViews.{Onward, SharesAsBefore};
 ghost use Rattle.spindle_rounds.specs.Parties.{IsOut, IsIn};
 ghost use Rattle.spindle_rounds.specs.Seating.{IsSeatAt, IsSameSeat};
+ghost use Rattle.spindle_rounds.specs.Working.{OnTask};
 
 use super::play::word;
 use super::turns::Player;
 use crate::barrier::Barrier;
+use crate::round::task::Task;
 use crate::round_table::slots::Bare;
 use crate::round_table::{FINISHED, HIGH, STOPPED, Seat};
 use std::sync::Wait;
+use std::thread::Threads;
 
 /// How often the leader comes and goes, with two rounds each time.
 const VISITS: u64 = 1000;
@@ -27,8 +30,7 @@ impl<'a> Player<'a> {
             × (seat.new.me.0.threads ≡ seat.old.me.0.threads) }
         ensures same { SharesAsBefore seat.old.me.0 seat.new.me.0
             × (seat.new.me.0.claim ≡ seat.old.me.0.claim) }
-        ensures knows { MaySee seat.new.me.0 }
-        ensures may { seat.new.me.0.known.may_stop ≡ may_stop }
+        ensures task { OnTask jobs may_stop seat.new.me.0 }
     {
         self.round.fill(seat, jobs);
         if may_stop {
@@ -73,7 +75,13 @@ impl<'a> Player<'a> {
     }
 
     /// Plays a round of so many jobs.
-    fn play<R: Wait>(&self, rt: &R, leader: &mut Barrier<Bare>, jobs: u64, may_stop: bool)
+    fn play<R: Threads + Wait + Sync>(
+        &self,
+        rt: &R,
+        leader: &mut Barrier<Bare>,
+        jobs: u64,
+        may_stop: bool,
+    )
         requires leader { IsIn self.now.round.now true leader.old }
         requires leads { MayFill leader.old.seat.me.0 }
         requires counted { (2 ≤ jobs) × (jobs ≤ 4294967295) }
@@ -81,14 +89,19 @@ impl<'a> Player<'a> {
         ensures leads { MayFill leader.new.seat.me.0 }
     {
         self.publish(leader.seat(), jobs, may_stop);
-        self.work(rt, leader.seat(), may_stop);
+        self.work(rt, leader.seat(), Task { jobs, may_stop });
         leader.wait(rt);
         let right = self.is_counted_once(leader.seat(), jobs);
         self.counts.end_round(right);
     }
 
     /// The leader joins, plays two rounds, the second of which may stop, and exits.
-    fn play_two<R: Wait>(&self, rt: &R, seat: Seat<Bare>, jobs: u64) -> Option<Seat<Bare>>
+    fn play_two<R: Threads + Wait + Sync>(
+        &self,
+        rt: &R,
+        seat: Seat<Bare>,
+        jobs: u64,
+    ) -> Option<Seat<Bare>>
         requires leader { IsOut self.now.round.now true seat }
         requires counted { (2 ≤ jobs) × (jobs ≤ 4294967294) }
         ensures leader { IfSome result (λ s. IsOut self.now.round.now true s) }
@@ -102,7 +115,7 @@ impl<'a> Player<'a> {
     }
 
     /// All rounds.
-    pub fn lead<R: Wait>(&self, rt: &R, mut seat: Seat<Bare>)
+    pub fn lead<R: Threads + Wait + Sync>(&self, rt: &R, mut seat: Seat<Bare>)
         requires leader { IsOut self.now.round.now true seat }
     {
         for visit in 0..VISITS {

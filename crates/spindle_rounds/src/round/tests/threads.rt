@@ -22,7 +22,7 @@ struct Party<'a> {
     ghost out: { IsOut player.round.now leads seat },
 }
 
-fn take_part<R: Wait>(rt: &R, party: Party) {
+fn take_part<R: Threads + Wait + Sync>(rt: &R, party: Party) {
     let player = party.player;
     let seat = party.seat;
     if party.leads {

@@ -1,5 +1,4 @@
 -- The number is finished, and then the share is spent.
-use Rattle.std.proofs.Common.{arith}
 use Rattle.spindle_rounds.proofs.PartyWork.{went_first, went_then, went_more}
 use Rattle.spindle_rounds.proofs.round.party.Party.run.Goals as goal
 

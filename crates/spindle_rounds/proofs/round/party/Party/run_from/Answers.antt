@@ -1,5 +1,5 @@
 -- The party claims from the source, and has worked on after each claim.
-use Rattle.std.proofs.Common.{◌∙◌, ap, sym, subst}
+use Rattle.std.proofs.Common.{◌∙◌, sym, subst}
 use Rattle.spindle_rounds.proofs.PartyWork.{went_first, went_then, went_more, still_idle, claims_at}
 use Rattle.spindle_rounds.proofs.round.party.Party.run_from.Goals as goal
 

@@ -1,5 +1,5 @@
 -- A steal leaves its number to finish and its share to begin, and the slot of the number in the seat's hands.
-use Rattle.std.proofs.Common.{◌≡◌, ℕ, sym, ap, ◌∙◌, subst, arith}
+use Rattle.std.proofs.Common.{◌≡◌, ℕ, sym, ap, subst, arith}
 use Rattle.atomic_table.specs.Table.{Me}
 use Rattle.spindle_rounds.specs.declared.round.claim.Steal.{Steal}
 use Rattle.spindle_rounds.specs.declared.round.claim.Steal.TheVariants as steal

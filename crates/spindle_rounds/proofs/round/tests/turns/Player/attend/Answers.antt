@@ -1,7 +1,6 @@
 -- Whoever learns a number may look for its jobs; where none is published, the member stays as it is.
-use Rattle.std.proofs.Common.{◌≢◌, arith, ◌∙◌, ap, sym, subst}
-use Rattle.spindle_rounds.specs.RoundConditions.{HasSense, HasPart, IsFreeInside, MaySee}
-use Rattle.spindle_rounds.proofs.RoundClients.{number_learned}
+use Rattle.std.proofs.Common.{arith, ◌∙◌, ap, sym, subst}
+use Rattle.spindle_rounds.specs.RoundConditions.{HasSense, HasPart}
 use Rattle.spindle_rounds.proofs.round.tests.turns.Player.attend.Goals as goal
 
 pub returns-then-found-eq0-clause-stays : goal.returns-then-found-eq0-clause-stays
@@ -13,8 +12,3 @@ returns-then-found-eq0-clause-stays g c = let v = c.seat.ensures.value in let e 
       ap (λ z. z.0.leader) k ∙ (ap (λ s. s.me.0.leader) v ∙ r.3),
       (f.0, st ∙ f.1, ap (λ z. z.0.claim) k ∙ (ap (λ s. s.me.0.claim) v ∙ f.2), omega arith),
     )
-
-pub turn-requires-clause-knows : goal.turn-requires-clause-knows
-turn-requires-clause-knows g c = let found = c.published-found.result in let other = c.if-found-eq0.false in let some : found ≢ 0 = (λ z. absurd (omega arith)) in
-    let free = subst (λ s. IsFreeInside s.me.0) (sym c.seat.ensures.value) c.requires.helper.4 in let n = number_learned c.seat.result.now.me c.published-found.new.seat.me free.0 found free.1 c.published-found.ensures.step some in
-    subst (λ s. MaySee s.me.0) (sym c.seat-2.ensures.value) (n.0.inside, (_, n.0.number))
