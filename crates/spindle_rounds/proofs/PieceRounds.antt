@@ -46,12 +46,12 @@ module _ {P A : Type 0} (answers : P → A → Type 0) where
       now_published w same step = let r = filled_round (pieces answers) t n h.0 g.0 f.0 stands may_fill.1 filled stored in
           let p = round_published f w h.0 n false r.4 step in record {
             hand = ap (λ (z : HandOf). z.1) step ∙ (same ∙ ap (λ (z : HandOf). z.1) gave);
-            board = ap (λ (z : HandOf). z.0.board) step ∙ (ap (λ (z : View P). z.board) stored.2 ∙ board);
+            board = ap (λ (z : HandOf). z.0.board) step ∙ (ap (λ (z : View P). z.board) stored.0 ∙ board);
             task = (p.0, λ _. p.1);
             seat = (
               ap (λ (z : HandOf). z.0.standing) step ∙ (r.4 ∙ sym h.1),
-              ap (λ (z : HandOf). z.0.leader) step ∙ (ap (λ (z : View P). z.leader) stored.2 ∙ ap (λ (z : HandOf). z.0.leader) gave),
-              ap (λ (z : HandOf). z.0.threads) step ∙ (ap (λ (z : View P). z.threads) stored.2 ∙ ap (λ (z : HandOf). z.0.threads) gave),
+              ap (λ (z : HandOf). z.0.leader) step ∙ (ap (λ (z : View P). z.leader) stored.0 ∙ ap (λ (z : HandOf). z.0.leader) gave),
+              ap (λ (z : HandOf). z.0.threads) step ∙ (ap (λ (z : View P). z.threads) stored.0 ∙ ap (λ (z : HandOf). z.0.threads) gave),
             );
             same = (
               (p.3.0 ∙ (r.3.0 ∙ ap (λ (z : HandOf). z.0.from) gave), p.3.1 ∙ (r.3.1 ∙ ap (λ (z : HandOf). z.0.to) gave)),
