@@ -16,7 +16,7 @@ returns-clause-out g c = let out = c.args.self.out in let e = c.new_seat.ensures
 pub returns-clause-own : goal.returns-clause-own
 returns-clause-own g c = let e = c.live-round.ensures.seat in let j = c.join-post.ensures.seat in let n = c.give.ensures.seat.1 in
     let t = c.take_number-thread.ensures.same in record {
-  round = (e.0 ∙ j.0, e.1 ∙ j.1);
-  numbers = record { table = n.table ∙ t.table; id = n.id ∙ t.id; slots = n.slots ∙ t.slots };
-  ledger = c.new_seat.ensures.old.0;
-}
+      round = (e.0 ∙ j.0, e.1 ∙ j.1);
+      numbers = record { table = n.table ∙ t.table; id = n.id ∙ t.id; slots = n.slots ∙ t.slots };
+      ledger = c.new_seat.ensures.old.0;
+    }
