@@ -20,7 +20,8 @@ in_run n run a j rest h k =
     let xs = counted 0 n in
     let c = length-counted 0 n in
     let l : length (take run (drop a xs)) ≡ run = length-take-le run (drop a xs) (omega (arith, length-drop a xs, c)) in
-    let v = get_or_append_left (take run (drop a xs)) rest 0 j (omega (arith, l)) ∙ get_or-take run (drop a xs) j 0 h ∙ get_or-drop a xs j 0 ∙ get_or-counted 0 n (a + j) (omega arith) in
+    let v = get_or_append_left (take run (drop a xs)) rest 0 j (omega (arith, l)) ∙ get_or-take run (drop a xs) j 0 h ∙ get_or-drop a xs j 0
+    ∙ get_or-counted 0 n (a + j) (omega arith) in
     slice_get-get_or (take run (drop a xs) ++ rest) j 0 (omega (arith, l, length-append (take run (drop a xs)) rest)) ∙ ap (λ m. Some m) (omega (arith, v))
 
 -- one number behind a run
@@ -33,15 +34,19 @@ behind_run n run a b k h =
     let l : length own ≡ run = length-take-le run (drop a xs) (omega (arith, length-drop a xs, c)) in
     let m : length last ≡ 1 = length-take-le 1 (drop b xs) (omega (arith, length-drop b xs, c)) in
     let z : run - run ≡ 0 = omega arith in
-    let v = get_or-append_right own last run run 0 l (omega arith) ∙ ap (λ i. get_or last i 0) z ∙ get_or-take 1 (drop b xs) 0 0 (omega arith) ∙ get_or-drop b xs 0 0 ∙ get_or-counted 0 n (b + 0) (omega arith) in
+    let v = get_or-append_right own last run run 0 l (omega arith) ∙ ap (λ i. get_or last i 0) z ∙ get_or-take 1 (drop b xs) 0 0 (omega arith)
+    ∙ get_or-drop b xs 0 0 ∙ get_or-counted 0 n (b + 0) (omega arith) in
     slice_get-get_or (own ++ last) run 0 (omega (arith, l, m, length-append own last)) ∙ ap (λ i. Some i) (omega (arith, v))
 
 -- a number below the runs stands in its thread's run
-pub dealt_own : (n threads thread j : ℕ) → j < n / threads → n / threads * thread + n / threads ≤ n → slice_get (dealt (counted 0 n) threads thread) j ≡ Some (n / threads * thread + j)
-dealt_own n threads thread j h k = rw (length-counted 0 n) (in_run n (n / threads) (n / threads * thread) j (take 1 (drop (n / threads * threads + thread) (counted 0 n))) h k)
+pub dealt_own : (n threads thread j : ℕ) → j < n / threads → n / threads * thread + n / threads ≤ n → slice_get (dealt (counted 0 n) threads thread) j ≡ Some
+    (n / threads * thread + j)
+dealt_own n threads thread j h k = rw (length-counted 0 n) (in_run n (n / threads) (n / threads * thread) j
+    (take 1 (drop (n / threads * threads + thread) (counted 0 n))) h k)
 
 -- a left-over number stands behind its thread's run
-pub dealt_rest : (n threads thread : ℕ) → n / threads * thread + n / threads ≤ n → n / threads * threads + thread < n → slice_get (dealt (counted 0 n) threads thread) (n / threads) ≡ Some (n / threads * threads + thread)
+pub dealt_rest : (n threads thread : ℕ) → n / threads * thread + n / threads ≤ n → n / threads * threads + thread < n → slice_get
+    (dealt (counted 0 n) threads thread) (n / threads) ≡ Some (n / threads * threads + thread)
 dealt_rest n threads thread k h = rw (length-counted 0 n) (behind_run n (n / threads) (n / threads * thread) (n / threads * threads + thread) k h)
 
 -- the last run ends where the left-over numbers begin
@@ -54,7 +59,8 @@ no_runs zero threads number e h = absurd (omega (arith, h))
 no_runs (suc each) threads number e h = omega arith
 
 -- the address of a number below the left-over ones
-pub own_address : (number n threads : ℕ) → 0 < threads → number < n / threads * threads → slice_get (dealt (counted 0 n) threads (number / (n / threads))) (number % (n / threads)) ≡ Some number
+pub own_address : (number n threads : ℕ) → 0 < threads → number < n / threads * threads → slice_get (dealt (counted 0 n) threads (number / (n / threads)))
+    (number % (n / threads)) ≡ Some number
 own_address number n threads h k =
     let each = n / threads in
     let some : 0 < each = elim (cases_lt 0 each) [ inl e ↦ e | inr e ↦ no_runs each threads number e k ] in
@@ -62,7 +68,8 @@ own_address number n threads h k =
     dealt_own n threads (number / each) (number % each) (omega arith) (run_ends n threads (number / each) h thread) ∙ ap (λ m. Some m) (omega arith)
 
 -- the address of a left-over number
-pub rest_address : (number n threads : ℕ) → 0 < threads → n / threads * threads ≤ number → number < n → slice_get (dealt (counted 0 n) threads (number - n / threads * threads)) (n / threads) ≡ Some number
+pub rest_address : (number n threads : ℕ) → 0 < threads → n / threads * threads ≤ number → number < n → slice_get
+    (dealt (counted 0 n) threads (number - n / threads * threads)) (n / threads) ≡ Some number
 rest_address number n threads h k l =
     let thread = number - n / threads * threads in
     dealt_rest n threads thread (run_ends n threads thread h (omega arith)) (omega arith) ∙ ap (λ m. Some m) (omega arith)
@@ -79,9 +86,17 @@ left_over_length n a =
     length-take 1 (drop a xs) ∙ ap (min 1) (length-drop a xs ∙ ap (λ m. m - a) (length-counted 0 n))
 
 -- how many a thread is dealt
-hand_length : (n threads thread : ℕ) → thread < threads → length (dealt (counted 0 n) threads thread) ≡ n / threads + min 1 (n - (n / threads * threads + thread))
+hand_length : (n threads thread : ℕ) → thread < threads → length (dealt (counted 0 n) threads thread) ≡ n / threads + min 1
+    (n - (n / threads * threads + thread))
 hand_length n threads thread h =
-    rw (length-counted 0 n, length-append (take (n / threads) (drop (n / threads * thread) (counted 0 n))) (take 1 (drop (n / threads * threads + thread) (counted 0 n))), own_run_length n threads thread h, left_over_length n (n / threads * threads + thread)) refl
+    rw (
+      length-counted 0 n,
+      length-append (take (n / threads) (drop (n / threads * thread) (counted 0 n)))
+          (take 1 (drop (n / threads * threads + thread) (counted 0 n))),
+      own_run_length n threads thread h,
+      left_over_length n
+          (n / threads * threads + thread),
+    ) refl
 
 -- a thread for which a number is left over is dealt one more
 pub longer_hand : (n threads thread : ℕ) → thread < threads → thread < n % threads → n / threads + 1 ≡ length (dealt (counted 0 n) threads thread)
@@ -92,6 +107,7 @@ pub shorter_hand : (n threads thread : ℕ) → thread < threads → n % threads
 shorter_hand n threads thread h k = omega (arith, hand_length n threads thread h, div-add-mod' n threads)
 
 -- behind the run there is one place at most, that of a left-over number
-pub behind : (n threads thread place : ℕ) → thread < threads → place < length (dealt (counted 0 n) threads thread) → n / threads ≤ place → (place ≡ n / threads) × (n / threads * threads + thread < n)
+pub behind : (n threads thread place : ℕ) → thread < threads → place < length (dealt (counted 0 n) threads thread) → n / threads ≤ place → (place ≡ n / threads)
+    × (n / threads * threads + thread < n)
 behind n threads thread place h k l =
     let c = hand_length n threads thread h in (omega (arith, c, k, l), omega (arith, c, k, l))

@@ -13,11 +13,13 @@ and_true true = refl
 and_true false = refl
 
 -- one more place compared
-pub pointwise_snoc : {A : Type 0} (E : A → A → Bool) (xs ys : List A) (x y : A) → length xs ≡ length ys → pointwise E (xs ++ x ∷ []) (ys ++ y ∷ []) ≡ pointwise E xs ys && E x y
+pub pointwise_snoc : {A : Type 0} (E : A → A → Bool) (xs ys : List A) (x y : A) → length xs ≡ length ys → pointwise E (xs ++ x ∷ [])
+    (ys ++ y ∷ []) ≡ pointwise E xs ys && E x y
 pointwise_snoc E [] [] x y e = and_true (E x y)
 pointwise_snoc E [] (b ∷ ys) x y e = absurd (omega (arith, e))
 pointwise_snoc E (a ∷ xs) [] x y e = absurd (omega (arith, e))
-pointwise_snoc E (a ∷ xs) (b ∷ ys) x y e = ap (λ t. E a b && t) (pointwise_snoc E xs ys x y (omega (arith, e))) ∙ sym (and_assoc (E a b) (pointwise E xs ys) (E x y))
+pointwise_snoc E (a ∷ xs) (b ∷ ys) x y e = ap (λ t. E a b && t) (pointwise_snoc E xs ys x y (omega (arith, e))) ∙ sym
+    (and_assoc (E a b) (pointwise E xs ys) (E x y))
 
 -- a part of the sum is at most the sum
 pub total_part : (i : ℕ) (ls : List ℕ) → total (take i ls) ≤ total ls
@@ -26,7 +28,8 @@ total_part (suc i) [] = omega arith
 total_part (suc i) (l ∷ ls) = omega (arith, total_part i ls)
 
 -- a range within a range
-pub slice_range-slice_range : {A : Type 0} (xs : List A) (f t a b : ℕ) → a ≤ b → f + b ≤ t → slice_range (slice_range xs f t) a b ≡ slice_range xs (f + a) (f + b)
+pub slice_range-slice_range : {A : Type 0} (xs : List A) (f t a b : ℕ) → a ≤ b → f + b ≤ t → slice_range (slice_range xs f t) a b ≡ slice_range xs (f + a)
+    (f + b)
 slice_range-slice_range xs f t a b h k =
     let m = t - f - a in
     let e : t - f ≡ a + m = omega arith in

@@ -11,7 +11,8 @@ start_next : (len pieces number : ℕ) → piece_start len pieces number ≤ pie
 start_next len pieces number = omega arith
 
 -- the items before the next piece are those before this one and this one's
-pub items_more : {A : Type 0} (items : List A) (pieces number : ℕ) → items_before items pieces (number + 1) ≡ items_before items pieces number ++ piece_at items pieces number
+pub items_more : {A : Type 0} (items : List A) (pieces number : ℕ) → items_before items pieces
+    (number + 1) ≡ items_before items pieces number ++ piece_at items pieces number
 items_more items pieces number =
     let from = piece_start (length items) pieces number in
     let to = piece_start (length items) pieces (number + 1) in
@@ -19,8 +20,15 @@ items_more items pieces number =
     ap (λ n. take n items) e ∙ take-add from (to - from) items
 
 -- where outputs answer the items before a piece, and there is room for all, there is room for the piece's
-pub next_fits : {A B : Type 0} (R : A → B → Type 0) (items : List A) (pieces number : ℕ) (outputs : List B) → number < pieces → AllZip R (items_before items pieces number) outputs → length outputs + length (piece_at items pieces number) ≤ length items
+pub next_fits : {A B : Type 0} (R : A → B → Type 0) (items : List A) (pieces number : ℕ) (outputs : List B) → number < pieces → AllZip R
+    (items_before items pieces number) outputs → length outputs + length (piece_at items pieces number) ≤ length items
 next_fits R items pieces number outputs h z =
     let more = items_before items pieces (number + 1) in
     let whole : length more ≤ length items = omega (arith, length-take (piece_start (length items) pieces (number + 1)) items) in
-    omega (arith, AllZip-long R (items_before items pieces number) outputs z, length-append (items_before items pieces number) (piece_at items pieces number), ap length (items_more items pieces number), whole)
+    omega (
+      arith,
+      AllZip-long R (items_before items pieces number) outputs z,
+      length-append (items_before items pieces number) (piece_at items pieces number),
+      ap length (items_more items pieces number),
+      whole,
+    )

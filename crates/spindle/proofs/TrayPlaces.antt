@@ -12,7 +12,8 @@ use Rattle.std.proofs.Math.Seq.{map-set_same}
 use Rattle.spindle_parts.proofs.Lists.{all_zip_append}
 
 -- what stands at a place
-pub at_place : {A X : Type 0} (f : A → Option X) (xs : List A) (at : ℕ) (s : A) → at < length xs → s ≡ get_or xs at s → option_and_then f (slice_get xs at) ≡ f s
+pub at_place : {A X : Type 0} (f : A → Option X) (xs : List A) (at : ℕ) (s : A) → at < length xs → s ≡ get_or xs at s → option_and_then f
+    (slice_get xs at) ≡ f s
 at_place f xs at s h e = ap (option_and_then f) (slice_get-get_or xs at s h ∙ ap (λ x. Some x) (sym e))
 
 -- what stands at a place that was written
@@ -41,10 +42,12 @@ pub some_is : {A : Type 0} {x y : A} → Some x ≡ Some y → x ≡ y
 some_is e = cc
 
 -- a place that is written keeps its number, so the first places have the numbers that they had
-pub numbers_stay : {A : Type 0} (f : A → ℕ) (xs : List A) (own : List ℕ) (at : ℕ) (t d : A) → f t ≡ f (get_or xs at d) → take (length own) (map f xs) ≡ own → take (length own) (map f (slice_set xs at t)) ≡ own
+pub numbers_stay : {A : Type 0} (f : A → ℕ) (xs : List A) (own : List ℕ) (at : ℕ) (t d : A) → f t ≡ f (get_or xs at d) → take (length own) (map f xs) ≡ own
+    → take (length own) (map f (slice_set xs at t)) ≡ own
 numbers_stay f xs own at t d e h = ap (take (length own)) (map-set_same f xs at t d e) ∙ h
 
-numbers_await : {A B : Type 0} (items : List A) (pieces : ℕ) (own : List ℕ) (slots : List (PlaceView A B)) → AllZip (λ number slot. Awaits (piece_at items pieces number) number slot) own slots → map (λ slot. slot.number) slots ≡ own
+numbers_await : {A B : Type 0} (items : List A) (pieces : ℕ) (own : List ℕ) (slots : List (PlaceView A B)) → AllZip
+    (λ number slot. Awaits (piece_at items pieces number) number slot) own slots → map (λ slot. slot.number) slots ≡ own
 numbers_await items pieces [] [] z = refl
 numbers_await items pieces [] (s ∷ slots) z = absurd z
 numbers_await items pieces (n ∷ own) [] z = absurd z
@@ -53,17 +56,22 @@ numbers_await items pieces (n ∷ own) (s ∷ slots) z =
     λ i. z.0.0 i ∷ rest i
 
 -- where the pieces of these numbers wait, the places have the numbers
-pub await_numbers : {A B : Type 0} (items : List A) (pieces : ℕ) (own : List ℕ) (places : List (PlaceView A B)) → AwaitsAll items pieces own places → take (length own) (map (λ slot. slot.number) places) ≡ own
+pub await_numbers : {A B : Type 0} (items : List A) (pieces : ℕ) (own : List ℕ) (places : List (PlaceView A B)) → AwaitsAll items pieces own places → take
+    (length own) (map (λ slot. slot.number) places) ≡ own
 await_numbers items pieces own places z =
     take-map (λ slot. slot.number) (length own) places ∙ numbers_await items pieces own (take (length own) places) z
 
 -- one more place is filled
-pub one_more_waits : {A B : Type 0} (R : ℕ → PlaceView A B → Type 0) (own : List ℕ) (places : List (PlaceView A B)) (k n : ℕ) (t : PlaceView A B) → slice_get own k ≡ Some n → k < length own → k < length places → AllZip R (take k own) (take k places) → R n t → AllZip R (take (k + 1) own) (take (k + 1) (slice_set places k t))
+pub one_more_waits : {A B : Type 0} (R : ℕ → PlaceView A B → Type 0) (own : List ℕ) (places : List (PlaceView A B)) (k n : ℕ) (t : PlaceView A B)
+    → slice_get own k ≡ Some n → k < length own → k < length places → AllZip R (take k own) (take k places) → R n t → AllZip R (take (k + 1) own)
+    (take (k + 1) (slice_set places k t))
 one_more_waits R own places k n t e h h' z r =
     let here : get_or own k 0 ≡ n = sym (unwrap_or-slice_get own k 0) ∙ ap (λ found. unwrap_or found 0) e in
     rw (take_more own k 0 h, here, take_more_set places k t h') (all_zip_append R (take k own) (take k places) (n ∷ []) (t ∷ []) z (r, tt))
 
 -- one more place holds its piece, run
-pub one_more_done : {A B : Type 0} (items : List A) (pieces number from k : ℕ) (places : List (PlaceView A B)) → HoldsDone items pieces number from k places → IsDoneAt items pieces (number + k) (from + k) places → HoldsDone items pieces number from (k + 1) places
+pub one_more_done : {A B : Type 0} (items : List A) (pieces number from k : ℕ) (places : List (PlaceView A B)) → HoldsDone items pieces number from k places
+    → IsDoneAt items pieces (number + k) (from + k) places → HoldsDone items pieces number from (k + 1) places
 one_more_done items pieces number from k places before here i lt =
-    ⊎_elim (before i) (λ (le : k ≤ i). let e : k ≡ i = omega (arith, le, lt) in subst (λ (j : ℕ). IsDoneAt items pieces (number + j) (from + j) places) e here) (cases_lt i k)
+    ⊎_elim (before i) (λ (le : k ≤ i). let e : k ≡ i = omega (arith, le, lt) in
+    subst (λ (j : ℕ). IsDoneAt items pieces (number + j) (from + j) places) e here) (cases_lt i k)

@@ -6,4 +6,5 @@ use Rattle.spindle.specs.Rounds.{items_of}
 
 -- the outputs answer the items of the first n pieces, and there is room for the rest
 abbrev pub HasAnswered : {A B Z : Type 0} → (A → B → Type 0) → List (Piece A) → ℕ → Vec B Z → Type 0
-HasAnswered Meets pieces n outputs = AllZip Meets (items_of (take n pieces)) outputs.items × (vec_len outputs + length (items_of (drop n pieces)) ≤ vec_capacity outputs)
+HasAnswered Meets pieces n outputs = AllZip Meets (items_of (take n pieces)) outputs.items ×
+    (vec_len outputs + length (items_of (drop n pieces)) ≤ vec_capacity outputs)

@@ -50,7 +50,8 @@ abbrev pub Allowed : State → Event → Type 0
 Allowed s (Join p) = ((party s p).status ≡ Out) × (s.closer ≡ None) × (members s.parties < 32767)
 Allowed s (Publish p n) = IsPublishable s p n
 Allowed s (PublishTry p n) = IsPublishable s p n
-Allowed s (Take p some) = (s.published ≢ None) × ((party s p).status ≡ In) × ((now s).seen p ≡ false) × ((k : ℕ) × (some k ≡ true)) × ((k : ℕ) → some k ≡ true → Free s k)
+Allowed s (Take p some) = (s.published ≢ None) × ((party s p).status ≡ In) × ((now s).seen p ≡ false) × ((k : ℕ) × (some k ≡ true)) ×
+    ((k : ℕ) → some k ≡ true → Free s k)
 Allowed s (Begin p k) = ((party s p).status ≡ In) × ((now s).seen p ≡ false) × ((party s p).running ≡ None) × ((party s p).taken k ≡ true)
 Allowed s (Finish p) = (k : ℕ) × ((party s p).running ≡ Some k)
 Allowed s (Stop p) = ((k : ℕ) × ((party s p).running ≡ Some k)) × ((now s).stoppable ≡ true)
@@ -77,7 +78,13 @@ arrived s p ps = record { round = s.round; parties = ps; closer = closer_after s
 
 -- the state with those parties, from which p has exited: where it was the last member, the round ends
 abbrev pub left : State → ℕ → List Party → State
-left s p ps = if members ps == 0 then record { round = s.round + 1; parties = ps; closer = s.closer; published = s.published; rounds = s.rounds } else arrived s p ps
+left s p ps = if members ps == 0 then record {
+  round = s.round + 1;
+  parties = ps;
+  closer = s.closer;
+  published = s.published;
+  rounds = s.rounds;
+} else arrived s p ps
 
 -- the party x, but it stands so
 abbrev pub with_status : Status → Party → Party
@@ -85,7 +92,14 @@ with_status t x = record { status = t; running = x.running; taken = x.taken }
 
 -- n jobs are published, in a round that may be stopped or not
 abbrev pub publish : State → Bool → ℕ → State
-publish s b n = record { round = s.round; parties = s.parties; closer = s.closer; published = Some n; rounds = put s.rounds s.round (record (now s) { jobs = n; stoppable = b }) }
+publish s b n = record {
+  round = s.round;
+  parties = s.parties;
+  closer = s.closer;
+  published = Some n;
+  rounds = put s.rounds s.round
+      (record (now s) { jobs = n; stoppable = b });
+}
 
 -- the state after the event
 abbrev pub after : State → Event → State
@@ -93,8 +107,10 @@ after s (Join p) = change s p (with_status In (party s p))
 after s (Publish p n) = publish s false n
 after s (PublishTry p n) = publish s true n
 after s (Take p some) = change s p (record (party s p) { taken = λ k. (party s p).taken k || some k })
-after s (Begin p k) = change (change_round s (record (now s) { begun = (now s).begun ++ k ∷ [] })) p (record (party s p) { running = Some k; taken = put (party s p).taken k false })
-after s (Finish p) = change (change_round s (record (now s) { finished = (now s).finished ++ ended_by (party s p).running })) p (record (party s p) { running = None })
+after s (Begin p k) = change (change_round s (record (now s) { begun = (now s).begun ++ k ∷ [] })) p
+    (record (party s p) { running = Some k; taken = put (party s p).taken k false })
+after s (Finish p) = change (change_round s (record (now s) { finished = (now s).finished ++ ended_by (party s p).running })) p
+    (record (party s p) { running = None })
 after s (Stop p) = change_round s (record (now s) { stopped = true; seen = put (now s).seen p true })
 after s (See p) = change_round s (record (now s) { seen = put (now s).seen p true })
 after s (PutBack p) = change s p (record (party s p) { taken = no_set })

@@ -33,15 +33,20 @@ use Rattle.spindle_rounds.specs.Passing.{Moved, Stayed, InNext, WentOut, TurnsOn
 module _ {N : Type 0} (v : View N) (q : ℕ) (quiet : Bool) (waits : v.standing ≡ Waiting q quiet) (n : ℕ) where
   -- its own sense isn't in the word: the round goes on
   pub still_waits : (sense : ℕ) → HasSense v.standing sense → n < high_half → sense_of n ≢ sense → looking n v ≡ loading barrier_at n v
-  still_waits sense has small other = let own : sense ≡ (q + 1) % 2 = subst (λ (z : Standing). HasSense z sense) waits has in let r : round_of v.standing ≡ q = ap round_of waits in let k : ℕ = round_of v.standing in
+  still_waits sense has small other = let own : sense ≡ (q + 1) % 2 = subst (λ (z : Standing). HasSense z sense) waits has in
+      let r : round_of v.standing ≡ q = ap round_of waits in let k : ℕ = round_of v.standing in
       let e : n / sense_bit ≡ k % 2 = (let d : n / sense_bit ≢ (q + 1) % 2 = (λ z. other (z ∙ sym own)) in omega arith) in
-      ap (λ (b : Bool). if b then loading barrier_at n v else standing (Inside (k + 1)) (unknown v.leader false) (loading barrier_at n v)) (eq-eqb (n / sense_bit) (k % 2) e)
+      ap (λ (b : Bool). if b then loading barrier_at n v else standing (Inside (k + 1)) (unknown v.leader false) (loading barrier_at n v))
+      (eq-eqb (n / sense_bit) (k % 2) e)
 
   -- it is: the round has ended, and the party is inside the next
-  pub has_ended : (sense : ℕ) → HasSense v.standing sense → sense_of n ≡ sense → looking n v ≡ standing (Inside (round_of v.standing + 1)) (unknown v.leader false) (loading barrier_at n v)
-  has_ended sense has same = let own : sense ≡ (q + 1) % 2 = subst (λ (z : Standing). HasSense z sense) waits has in let r : round_of v.standing ≡ q = ap round_of waits in let k : ℕ = round_of v.standing in
+  pub has_ended : (sense : ℕ) → HasSense v.standing sense → sense_of n ≡ sense → looking n v ≡ standing (Inside (round_of v.standing + 1))
+      (unknown v.leader false) (loading barrier_at n v)
+  has_ended sense has same = let own : sense ≡ (q + 1) % 2 = subst (λ (z : Standing). HasSense z sense) waits has in
+      let r : round_of v.standing ≡ q = ap round_of waits in let k : ℕ = round_of v.standing in
       let e : n / sense_bit ≢ k % 2 = (λ z. let d : n / sense_bit ≡ (q + 1) % 2 = same ∙ own in absurd (omega arith)) in
-      ap (λ (b : Bool). if b then loading barrier_at n v else standing (Inside (k + 1)) (unknown v.leader false) (loading barrier_at n v)) (ne_eqb (n / sense_bit) (k % 2) e)
+      ap (λ (b : Bool). if b then loading barrier_at n v else standing (Inside (k + 1)) (unknown v.leader false) (loading barrier_at n v))
+      (ne_eqb (n / sense_bit) (k % 2) e)
 
 deeds_append : (a b : List (Trace Kind)) → deeds_of (a ++ b) ≡ deeds_of a ++ deeds_of b
 deeds_append [] b = refl
@@ -56,7 +61,8 @@ module _ {S N : Type 0} where
   pub moved_on : (st st' : Standing) (k k' : Known) (m u w : Me S (View N)) → Moved st k m u → Moved st' k' u w → Moved st' k' m w
   moved_on st st' k k' m u w a b = record {
     steps = b.steps ++ a.steps;
-    seat = b.seat ∙ (ap (λ (z : Me S (View N)). (record z.0 { standing = st'; known = k'; trail = b.steps ++ z.0.trail }, z.1)) a.seat ∙ ap (λ (l : List (Trace Kind)). (record m.0 { standing = st'; known = k'; trail = l }, m.1)) (sym (append_assoc b.steps a.steps m.0.trail)));
+    seat = b.seat ∙ (ap (λ (z : Me S (View N)). (record z.0 { standing = st'; known = k'; trail = b.steps ++ z.0.trail }, z.1)) a.seat ∙ ap
+        (λ (l : List (Trace Kind)). (record m.0 { standing = st'; known = k'; trail = l }, m.1)) (sym (append_assoc b.steps a.steps m.0.trail)));
     quiet = deeds_append b.steps a.steps ∙ (λ i. b.quiet i ++ a.quiet i);
   }
 
@@ -68,35 +74,46 @@ module _ {S N : Type 0} where
   moved_known st k m w a = ap (λ (z : Me S (View N)). z.0.known) a.seat
 
   pub moved_claim : (st : Standing) (k : Known) (m w : Me S (View N)) → Moved st k m w → (w.0.claim ≡ m.0.claim) × (w.0.from ≡ m.0.from) × (w.0.to ≡ m.0.to)
-  moved_claim st k m w a = (ap (λ (z : Me S (View N)). z.0.claim) a.seat, ap (λ (z : Me S (View N)). z.0.from) a.seat, ap (λ (z : Me S (View N)). z.0.to) a.seat)
+  moved_claim st k m w a = (
+    ap (λ (z : Me S (View N)). z.0.claim) a.seat,
+    ap (λ (z : Me S (View N)). z.0.from) a.seat,
+    ap
+        (λ (z : Me S (View N)). z.0.to) a.seat,
+  )
 
   pub moved_leader : (st : Standing) (k : Known) (m w : Me S (View N)) → Moved st k m w → (w.0.leader ≡ m.0.leader) × (w.0.threads ≡ m.0.threads)
   moved_leader st k m w a = (ap (λ (z : Me S (View N)). z.0.leader) a.seat, ap (λ (z : Me S (View N)). z.0.threads) a.seat)
 
   pub moved_deeds : (st : Standing) (k : Known) (m w : Me S (View N)) → Moved st k m w → deeds_of w.0.trail ≡ deeds_of m.0.trail
-  moved_deeds st k m w a = ap (λ (z : Me S (View N)). deeds_of z.0.trail) a.seat ∙ (deeds_append a.steps m.0.trail ∙ ap (λ (l : List Deed). l ++ deeds_of m.0.trail) a.quiet)
+  moved_deeds st k m w a = ap (λ (z : Me S (View N)). deeds_of z.0.trail) a.seat ∙
+      (deeds_append a.steps m.0.trail ∙ ap (λ (l : List Deed). l ++ deeds_of m.0.trail) a.quiet)
 
   pub stayed_first : (m : Me S (View N)) → Stayed m m
   stayed_first m = record { steps = []; seat = refl; quiet = refl }
 
   pub stayed_on : (m u w : Me S (View N)) → Stayed m u → Stayed u w → Stayed m w
-  stayed_on m u w a b = moved_on m.0.standing m.0.standing m.0.known m.0.known m u w a (subst (λ (z : Standing × Known). Moved z.0 z.1 u w) (λ i. ((a.seat i).0.standing, (a.seat i).0.known)) b)
+  stayed_on m u w a b = moved_on m.0.standing m.0.standing m.0.known m.0.known m u w a
+      (subst (λ (z : Standing × Known). Moved z.0 z.1 u w) (λ i. ((a.seat i).0.standing, (a.seat i).0.known)) b)
 
   pub passed_on : (m u w : Me S (View N)) → Stayed m u → InNext u w → InNext m w
-  passed_on m u w a b = moved_on m.0.standing (Inside (round_of m.0.standing + 1)) m.0.known (unknown m.0.leader false) m u w a (subst (λ (z : ℕ × Bool). Moved (Inside (z.0 + 1)) (unknown z.1 false) u w) (λ i. (round_of (a.seat i).0.standing, (a.seat i).0.leader)) b)
+  passed_on m u w a b = moved_on m.0.standing (Inside (round_of m.0.standing + 1)) m.0.known (unknown m.0.leader false) m u w a
+      (subst (λ (z : ℕ × Bool). Moved (Inside (z.0 + 1)) (unknown z.1 false) u w) (λ i. (round_of (a.seat i).0.standing, (a.seat i).0.leader)) b)
 
   pub went_on : (m u w : Me S (View N)) → Stayed m u → WentOut u w → WentOut m w
   went_on m u w a b = moved_on m.0.standing Away m.0.known (unknown false false) m u w a b
 
   -- its round ends after steps within the round
   pub passed_from : (st : Standing) (k : Known) (m u w : Me S (View N)) → round_of st ≡ round_of m.0.standing → Moved st k m u → InNext u w → InNext m w
-  passed_from st k m u w same a b = moved_on st (Inside (round_of m.0.standing + 1)) k (unknown m.0.leader false) m u w a (subst (λ (z : ℕ × Bool). Moved (Inside (z.0 + 1)) (unknown z.1 false) u w) (λ i. ((ap (λ (z : Me S (View N)). round_of z.0.standing) a.seat ∙ same) i, (a.seat i).0.leader)) b)
+  passed_from st k m u w same a b = moved_on st (Inside (round_of m.0.standing + 1)) k (unknown m.0.leader false) m u w a
+      (subst (λ (z : ℕ × Bool). Moved (Inside (z.0 + 1)) (unknown z.1 false) u w)
+      (λ i. ((ap (λ (z : Me S (View N)). round_of z.0.standing) a.seat ∙ same) i, (a.seat i).0.leader)) b)
 
   -- Joins.
   module _ (m w : Me S (View N)) where
     pub join_joined : (sense : ℕ) (a : JoinedBy (join.Joined sense) m w) → Moved (Inside a.1) (unknown m.0.leader a.2) m w
     join_joined sense a = subst (λ (z : Me S (View N)). Moved (Inside a.1) (unknown m.0.leader a.2) m z) (sym a.3)
-        (moved_on m.0.standing (Inside a.1) m.0.known (unknown m.0.leader a.2) m (loading barrier_at a.0 m.0, m.1) _ (moved_once m.0.standing m.0.known m _ refl) (moved_once (Inside a.1) (unknown m.0.leader a.2) (loading barrier_at a.0 m.0, m.1) _ refl))
+        (moved_on m.0.standing (Inside a.1) m.0.known (unknown m.0.leader a.2) m (loading barrier_at a.0 m.0, m.1) _
+        (moved_once m.0.standing m.0.known m _ refl) (moved_once (Inside a.1) (unknown m.0.leader a.2) (loading barrier_at a.0 m.0, m.1) _ refl))
 
     pub join_full : JoinedBy join.Full m w → Stayed m w
     join_full a = subst (λ (z : Me S (View N)). Stayed m z) (sym a.1) (moved_once m.0.standing m.0.known m _ refl)
@@ -108,25 +125,44 @@ module _ {S N : Type 0} where
     join_again a = subst (λ (z : Me S (View N)). Stayed m z) (sym a.2) (missed a.0 a.1)
       where
         missed : (n found : ℕ) → Stayed m (missing barrier_at found (loading barrier_at n m.0), m.1)
-        missed n found = stayed_on m (loading barrier_at n m.0, m.1) _ (moved_once m.0.standing m.0.known m _ refl) (moved_once m.0.standing m.0.known (loading barrier_at n m.0, m.1) _ refl)
+        missed n found = stayed_on m (loading barrier_at n m.0, m.1) _ (moved_once m.0.standing m.0.known m _ refl)
+            (moved_once m.0.standing m.0.known (loading barrier_at n m.0, m.1) _ refl)
 
     -- Arrivals.
     pub arrived_waits : ArrivedBy arrival.Arrived m w → Moved (Waiting (round_of m.0.standing) m.0.known.unpublished) (unknown false false) m w
     arrived_waits a = let q = round_of m.0.standing in let st : Standing = Waiting q m.0.known.unpublished in
-        subst (λ (z : Me S (View N)). Moved st (unknown false false) m z) (sym (a.1 ∙ ap (λ (b : Bool). (noted (trace barrier_at kind.Arrive a.0 (a.0 - 1)) (standing (if b then Closing q true false None else st) (unknown false false) m.0), m.1)) (ne_eqb (count_of a.0) 1 a.2))) (moved_once st (unknown false false) m _ refl)
+        subst (λ (z : Me S (View N)). Moved st (unknown false false) m z)
+        (sym (a.1 ∙ ap (λ (b : Bool). (
+          noted (trace barrier_at kind.Arrive a.0 (a.0 - 1))
+              (standing (if b then Closing q true false None else st) (unknown false false) m.0),
+          m.1,
+        )) (ne_eqb (count_of a.0) 1 a.2)))
+        (moved_once st (unknown false false) m _ refl)
 
     pub arrived_closes : ArrivedBy arrival.Closer m w → Moved (Closing (round_of m.0.standing) true false None) (unknown false false) m w
     arrived_closes a = let q = round_of m.0.standing in let st : Standing = Closing q true false None in
-        subst (λ (z : Me S (View N)). Moved st (unknown false false) m z) (sym (a.1 ∙ ap (λ (b : Bool). (noted (trace barrier_at kind.Arrive a.0 (a.0 - 1)) (standing (if b then st else Waiting q m.0.known.unpublished) (unknown false false) m.0), m.1)) (eq-eqb (count_of a.0) 1 a.2))) (moved_once st (unknown false false) m _ refl)
+        subst (λ (z : Me S (View N)). Moved st (unknown false false) m z)
+        (sym (a.1 ∙ ap (λ (b : Bool). (
+          noted (trace barrier_at kind.Arrive a.0 (a.0 - 1))
+              (standing (if b then st else Waiting q m.0.known.unpublished) (unknown false false) m.0),
+          m.1,
+        )) (eq-eqb (count_of a.0) 1 a.2)))
+        (moved_once st (unknown false false) m _ refl)
 
     -- Exits.
     abbrev gone_by : ℕ → Bool → Me S (View N)
-    gone_by n b = (noted (trace barrier_at kind.Exit n (exit_word n)) (outside (if b then Closing (round_of m.0.standing) false false None else Away) (loading barrier_at n m.0)), m.1)
+    gone_by n b = (
+      noted (trace barrier_at kind.Exit n (exit_word n)) (outside (if b then Closing (round_of m.0.standing) false false None else Away)
+          (loading barrier_at n m.0)),
+      m.1,
+    )
 
     pub exit_gone : ExitedBy exit.Gone m w → WentOut m w
-    exit_gone a = subst (λ (z : Me S (View N)). WentOut m z) (sym (a.1 ∙ ap (gone_by a.0) (⊎_elim (λ (e : count_of a.0 ≢ 1). ap (λ (b : Bool). b && nat_lt 1 (most_of a.0)) (ne_eqb (count_of a.0) 1 e))
+    exit_gone a = subst (λ (z : Me S (View N)). WentOut m z) (sym (a.1 ∙ ap (gone_by a.0)
+        (⊎_elim (λ (e : count_of a.0 ≢ 1). ap (λ (b : Bool). b && nat_lt 1 (most_of a.0)) (ne_eqb (count_of a.0) 1 e))
         (λ (e : most_of a.0 ≤ 1). ap (λ (b : Bool). (count_of a.0 == 1) && b) (le-ltb 1 (most_of a.0) e) ∙ never (count_of a.0 == 1)) a.2)))
-        (moved_on m.0.standing Away m.0.known (unknown false false) m (loading barrier_at a.0 m.0, m.1) _ (moved_once m.0.standing m.0.known m _ refl) (moved_once Away (unknown false false) (loading barrier_at a.0 m.0, m.1) _ refl))
+        (moved_on m.0.standing Away m.0.known (unknown false false) m (loading barrier_at a.0 m.0, m.1) _ (moved_once m.0.standing m.0.known m _ refl)
+        (moved_once Away (unknown false false) (loading barrier_at a.0 m.0, m.1) _ refl))
       where
         never : (b : Bool) → (b && false) ≡ false
         never true = refl
@@ -135,38 +171,49 @@ module _ {S N : Type 0} where
     pub exit_closer : ExitedBy exit.Closer m w → Moved (Closing (round_of m.0.standing) false false None) (unknown false false) m w
     exit_closer a = let st : Standing = Closing (round_of m.0.standing) false false None in subst (λ (z : Me S (View N)). Moved st (unknown false false) m z)
         (sym (a.1 ∙ ap (gone_by a.0) (ap (λ (b : Bool). b && nat_lt 1 (most_of a.0)) (eq-eqb (count_of a.0) 1 a.2) ∙ lt-ltb 1 (most_of a.0) a.3)))
-        (moved_on m.0.standing st m.0.known (unknown false false) m (loading barrier_at a.0 m.0, m.1) _ (moved_once m.0.standing m.0.known m _ refl) (moved_once st (unknown false false) (loading barrier_at a.0 m.0, m.1) _ refl))
+        (moved_on m.0.standing st m.0.known (unknown false false) m (loading barrier_at a.0 m.0, m.1) _ (moved_once m.0.standing m.0.known m _ refl)
+        (moved_once st (unknown false false) (loading barrier_at a.0 m.0, m.1) _ refl))
 
     pub exit_again : ExitedBy exit.Again m w → Stayed m w
-    exit_again a = subst (λ (z : Me S (View N)). Stayed m z) (sym a.2) (stayed_on m (loading barrier_at a.0 m.0, m.1) _ (moved_once m.0.standing m.0.known m _ refl) (moved_once m.0.standing m.0.known (loading barrier_at a.0 m.0, m.1) _ refl))
+    exit_again a = subst (λ (z : Me S (View N)). Stayed m z) (sym a.2)
+        (stayed_on m (loading barrier_at a.0 m.0, m.1) _ (moved_once m.0.standing m.0.known m _ refl)
+        (moved_once m.0.standing m.0.known (loading barrier_at a.0 m.0, m.1) _ refl))
 
     -- The closer's stores.
     pub cleared_once : w ≡ (clearing 0 m.0, m.1) → Moved (with_clear m.0.standing) m.0.known m w
-    cleared_once e = subst (λ (z : Me S (View N)). Moved (with_clear m.0.standing) m.0.known m z) (sym e) (moved_once (with_clear m.0.standing) m.0.known m _ refl)
+    cleared_once e = subst (λ (z : Me S (View N)). Moved (with_clear m.0.standing) m.0.known m z) (sym e)
+        (moved_once (with_clear m.0.standing) m.0.known m _ refl)
 
     abbrev ended_by : ℕ → Standing → Me S (View N)
-    ended_by n st = let x = after_end m.0.leader (with_word n st) in (noted (trace barrier_at kind.End (turned_word n) (turned_word n)) (standing x.1 x.0 (loading barrier_at n m.0)), m.1)
+    ended_by n st = let x = after_end m.0.leader (with_word n st) in
+        (noted (trace barrier_at kind.End (turned_word n) (turned_word n)) (standing x.1 x.0 (loading barrier_at n m.0)), m.1)
 
     -- a member is inside the next round, and one that had exited is out
     pub ended_next : (q : ℕ) (was : Option ℕ) → m.0.standing ≡ Closing q true true was → EndedBy m w → InNext m w
-    ended_next q was closes a = subst (λ (z : Me S (View N)). InNext m z) (sym a.1) (subst (λ (st : Standing). Moved (Inside (round_of st + 1)) (unknown m.0.leader false) m (ended_by a.0 st)) (sym closes) (two a.0))
+    ended_next q was closes a = subst (λ (z : Me S (View N)). InNext m z) (sym a.1)
+        (subst (λ (st : Standing). Moved (Inside (round_of st + 1)) (unknown m.0.leader false) m (ended_by a.0 st)) (sym closes) (two a.0))
       where
         two : (n : ℕ) → Moved (Inside (q + 1)) (unknown m.0.leader false) m (ended_by n (Closing q true true was))
-        two n = moved_on m.0.standing (Inside (q + 1)) m.0.known (unknown m.0.leader false) m (loading barrier_at n m.0, m.1) _ (moved_once m.0.standing m.0.known m _ refl) (moved_once (Inside (q + 1)) (unknown m.0.leader false) (loading barrier_at n m.0, m.1) _ refl)
+        two n = moved_on m.0.standing (Inside (q + 1)) m.0.known (unknown m.0.leader false) m (loading barrier_at n m.0, m.1) _
+            (moved_once m.0.standing m.0.known m _ refl) (moved_once (Inside (q + 1)) (unknown m.0.leader false) (loading barrier_at n m.0, m.1) _ refl)
 
     pub ended_out : (q : ℕ) (was : Option ℕ) → m.0.standing ≡ Closing q false true was → EndedBy m w → WentOut m w
-    ended_out q was closes a = subst (λ (z : Me S (View N)). WentOut m z) (sym a.1) (subst (λ (st : Standing). WentOut m (ended_by a.0 st)) (sym closes) (two a.0))
+    ended_out q was closes a = subst (λ (z : Me S (View N)). WentOut m z) (sym a.1)
+        (subst (λ (st : Standing). WentOut m (ended_by a.0 st)) (sym closes) (two a.0))
       where
         two : (n : ℕ) → WentOut m (ended_by n (Closing q false true was))
-        two n = moved_on m.0.standing Away m.0.known (unknown false false) m (loading barrier_at n m.0, m.1) _ (moved_once m.0.standing m.0.known m _ refl) (moved_once Away (unknown false false) (loading barrier_at n m.0, m.1) _ refl)
+        two n = moved_on m.0.standing Away m.0.known (unknown false false) m (loading barrier_at n m.0, m.1) _ (moved_once m.0.standing m.0.known m _ refl)
+            (moved_once Away (unknown false false) (loading barrier_at n m.0, m.1) _ refl)
 
   -- Looks and leaves.
   module _ (m w : Me S (View N)) (sense : ℕ) (waits : IsWaiting m.0) (has : HasSense m.0.standing sense) where
     pub look_ended : LookedBy sense look.Ended m w → InNext m w
-    look_ended a = subst (λ (z : Me S (View N)). InNext m z) (sym (a.1 ∙ (λ i. (has_ended m.0 waits.0 waits.1 waits.2 a.0 sense has a.3 i, m.1)))) (moved_once (Inside (round_of m.0.standing + 1)) (unknown m.0.leader false) m _ refl)
+    look_ended a = subst (λ (z : Me S (View N)). InNext m z) (sym (a.1 ∙ (λ i. (has_ended m.0 waits.0 waits.1 waits.2 a.0 sense has a.3 i, m.1))))
+        (moved_once (Inside (round_of m.0.standing + 1)) (unknown m.0.leader false) m _ refl)
 
     goes_on : (n : ℕ) → w ≡ (looking n m.0, m.1) → n < high_half → sense_of n ≢ sense → Stayed m w
-    goes_on n is small other = subst (λ (z : Me S (View N)). Stayed m z) (sym (is ∙ (λ i. (still_waits m.0 waits.0 waits.1 waits.2 n sense has small other i, m.1)))) (moved_once m.0.standing m.0.known m _ refl)
+    goes_on n is small other = subst (λ (z : Me S (View N)). Stayed m z)
+        (sym (is ∙ (λ i. (still_waits m.0 waits.0 waits.1 waits.2 n sense has small other i, m.1)))) (moved_once m.0.standing m.0.known m _ refl)
 
     pub look_running : LookedBy sense look.Running m w → Stayed m w
     look_running a = goes_on a.0 a.1 a.2 a.3
@@ -175,12 +222,16 @@ module _ {S N : Type 0} where
     look_closing a = goes_on a.0 a.1 a.2 a.3
 
     pub leave_left : LeftBy sense leave.Left m w → WentOut m w
-    leave_left a = subst (λ (z : Me S (View N)). WentOut m z) (sym (a.1 ∙ (λ i. (leaving a.0 (still_waits m.0 waits.0 waits.1 waits.2 a.0 sense has a.2 a.3 i), m.1))))
-        (moved_on m.0.standing Away m.0.known (unknown false false) m (loading barrier_at a.0 m.0, m.1) _ (moved_once m.0.standing m.0.known m _ refl) (moved_once Away (unknown false false) (loading barrier_at a.0 m.0, m.1) _ refl))
+    leave_left a = subst (λ (z : Me S (View N)). WentOut m z) (sym (a.1 ∙
+        (λ i. (leaving a.0 (still_waits m.0 waits.0 waits.1 waits.2 a.0 sense has a.2 a.3 i), m.1))))
+        (moved_on m.0.standing Away m.0.known (unknown false false) m (loading barrier_at a.0 m.0, m.1) _ (moved_once m.0.standing m.0.known m _ refl)
+        (moved_once Away (unknown false false) (loading barrier_at a.0 m.0, m.1) _ refl))
 
     pub leave_again : LeftBy sense leave.Again m w → Stayed m w
-    leave_again a = subst (λ (z : Me S (View N)). Stayed m z) (sym (a.2 ∙ (λ i. (missing barrier_at a.1 (still_waits m.0 waits.0 waits.1 waits.2 a.0 sense has a.3 a.4 i), m.1))))
-        (stayed_on m (loading barrier_at a.0 m.0, m.1) _ (moved_once m.0.standing m.0.known m _ refl) (moved_once m.0.standing m.0.known (loading barrier_at a.0 m.0, m.1) _ refl))
+    leave_again a = subst (λ (z : Me S (View N)). Stayed m z) (sym (a.2 ∙
+        (λ i. (missing barrier_at a.1 (still_waits m.0 waits.0 waits.1 waits.2 a.0 sense has a.3 a.4 i), m.1))))
+        (stayed_on m (loading barrier_at a.0 m.0, m.1) _ (moved_once m.0.standing m.0.known m _ refl)
+        (moved_once m.0.standing m.0.known (loading barrier_at a.0 m.0, m.1) _ refl))
 
     -- a look that sees no end
     pub look_on : (l : Look) → (l ≡ look.Ended → ⊥) → LookedBy sense l m w → Stayed m w
@@ -199,7 +250,13 @@ module _ {S N : Type 0} where
   may_wait m w = (w.0, w.1, w.2)
 
   pub stayed_leaving : (m u : Me S (View N)) → Stayed m u → MayLeave m.0 → MayLeave u.0
-  stayed_leaving m u a w = (w.0, w.1, ap (λ (z : Me S (View N)). z.0.standing) a.seat ∙ w.2, subst (λ (b : Bool). (b ≡ false) ⊎ (w.1 ≡ true)) (sym (ap (λ (z : Me S (View N)). z.0.leader) a.seat)) w.3)
+  stayed_leaving m u a w = (
+    w.0,
+    w.1,
+    ap (λ (z : Me S (View N)). z.0.standing) a.seat ∙ w.2,
+    subst (λ (b : Bool). (b ≡ false) ⊎ (w.1 ≡ true))
+        (sym (ap (λ (z : Me S (View N)). z.0.leader) a.seat)) w.3,
+  )
 
   -- it still waits where it stayed
   pub stayed_waiting : (m u : Me S (View N)) → Stayed m u → IsWaiting m.0 → IsWaiting u.0
@@ -209,11 +266,13 @@ module _ {S N : Type 0} where
   module _ (m u w : Me S (View N)) (q : ℕ) (was : Bool) (read : Option ℕ) (clears : u ≡ (clearing 0 m.0, m.1)) (ends : EndedBy u w) where
     pub closed_next : m.0.standing ≡ Closing q true was read → InNext m w
     closed_next closes = let c = cleared_once m u clears in let is : with_clear m.0.standing ≡ Closing q true true read = ap with_clear closes in
-        passed_from (with_clear m.0.standing) m.0.known m u w (ap round_of is ∙ sym (ap round_of closes)) c (ended_next u w q read (ap (λ (z : Me S (View N)). z.0.standing) c.seat ∙ is) ends)
+        passed_from (with_clear m.0.standing) m.0.known m u w (ap round_of is ∙ sym (ap round_of closes)) c
+        (ended_next u w q read (ap (λ (z : Me S (View N)). z.0.standing) c.seat ∙ is) ends)
 
     pub closed_out : m.0.standing ≡ Closing q false was read → WentOut m w
     closed_out closes = let c = cleared_once m u clears in let is : with_clear m.0.standing ≡ Closing q false true read = ap with_clear closes in
-        moved_on (with_clear m.0.standing) Away m.0.known (unknown false false) m u w c (ended_out u w q read (ap (λ (z : Me S (View N)). z.0.standing) c.seat ∙ is) ends)
+        moved_on (with_clear m.0.standing) Away m.0.known (unknown false false) m u w c
+        (ended_out u w q read (ap (λ (z : Me S (View N)). z.0.standing) c.seat ∙ is) ends)
 
 -- The party of a barrier.
 module _ {T S N : Type 0} where
@@ -225,38 +284,62 @@ module _ {T S N : Type 0} where
 
   -- the sense that a party waits for is its round's
   pub same_sense : (a b : Barrier T S N) → IsHeld a → IsHeld b → Stayed a.seat.me b.seat.me → IsWaiting a.seat.me.0 → b.sense ≡ a.sense
-  same_sense a b x y s w = let e = ap (λ (z : Me S (View N)). z.0.standing) s.seat in subst (λ (z : Standing). HasSense z b.sense) (e ∙ w.2) y.1 ∙ sym (subst (λ (z : Standing). HasSense z a.sense) w.2 x.1)
+  same_sense a b x y s w = let e = ap (λ (z : Me S (View N)). z.0.standing) s.seat in
+      subst (λ (z : Standing). HasSense z b.sense) (e ∙ w.2) y.1 ∙ sym (subst (λ (z : Standing). HasSense z a.sense) w.2 x.1)
 
   -- what a party that stayed is told, it is told from the start
-  pub await_on : (a b : Barrier T S N) (e : ExitStatus T S N) → IsHeld a → MayLeave a.seat.me.0 → Keeps a b × Stayed a.seat.me b.seat.me → AwaitTold b e → AwaitTold a e
+  pub await_on : (a b : Barrier T S N) (e : ExitStatus T S N) → IsHeld a → MayLeave a.seat.me.0 → Keeps a b × Stayed a.seat.me b.seat.me → AwaitTold b e
+      → AwaitTold a e
   await_on a b (status.Exit u) held may s told = let k = s.0.1 in let c = told.1 in (
     (told.0.0 ∙ (s.0.0.0 ∙ (ap (λ i. i.now.table.shared.table_id) k.0 ∙ sym held.0)), told.0.1 ∙ k.2),
-    (c.0, stayed_on a.seat.me b.seat.me c.0 s.1 c.1, subst (λ (z : ℕ). LeftBy z leave.Left c.0 u.me) (same_sense a b held s.0.0 s.1 (may_wait a.seat.me may)) c.2),
+    (
+      c.0,
+      stayed_on a.seat.me b.seat.me c.0 s.1 c.1,
+      subst (λ (z : ℕ). LeftBy z leave.Left c.0 u.me)
+          (same_sense a b held s.0.0 s.1 (may_wait a.seat.me may)) c.2,
+    ),
   )
   await_on a b (status.Remain c) held may s told = (keeps_on a b c s.0 told.0, passed_on a.seat.me b.seat.me c.seat.me s.1 told.1)
 
   -- an arrival and then a wait
-  pub status_of : (a b : Barrier T S N) (e : ExitStatus T S N) → IsHeld a → Keeps a b → ArrivedBy arrival.Arrived a.seat.me b.seat.me → AwaitTold b e → StatusTold a e
-  status_of a b (status.Exit u) held keeps came told = let k = keeps.1 in let c = told.1 in let m = arrived_waits a.seat.me b.seat.me came in let st = ap (λ (z : Me S (View N)). z.0.standing) m.seat in (
-    (told.0.0 ∙ (keeps.0.0 ∙ (ap (λ i. i.now.table.shared.table_id) k.0 ∙ sym held.0)), told.0.1 ∙ k.2),
-    (b.seat.me, c.0, came, c.1, subst (λ (z : ℕ). LeftBy z leave.Left c.0 u.me) (subst (λ (z : Standing). HasSense z b.sense) st keeps.0.1) c.2),
+  pub status_of : (a b : Barrier T S N) (e : ExitStatus T S N) → IsHeld a → Keeps a b → ArrivedBy arrival.Arrived a.seat.me b.seat.me → AwaitTold b e
+      → StatusTold a e
+  status_of a b (status.Exit u) held keeps came told = let k = keeps.1 in let c = told.1 in let m = arrived_waits a.seat.me b.seat.me came in
+      let st = ap (λ (z : Me S (View N)). z.0.standing) m.seat in (
+        (told.0.0 ∙ (keeps.0.0 ∙ (ap (λ i. i.now.table.shared.table_id) k.0 ∙ sym held.0)), told.0.1 ∙ k.2),
+        (b.seat.me, c.0, came, c.1, subst (λ (z : ℕ). LeftBy z leave.Left c.0 u.me) (subst (λ (z : Standing). HasSense z b.sense) st keeps.0.1) c.2),
+      )
+  status_of a b (status.Remain c) held keeps came told = (
+    keeps_on a b c keeps told.0,
+    passed_from _ _ a.seat.me b.seat.me c.seat.me refl
+        (arrived_waits a.seat.me b.seat.me came) told.1,
   )
-  status_of a b (status.Remain c) held keeps came told = (keeps_on a b c keeps told.0, passed_from _ _ a.seat.me b.seat.me c.seat.me refl (arrived_waits a.seat.me b.seat.me came) told.1)
 
 module _ {S N : Type 0} where
   -- a join refused for a moment leaves the seat as it was
-  pub refused_stays : (s u : Seat S (View N)) (e : JoinRefused (Seat S (View N))) → (e ≡ refused.Closing u) ⊎ (e ≡ refused.Again u) → JoinRefusedBy s e → (u.table_id ≡ s.table_id) × (u.id ≡ s.id) × Stayed s.me u.me
+  pub refused_stays : (s u : Seat S (View N)) (e : JoinRefused (Seat S (View N))) → (e ≡ refused.Closing u) ⊎ (e ≡ refused.Again u) → JoinRefusedBy s e →
+      (u.table_id ≡ s.table_id) × (u.id ≡ s.id) × Stayed s.me u.me
   refused_stays s u e why told = ⊎_elim (λ (z : e ≡ refused.Closing u). let a = subst (JoinRefusedBy s) z told in (a.0, a.1, join_closing s.me u.me a.2))
       (λ (z : e ≡ refused.Again u). let a = subst (JoinRefusedBy s) z told in (a.0, a.1, join_again s.me u.me a.2)) why
 
-  pub refused_on : (s t u : Seat S (View N)) → (t.table_id ≡ s.table_id) × (t.id ≡ s.id) × Stayed s.me t.me → (u.table_id ≡ t.table_id) × (u.id ≡ t.id) × Stayed t.me u.me → (u.table_id ≡ s.table_id) × (u.id ≡ s.id) × Stayed s.me u.me
+  pub refused_on : (s t u : Seat S (View N)) → (t.table_id ≡ s.table_id) × (t.id ≡ s.id) × Stayed s.me t.me → (u.table_id ≡ t.table_id) × (u.id ≡ t.id)
+      × Stayed t.me u.me → (u.table_id ≡ s.table_id) × (u.id ≡ s.id) × Stayed s.me u.me
   refused_on s t u a b = (b.0 ∙ a.0, b.1 ∙ a.1, stayed_on s.me t.me u.me a.2 b.2)
 
 -- A party with no claim and no share, from step to step.
 module _ {S N : Type 0} (m w : Me S (View N)) where
   pub inside_free : (q : ℕ) (seen : Bool) → Moved (Inside q) (unknown m.0.leader seen) m w → IsIdle m.0 → MayExit w.0
-  inside_free q seen a idle = let c = moved_claim (Inside q) (unknown m.0.leader seen) m w a in let k = moved_known (Inside q) (unknown m.0.leader seen) m w a in let l = moved_leader (Inside q) (unknown m.0.leader seen) m w a in
-      ((q, moved_standing (Inside q) (unknown m.0.leader seen) m w a, c.0 ∙ idle.0, (let e = idle.1 in let f = c.1 in let g = c.2 in omega arith)), led m.0.leader (l.0) (ap (λ (z : Known). z.unpublished) k))
+  inside_free q seen a idle = let c = moved_claim (Inside q) (unknown m.0.leader seen) m w a in
+      let k = moved_known (Inside q) (unknown m.0.leader seen) m w a in let l = moved_leader (Inside q) (unknown m.0.leader seen) m w a in (
+        (
+          q,
+          moved_standing (Inside q) (unknown m.0.leader seen) m w a,
+          c.0 ∙ idle.0,
+          (let e = idle.1 in let f = c.1 in let g = c.2 in
+              omega arith),
+        ),
+        led m.0.leader (l.0) (ap (λ (z : Known). z.unpublished) k),
+      )
     where
       led : (b : Bool) → w.0.leader ≡ b → w.0.known.unpublished ≡ b → (w.0.leader ≡ false) ⊎ (w.0.known.unpublished ≡ true)
       led true e f = inr f
@@ -272,5 +355,10 @@ module _ {S N : Type 0} (m w : Me S (View N)) where
   moved_idle st k a idle = let c = moved_claim st k m w a in (c.0 ∙ idle.0, (let e = idle.1 in let f = c.1 in let g = c.2 in omega arith))
 
   pub arrived_leaves : ArrivedBy arrival.Arrived m w → MayExit m.0 → MayLeave w.0
-  arrived_leaves a may = let b = arrived_waits m w a in let st : Standing = Waiting (round_of m.0.standing) m.0.known.unpublished in
-      (round_of m.0.standing, m.0.known.unpublished, moved_standing st (unknown false false) m w b, subst (λ (z : Bool). (z ≡ false) ⊎ (m.0.known.unpublished ≡ true)) (sym (moved_leader st (unknown false false) m w b).0) may.1)
+  arrived_leaves a may = let b = arrived_waits m w a in let st : Standing = Waiting (round_of m.0.standing) m.0.known.unpublished in (
+    round_of m.0.standing,
+    m.0.known.unpublished,
+    moved_standing st (unknown false false) m w b,
+    subst
+        (λ (z : Bool). (z ≡ false) ⊎ (m.0.known.unpublished ≡ true)) (sym (moved_leader st (unknown false false) m w b).0) may.1,
+  )

@@ -32,11 +32,13 @@ use Rattle.spindle_rounds.proofs.RoundWords.{word_fields, status_words, by_equal
 use Rattle.spindle_rounds.proofs.KeptBarrier.{share_of, idle_seat, no_deed}
 
 -- nothing is published before or after a step on the barrier word
-pub hidden_words : (t : ℕ) (s s' : State) (ws : List ℕ) (x : ℕ) → Words t s ws → s.published ≡ None → s'.published ≡ None → x ≡ word s' → Words t s' (set ws barrier_at x)
+pub hidden_words : (t : ℕ) (s s' : State) (ws : List ℕ) (x : ℕ) → Words t s ws → s.published ≡ None → s'.published ≡ None → x ≡ word s' → Words t s'
+    (set ws barrier_at x)
 hidden_words t s s' ws x w hidden hides is = let wide = w.wide in record {
   wide = length-set ws barrier_at x ∙ w.wide;
   barrier = get_or-set_same ws barrier_at x 0 (omega arith) ∙ is;
-  published = get_or-set_other ws barrier_at published_at x 0 (λ e. omega arith) ∙ (w.published ∙ (ap (λ (o : Option ℕ). number_of o (now s).stoppable) hidden ∙ sym (ap (λ (o : Option ℕ). number_of o (now s').stoppable) hides)));
+  published = get_or-set_other ws barrier_at published_at x 0 (λ e. omega arith) ∙
+      (w.published ∙ (ap (λ (o : Option ℕ). number_of o (now s).stoppable) hidden ∙ sym (ap (λ (o : Option ℕ). number_of o (now s').stoppable) hides)));
   finished = λ some. absurd (some hides);
   stopped = λ some. absurd (some hides);
   counters = λ n e. absurd cc;
@@ -44,7 +46,8 @@ hidden_words t s s' ws x w hidden hides is = let wide = w.wide in record {
 }
 
 -- the seat of a party that has gone out
-gone : {N : Type 0} (s s' : State) (p : ℕ) (v : View N) (st : Standing) (x : Trace Kind) → Shows s p v → party s' p ≡ with_status Out (party s p) → Stands s' p st → ((q : ℕ) → st ≢ Inside q) → Shows s' p (noted x (outside st v))
+gone : {N : Type 0} (s s' : State) (p : ℕ) (v : View N) (st : Standing) (x : Trace Kind) → Shows s p v → party s' p ≡ with_status Out (party s p)
+    → Stands s' p st → ((q : ℕ) → st ≢ Inside q) → Shows s' p (noted x (outside st v))
 gone s s' p v st x w look stands out = record {
   stands = stands;
   leads = w.leads;
@@ -54,46 +57,93 @@ gone s s' p v st x w look stands out = record {
 }
 
 module _ {X N : Type 0} (D : Discipline X N) (law : Lawful D) (t : ℕ) where
-  pub exits : (slots id : ℕ) (me : SeatOf D t) (q old : ℕ) → me.0.standing ≡ Inside q → me.0.claim ≡ None → me.0.to ≤ me.0.from → (me.0.leader ≡ false) ⊎ (me.0.known.unpublished ≡ true)
+  pub exits : (slots id : ℕ) (me : SeatOf D t) (q old : ℕ) → me.0.standing ≡ Inside q → me.0.claim ≡ None → me.0.to ≤ me.0.from → (me.0.leader ≡ false) ⊎
+      (me.0.known.unpublished ≡ true)
       → Exchange D t slots id me barrier_at old (exit_word old) (Exit id ∷ []) ExitTells
-  exits slots id me q old inside_q idle empty free = exchanges D law t slots id me barrier_at old (exit_word old) (Exit id ∷ []) exiting (λ run s b hit. subst (λ (z : ℕ). Rule D t (Exit id ∷ run) (stepped s barrier_at (exit_word old) id me.1 (exiting z me.0) keeps)) (sym hit) (owed run s b hit))
+  exits slots id me q old inside_q idle empty free = exchanges D law t slots id me barrier_at old (exit_word old) (Exit id ∷ []) exiting
+      (λ run s b hit. subst (λ (z : ℕ). Rule D t (Exit id ∷ run) (stepped s barrier_at (exit_word old) id me.1 (exiting z me.0) keeps)) (sym hit)
+      (owed run s b hit))
     where
-      owed : (run : List Event) (s : table.State X (View N)) → Before D law t slots id me barrier_at run s → get_or s.words barrier_at 0 ≡ old → Rule D t (Exit id ∷ run) (stepped s barrier_at (exit_word old) id me.1 (exiting old me.0) keeps)
-      owed run s b hit = let r = b.rule in let at = b.at in let S : State = state run in let h = sound run r.is_run in let seat = r.seats id me.0 at in let shows = seat.0 in
-          let st = subst (Stands S id) inside_q shows.stands in let f = word_fields S h old (sym hit ∙ r.words.barrier) in let is : old ≡ word S = sym hit ∙ r.words.barrier in
-          let ps : List Party = put_party S.parties id (with_status Out (party S id)) in let look = look_here S.parties id (with_status Out (party S id)) in let open_now = no_closer S h id st.0 in
-          let c₀ = total_put weight_in refl S.parties id (with_status Out (party S id)) in let c₁ = total_put weight_member refl S.parties id (with_status Out (party S id)) in let b₀ = ap is_in st.0 in let b₁ = ap is_member st.0 in let le = inside_le_members ps in
+      owed : (run : List Event) (s : table.State X (View N)) → Before D law t slots id me barrier_at run s → get_or s.words barrier_at 0 ≡ old → Rule D t
+          (Exit id ∷ run) (stepped s barrier_at (exit_word old) id me.1 (exiting old me.0) keeps)
+      owed run s b hit = let r = b.rule in let at = b.at in let S : State = state run in let h = sound run r.is_run in let seat = r.seats id me.0 at in
+          let shows = seat.0 in
+          let st = subst (Stands S id) inside_q shows.stands in let f = word_fields S h old (sym hit ∙ r.words.barrier) in
+          let is : old ≡ word S = sym hit ∙ r.words.barrier in
+          let ps : List Party = put_party S.parties id (with_status Out (party S id)) in let look = look_here S.parties id (with_status Out (party S id)) in
+          let open_now = no_closer S h id st.0 in
+          let c₀ = total_put weight_in refl S.parties id (with_status Out (party S id)) in
+          let c₁ = total_put weight_member refl S.parties id (with_status Out (party S id)) in let b₀ = ap is_in st.0 in let b₁ = ap is_member st.0 in
+          let le = inside_le_members ps in
           let fc = f.count in let fm = f.most in let fs = f.sense in
-          let ok : Allowed S (Exit id) = (st.0, idle_seat S id me.0 shows idle empty, λ zero. ⊎_elim (λ (a : me.0.leader ≡ false). absurd (shows.leads.1 a zero)) (λ (a : me.0.known.unpublished ≡ true). ((shows.inside q inside_q).unpublished a).1) free) in
-          let on : State = record { round = S.round + 1; parties = ps; closer = S.closer; published = S.published; rounds = S.rounds } in let own : S.round ≡ round_of me.0.standing = st.1 ∙ sym (ap round_of inside_q) in
-          let both : Words t (after S (Exit id)) (set s.words barrier_at (exit_word old)) × Shows (after S (Exit id)) id (exiting old me.0) × ((after S (Exit id)).published ≡ S.published) =
-          by_equal (members ps) 0 (λ b. let s' : State = if b then on else arrived S id ps in Words t s' (set s.words barrier_at (exit_word old)) × Shows s' id (exiting old me.0) × (s'.published ≡ S.published))
-          (λ sole. let hidden = alone_hidden S h id st.0 ok.2 sole in let one : most_of old ≡ 1 = omega arith in let new : exit_word old ≡ sense_bit * (1 - sense_of old) = ap (λ (z : Bool). if z then sense_bit * (1 - sense_of old) else old - one_party) (eq-eqb (most_of old) 1 one) in (
+          let ok : Allowed S (Exit id) = (
+            st.0,
+            idle_seat S id me.0 shows idle empty,
+            λ zero. ⊎_elim
+                (λ (a : me.0.leader ≡ false). absurd (shows.leads.1 a zero))
+                (λ (a : me.0.known.unpublished ≡ true). ((shows.inside q inside_q).unpublished a).1) free,
+          ) in
+          let on : State = record { round = S.round + 1; parties = ps; closer = S.closer; published = S.published; rounds = S.rounds } in
+          let own : S.round ≡ round_of me.0.standing = st.1 ∙ sym (ap round_of inside_q) in
+          let both : Words t (after S (Exit id)) (set s.words barrier_at (exit_word old)) × Shows (after S (Exit id)) id (exiting old me.0) ×
+          ((after S (Exit id)).published ≡ S.published) =
+          by_equal (members ps) 0 (λ b. let s' : State = if b then on else arrived S id ps in
+          Words t s' (set s.words barrier_at (exit_word old)) × Shows s' id (exiting old me.0) × (s'.published ≡ S.published))
+          (λ sole. let hidden = alone_hidden S h id st.0 ok.2 sole in let one : most_of old ≡ 1 = omega arith in
+          let new : exit_word old ≡ sense_bit * (1 - sense_of old) = ap (λ (z : Bool). if z then sense_bit * (1 - sense_of old) else old - one_party)
+          (eq-eqb (most_of old) 1 one) in (
             hidden_words t S on s.words (exit_word old) r.words hidden hidden (new ∙ omega arith),
-            subst (λ (z : Bool). Shows on id (noted (trace barrier_at kind.Exit old (exit_word old)) (outside (if (count_of old == 1) && z then Closing (round_of me.0.standing) false false None else Away) me.0))) (sym (le-ltb 1 (most_of old) (omega arith)))
-                (by_equal (count_of old) 1 (λ z. Shows on id (noted (trace barrier_at kind.Exit old (exit_word old)) (outside (if z && false then Closing (round_of me.0.standing) false false None else Away) me.0)))
-                (λ _. gone S on id me.0 Away _ shows look (ap (λ (z : Party). z.status) look, λ e. cc) (λ _ e. cc)) (λ _. gone S on id me.0 Away _ shows look (ap (λ (z : Party). z.status) look, λ e. cc) (λ _ e. cc))),
+            subst (λ (z : Bool). Shows on id (noted (trace barrier_at kind.Exit old (exit_word old))
+                (outside (if (count_of old == 1) && z then Closing (round_of me.0.standing) false false None else Away) me.0)))
+                (sym (le-ltb 1 (most_of old) (omega arith)))
+                (by_equal (count_of old) 1 (λ z. Shows on id (noted (trace barrier_at kind.Exit old (exit_word old))
+                (outside (if z && false then Closing (round_of me.0.standing) false false None else Away) me.0)))
+                (λ _. gone S on id me.0 Away _ shows look (ap (λ (z : Party). z.status) look, λ e. cc) (λ _ e. cc))
+                (λ _. gone S on id me.0 Away _ shows look (ap (λ (z : Party). z.status) look, λ e. cc) (λ _ e. cc))),
             refl,
           ))
-          (λ others. let more : most_of old ≢ 1 = (λ e. others (omega arith)) in let new : exit_word old ≡ old - one_party = ap (λ (z : Bool). if z then sense_bit * (1 - sense_of old) else old - one_party) (ne_eqb (most_of old) 1 more) in let s' : State = arrived S id ps in (
+          (λ others. let more : most_of old ≢ 1 = (λ e. others (omega arith)) in
+          let new : exit_word old ≡ old - one_party = ap (λ (z : Bool). if z then sense_bit * (1 - sense_of old) else old - one_party)
+          (ne_eqb (most_of old) 1 more) in let s' : State = arrived S id ps in (
             status_words t S s.words id (exit_word old) Out (closer_after S ps id) r.words (new ∙ omega arith),
-            subst (λ (z : Bool). Shows s' id (noted (trace barrier_at kind.Exit old (exit_word old)) (outside (if (count_of old == 1) && z then Closing (round_of me.0.standing) false false None else Away) me.0))) (sym (lt-ltb 1 (most_of old) (omega arith)))
-                (by_equal (count_of old) 1 (λ z. Shows s' id (noted (trace barrier_at kind.Exit old (exit_word old)) (outside (if z && true then Closing (round_of me.0.standing) false false None else Away) me.0)))
-                (λ one. gone S s' id me.0 (Closing (round_of me.0.standing) false false None) _ shows look (ap (λ (z : Bool). if z then Some id else S.closer) (eq-eqb (inside ps) 0 (omega arith)), own, (λ z. absurd cc), ap (λ (z : Party). z.status) look, λ n z. absurd cc) (λ _ e. cc))
-                (λ some. gone S s' id me.0 Away _ shows look (ap (λ (z : Party). z.status) look, λ e. let a = ap (λ (z : Bool). if z then Some id else S.closer) (ne_eqb (inside ps) 0 (λ z. some (omega arith))) in cc) (λ _ e. cc))),
+            subst (λ (z : Bool). Shows s' id (noted (trace barrier_at kind.Exit old (exit_word old))
+                (outside (if (count_of old == 1) && z then Closing (round_of me.0.standing) false false None else Away) me.0)))
+                (sym (lt-ltb 1 (most_of old) (omega arith)))
+                (by_equal (count_of old) 1 (λ z. Shows s' id (noted (trace barrier_at kind.Exit old (exit_word old))
+                (outside (if z && true then Closing (round_of me.0.standing) false false None else Away) me.0)))
+                (λ one. gone S s' id me.0 (Closing (round_of me.0.standing) false false None) _ shows look (
+                  ap (λ (z : Bool). if z then Some id else S.closer) (eq-eqb (inside ps) 0 (omega arith)),
+                  own,
+                  (λ z. absurd cc),
+                  ap
+                      (λ (z : Party). z.status) look,
+                  λ n z. absurd cc,
+                ) (λ _ e. cc))
+                (λ some. gone S s' id me.0 Away _ shows look (
+                  ap (λ (z : Party). z.status) look,
+                  λ e. let a = ap (λ (z : Bool). if z then Some id else S.closer)
+                      (ne_eqb (inside ps) 0 (λ z. some (omega arith))) in cc,
+                ) (λ _ e. cc))),
             refl,
           )) in
-          moves D law t run s r barrier_at (exit_word old) id me (exiting old me.0) (Exit id ∷ []) at (refl, tt) (tt, tt) (refl, refl, refl) (ok, r.is_run) both.0 both.1
+          moves D law t run s r barrier_at (exit_word old) id me (exiting old me.0) (Exit id ∷ []) at (refl, tt) (tt, tt) (refl, refl, refl)
+          (ok, r.is_run) both.0 both.1
           (seat.1 ∙ sym (no_deed id (deeds id run))) refl (inl refl) refl both.2 (inl (omega arith))
 
   -- the same, the word being computed elsewhere
-  pub exits_to : (slots id : ℕ) (me : SeatOf D t) (old new : ℕ) → MayExit me.0 → new ≡ exit_word old → Exchange D t slots id me barrier_at old new (Exit id ∷ []) ExitTells
-  exits_to slots id me old new may is = subst (λ (z : ℕ). Exchange D t slots id me barrier_at old z (Exit id ∷ []) ExitTells) (sym is) (exits slots id me may.0.0 old may.0.1 may.0.2 may.0.3 may.1)
+  pub exits_to : (slots id : ℕ) (me : SeatOf D t) (old new : ℕ) → MayExit me.0 → new ≡ exit_word old → Exchange D t slots id me barrier_at old new
+      (Exit id ∷ []) ExitTells
+  exits_to slots id me old new may is = subst (λ (z : ℕ). Exchange D t slots id me barrier_at old z (Exit id ∷ []) ExitTells) (sym is)
+      (exits slots id me may.0.0 old may.0.1 may.0.2 may.0.3 may.1)
 
-  pub ends_round : (slots id : ℕ) (me : SeatOf D t) (q n : ℕ) (member : Bool) → me.0.standing ≡ Closing q member true (Some n) → Store D t slots id me barrier_at (turned_word n) (End id ∷ []) EndTells
-  ends_round slots id me q n member closes = stores D law t slots id me barrier_at (turned_word n) (End id ∷ []) ending (step slots barrier_at (turned_word n) 0 none) owed
+  pub ends_round : (slots id : ℕ) (me : SeatOf D t) (q n : ℕ) (member : Bool) → me.0.standing ≡ Closing q member true (Some n)
+      → Store D t slots id me barrier_at (turned_word n) (End id ∷ []) EndTells
+  ends_round slots id me q n member closes = stores D law t slots id me barrier_at (turned_word n) (End id ∷ []) ending
+      (step slots barrier_at (turned_word n) 0 none) owed
     where
-      over : (S : State) → Sound S → Shows S id me.0 → (S.closer ≡ Some id) → S.published ≡ None → S.round ≡ q → (m : Bool) → (party S id).status ≡ (if m then Arrived else Out) → let x = after_end me.0.leader (Closing q m true (Some n)) in Shows (after S (End id)) id (noted (trace barrier_at kind.End (turned_word n) (turned_word n)) (standing x.1 x.0 me.0))
+      over : (S : State) → Sound S → Shows S id me.0 → (S.closer ≡ Some id) → S.published ≡ None → S.round ≡ q → (m : Bool) → (party S id).status ≡
+          (if m then Arrived else Out) → let x = after_end me.0.leader (Closing q m true (Some n)) in
+          Shows (after S (End id)) id (noted (trace barrier_at kind.End (turned_word n) (turned_word n)) (standing x.1 x.0 me.0))
       over S h shows c hidden own true st = let look = look_wake S.parties id in record {
         stands = (ap (λ (z : Party). z.status) look ∙ ap waking st, omega arith);
         leads = shows.leads;
@@ -119,40 +169,58 @@ module _ {X N : Type 0} (D : Discipline X N) (law : Lawful D) (t : ℕ) where
       keeps_stored lead true = refl
       keeps_stored lead false = refl
 
-      owed : (run : List Event) (s : table.State X (View N)) → Before D law t slots id me barrier_at run s → Rule D t (End id ∷ run) (stepped s barrier_at (turned_word n) id me.1 (ending (turned_word n) me.0) keeps)
-      owed run s b = let r = b.rule in let at = b.at in let S : State = state run in let h = sound run r.is_run in let seat = r.seats id me.0 at in let shows = seat.0 in let st = subst (Stands S id) closes shows.stands in
-          let hidden = st.2 refl in let is : n ≡ word S = sym (st.4 n refl) in let f = word_fields S h n is in let fc = f.count in let fm = f.most in let fs = f.sense in let z = (h.gate.closing id st.0).0 in
+      owed : (run : List Event) (s : table.State X (View N)) → Before D law t slots id me barrier_at run s → Rule D t (End id ∷ run)
+          (stepped s barrier_at (turned_word n) id me.1 (ending (turned_word n) me.0) keeps)
+      owed run s b = let r = b.rule in let at = b.at in let S : State = state run in let h = sound run r.is_run in let seat = r.seats id me.0 at in
+          let shows = seat.0 in let st = subst (Stands S id) closes shows.stands in
+          let hidden = st.2 refl in let is : n ≡ word S = sym (st.4 n refl) in let f = word_fields S h n is in let fc = f.count in let fm = f.most in
+          let fs = f.sense in let z = (h.gate.closing id st.0).0 in
           let i = inside_wake S.parties in let m = members_wake S.parties in let few = h.gate.few in
-          moves D law t run s r barrier_at (turned_word n) id me (ending (turned_word n) me.0) (End id ∷ []) at (refl, tt) (tt, tt) (refl, refl, refl) ((st.0, hidden), r.is_run)
+          moves D law t run s r barrier_at (turned_word n) id me (ending (turned_word n) me.0) (End id ∷ []) at (refl, tt) (tt, tt) (refl, refl, refl)
+          ((st.0, hidden), r.is_run)
           (hidden_words t S (after S (End id)) s.words (turned_word n) r.words hidden hidden (omega arith))
-          (subst (λ (z : Standing). let x = after_end me.0.leader z in Shows (after S (End id)) id (noted (trace barrier_at kind.End (turned_word n) (turned_word n)) (standing x.1 x.0 me.0))) (sym closes) (over S h shows st.0 hidden st.1 member st.3))
-          (seat.1 ∙ sym (no_deed id (deeds id run))) refl (inl (ap (λ (z : Standing). (after_end me.0.leader z).0.stored) closes ∙ keeps_stored me.0.leader member)) refl refl (inl (omega arith))
+          (subst (λ (z : Standing). let x = after_end me.0.leader z in
+          Shows (after S (End id)) id (noted (trace barrier_at kind.End (turned_word n) (turned_word n)) (standing x.1 x.0 me.0))) (sym closes)
+          (over S h shows st.0 hidden st.1 member st.3))
+          (seat.1 ∙ sym (no_deed id (deeds id run))) refl (inl (ap (λ (z : Standing). (after_end me.0.leader z).0.stored) closes
+          ∙ keeps_stored me.0.leader member)) refl refl (inl (omega arith))
 
   -- what the leader has stored stands after a clear: for the numbers of the round that were not begun
-  still_stands : (S : State) → Sound S → (c : ℕ) → S.closer ≡ Some c → (ws : List ℕ) → Words t S ws → (u : View N) → Laid t S ws u → Laid t (after S (Clear c)) (set ws published_at 0) u
+  still_stands : (S : State) → Sound S → (c : ℕ) → S.closer ≡ Some c → (ws : List ℕ) → Words t S ws → (u : View N) → Laid t S ws u → Laid t (after S (Clear c))
+      (set ws published_at 0) u
   still_stands S h c closes ws w u l = record {
     stored = λ i x e. let old = l.stored i x e in let low = old.0 in (old.0, get_or-set_other ws published_at i 0 0 (λ z. omega arith) ∙ old.1);
     unstored = λ is. absurd (is refl);
     current = λ is. absurd (is refl);
-    left = λ q e _. stands_on t (S.rounds q) (S.rounds q) ws (set ws published_at 0) refl (λ _. refl) (λ i le. get_or-set_other ws published_at i 0 0 (λ z. omega arith)) (go q e S.published refl);
+    left = λ q e _. stands_on t (S.rounds q) (S.rounds q) ws (set ws published_at 0) refl (λ _. refl)
+        (λ i le. get_or-set_other ws published_at i 0 0 (λ z. omega arith)) (go q e S.published refl);
   }
     where
       go : (q : ℕ) → u.laid ≡ Some q → (o : Option ℕ) → S.published ≡ o → StandsFor t (S.rounds q) ws
       go q e None hidden = l.left q e hidden
-      go q e (Some n) shown = let here : q ≡ S.round = (let a = l.current (λ z. cc) in cc) in let jobs = (h.gate.shown n shown).0 in let k = w.counters n shown in
-          let quiet : (p j : ℕ) → (party S p).taken j ≡ false = (λ p j. (idle_out h.fate (now S) S.parties h.work p (none_in S.parties (h.gate.closing c closes).0 p)).0 j) in
+      go q e (Some n) shown = let here : q ≡ S.round = (let a = l.current (λ z. cc) in cc) in let jobs = (h.gate.shown n shown).0 in
+          let k = w.counters n shown in
+          let quiet : (p j : ℕ) → (party S p).taken j ≡ false = (λ p j.
+          (idle_out h.fate (now S) S.parties h.work p (none_in S.parties (h.gate.closing c closes).0 p)).0 j) in
           subst (λ (z : ℕ). StandsFor t (S.rounds z) ws) (sym here) (λ j. (
             (λ a. subst (λ (m : ℕ). IsLeft t ws m j) (sym jobs) (k.free j (a.0, a.1, λ p. quiet p j))),
-            (λ a. let is : Free S j = ⊎_elim (λ (z : (i : ℕ) × (i < t) × InRange ws i j). k.ranges z.0 j z.1 z.2) (λ (z : InRemainder ws n j). k.remainder j z) (subst (λ (m : ℕ). IsLeft t ws m j) jobs a) in (is.0, is.1)),
+            (λ a. let is : Free S j = ⊎_elim (λ (z : (i : ℕ) × (i < t) × InRange ws i j). k.ranges z.0 j z.1 z.2) (λ (z : InRemainder ws n j). k.remainder j z)
+                (subst (λ (m : ℕ). IsLeft t ws m j) jobs a) in (is.0, is.1)),
           ))
 
-  pub clears_round : (slots id : ℕ) (me : SeatOf D t) (q : ℕ) (member was : Bool) (read : Option ℕ) → me.0.standing ≡ Closing q member was read → Store D t slots id me published_at 0 (Clear id ∷ []) ClearTells
+  pub clears_round : (slots id : ℕ) (me : SeatOf D t) (q : ℕ) (member was : Bool) (read : Option ℕ) → me.0.standing ≡ Closing q member was read
+      → Store D t slots id me published_at 0 (Clear id ∷ []) ClearTells
   clears_round slots id me q member was read closes = stores D law t slots id me published_at 0 (Clear id ∷ []) clearing (step slots published_at 0 0 none) owed
     where
-      owed : (run : List Event) (s : table.State X (View N)) → Before D law t slots id me published_at run s → Rule D t (Clear id ∷ run) (stepped s published_at 0 id me.1 (clearing 0 me.0) keeps)
-      owed run s b = let r = b.rule in let at = b.at in let S : State = state run in let h = sound run r.is_run in let seat = r.seats id me.0 at in let shows = seat.0 in let st = subst (Stands S id) closes shows.stands in
-          let w : View N = clearing 0 me.0 in let is : with_clear me.0.standing ≡ Closing q member true read = ap with_clear closes in let wide = r.words.wide in let ok : IsRun (Clear id ∷ run) = (st.0, r.is_run) in
-          let q' = quiet_run (Clear id ∷ []) run (tt, tt) ok in let other : (i : ℕ) → i ≢ published_at → get_or (set s.words published_at 0) i 0 ≡ get_or s.words i 0 = (λ i n. get_or-set_other s.words published_at i 0 0 n) in
+      owed : (run : List Event) (s : table.State X (View N)) → Before D law t slots id me published_at run s → Rule D t (Clear id ∷ run)
+          (stepped s published_at 0 id me.1 (clearing 0 me.0) keeps)
+      owed run s b = let r = b.rule in let at = b.at in let S : State = state run in let h = sound run r.is_run in let seat = r.seats id me.0 at in
+          let shows = seat.0 in let st = subst (Stands S id) closes shows.stands in
+          let w : View N = clearing 0 me.0 in let is : with_clear me.0.standing ≡ Closing q member true read = ap with_clear closes in
+          let wide = r.words.wide in let ok : IsRun (Clear id ∷ run) = (st.0, r.is_run) in
+          let q' = quiet_run (Clear id ∷ []) run (tt, tt) ok in
+          let other : (i : ℕ) → i ≢ published_at → get_or (set s.words published_at 0) i 0 ≡ get_or s.words i 0 =
+          (λ i n. get_or-set_other s.words published_at i 0 0 n) in
           moves_with D t run s r published_at 0 id me w keeps (Clear id ∷ []) at (refl, tt) ok
           record {
             wide = length-set s.words published_at 0 ∙ r.words.wide;
@@ -171,7 +239,8 @@ module _ {X N : Type 0} (D : Discipline X N) (law : Lawful D) (t : ℕ) where
             inside = λ q' e. let no : Closing q member true read ≡ Inside q' = sym is ∙ e in absurd cc;
           }
           (seat.1 ∙ sym (no_deed id (deeds id run))) refl
-          (λ v e. ⊎_elim (λ (z : (0 ≡ id) × (w ≡ v)). let l = r.lays me.0 (subst (λ (a : ℕ). get_elem? s.views a ≡ some me.0) (sym z.0) at) in subst (Laid t (after S (Clear id)) (set s.words published_at 0)) z.1
+          (λ v e. ⊎_elim (λ (z : (0 ≡ id) × (w ≡ v)). let l = r.lays me.0 (subst (λ (a : ℕ). get_elem? s.views a ≡ some me.0) (sym z.0) at) in
+          subst (Laid t (after S (Clear id)) (set s.words published_at 0)) z.1
           (let k = still_stands S h id st.0 s.words r.words me.0 l in record { stored = k.stored; unstored = k.unstored; current = k.current; left = k.left }))
           (λ (z : (0 ≢ id) × (get_elem? s.views 0 ≡ some v)). still_stands S h id st.0 s.words r.words v (r.lays v z.1)) (at_set s.views id 0 w v e))
           (law.stays S (after S (Clear id)) s.homes s.views id me.0 w r.slots q' at (refl, refl, refl))

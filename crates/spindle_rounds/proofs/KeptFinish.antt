@@ -37,14 +37,20 @@ module _ (S : State) (id k : ℕ) (runs : (party S id).running ≡ Some k) where
   its_round = put_here S.rounds S.round counted ∙ ap (λ (o : Option ℕ). let z : Round = record (now S) { finished = (now S).finished ++ ended_by o } in z) runs
 
   pub taken_same : (a j : ℕ) → (party done a).taken j ≡ (party S a).taken j
-  taken_same a j = dite (ℕ_discrete a id) (λ e. subst (λ (z : ℕ). (party done z).taken j ≡ (party S z).taken j) (sym e) (ap (λ (z : Party). z.taken j) (look_here S.parties id idle)))
+  taken_same a j = dite (ℕ_discrete a id) (λ e. subst (λ (z : ℕ). (party done z).taken j ≡ (party S z).taken j) (sym e)
+      (ap (λ (z : Party). z.taken j) (look_here S.parties id idle)))
       (λ n. ap (λ (z : Party). z.taken j) (look_else S.parties id idle a n))
 
   free_on : (j : ℕ) → Free S j → Free done j
   free_on j f = (subst (λ (z : Round). j < z.jobs) (sym its_round) f.0, ap (λ (z : Round). times j z.begun) its_round ∙ f.1, λ a. taken_same a j ∙ f.2 a)
 
   pub free_back : (j : ℕ) → Free done j → Free S j
-  free_back j f = (subst (λ (z : Round). j < z.jobs) its_round f.0, sym (ap (λ (z : Round). times j z.begun) its_round) ∙ f.1, λ a. sym (taken_same a j) ∙ f.2 a)
+  free_back j f = (
+    subst (λ (z : Round). j < z.jobs) its_round f.0,
+    sym (ap (λ (z : Round). times j z.begun) its_round) ∙ f.1,
+    λ a. sym (taken_same a j)
+        ∙ f.2 a,
+  )
 
   -- to the slots, k finishes
   pub finishes_here : Finishes S done k
@@ -52,17 +58,25 @@ module _ (S : State) (id k : ℕ) (runs : (party S id).running ≡ Some k) where
     round = refl;
     published = refl;
     begun = λ q j. put_all (λ a z. times j z.begun ≡ times j (S.rounds a).begun) S.rounds S.round counted refl (λ a z. refl) q;
-    finished = λ q j o. put_all (λ a z. (a ≢ S.round) ⊎ (j ≢ k) → times j z.finished ≡ times j (S.rounds a).finished) S.rounds S.round counted (λ o. ⊎_elim (λ (z : S.round ≢ S.round). absurd (z refl)) (λ (z : j ≢ k). ap (times j) snoc ∙ times_else j (now S).finished k z) o) (λ a z o. refl) q o;
+    finished = λ q j o. put_all (λ a z. (a ≢ S.round) ⊎ (j ≢ k) → times j z.finished ≡ times j (S.rounds a).finished) S.rounds S.round counted
+        (λ o. ⊎_elim (λ (z : S.round ≢ S.round). absurd (z refl)) (λ (z : j ≢ k). ap (times j) snoc ∙ times_else j (now S).finished k z) o) (λ a z o. refl) q o;
     after = (let a = ap (λ (z : Round). times k z.finished) its_round in let b = times_same k (now S).finished in omega arith);
   }
 
   pub words_after : (t : ℕ) (ws : List ℕ) (x : ℕ) → Words t S ws → S.published ≢ None → x ≡ length (now S).finished + 1 → Words t done (set ws finished_at x)
-  words_after t ws x w shown is = let wide = w.wide in let other : (j : ℕ) → j ≢ finished_at → get_or (set ws finished_at x) j 0 ≡ get_or ws j 0 = (λ j n. get_or-set_other ws finished_at j x 0 n) in
+  words_after t ws x w shown is = let wide = w.wide in let other : (j : ℕ) → j ≢ finished_at → get_or (set ws finished_at x) j 0 ≡ get_or ws j 0 =
+      (λ j n. get_or-set_other ws finished_at j x 0 n) in
       changed_words t S done ws finished_at x (omega arith) w refl (ap (λ (z : Round). z.stoppable) its_round)
-      (word_stays S done refl (counts_stay weight_in refl (λ x y e. ap is_in e) S.parties id idle refl) (counts_stay weight_member refl (λ x y e. ap is_member e) S.parties id idle refl))
-      (λ _. get_or-set_same ws finished_at x 0 (omega arith) ∙ (is ∙ (sym (length-append (now S).finished (k ∷ [])) ∙ sym (ap (λ (z : Round). length z.finished) its_round))))
-      (λ on. let e = ap (λ (z : Round). z.stopped) its_round in ((λ yes. other stopped_at (λ z. omega arith) ∙ (w.stopped on).0 (sym e ∙ yes)), (λ no. other stopped_at (λ z. omega arith) ∙ (w.stopped on).1 (sym e ∙ no))))
-      (λ n e. counters_stay t S done ws (set ws finished_at x) n (other remainder_at (λ z. omega arith)) (λ i lt. other (range_at i) (λ z. omega arith)) free_on free_back (λ on. sym (ap (λ (z : Round). z.stopped) its_round) ∙ on) (w.counters n e))
+      (word_stays S done refl (counts_stay weight_in refl (λ x y e. ap is_in e) S.parties id idle refl)
+      (counts_stay weight_member refl (λ x y e. ap is_member e) S.parties id idle refl))
+      (λ _. get_or-set_same ws finished_at x 0 (omega arith) ∙ (is ∙ (sym (length-append (now S).finished (k ∷ [])) ∙ sym
+      (ap (λ (z : Round). length z.finished) its_round))))
+      (λ on. let e = ap (λ (z : Round). z.stopped) its_round in (
+        (λ yes. other stopped_at (λ z. omega arith) ∙ (w.stopped on).0 (sym e ∙ yes)),
+        (λ no. other stopped_at (λ z. omega arith) ∙ (w.stopped on).1 (sym e ∙ no)),
+      ))
+      (λ n e. counters_stay t S done ws (set ws finished_at x) n (other remainder_at (λ z. omega arith))
+      (λ i lt. other (range_at i) (λ z. omega arith)) free_on free_back (λ on. sym (ap (λ (z : Round). z.stopped) its_round) ∙ on) (w.counters n e))
 
 -- how often the numbers below n stand in a list
 abbrev spread : ℕ → List ℕ → ℕ
@@ -75,7 +89,8 @@ spread_past (suc n) x xs le = let a = spread_past n x xs (omega arith) in let b 
 
 spread_cons : (n x : ℕ) (xs : List ℕ) → x < n → spread n (x ∷ xs) ≡ suc (spread n xs)
 spread_cons zero x xs lt = absurd (omega arith)
-spread_cons (suc n) x xs lt = dite (ℕ_discrete x n) (λ e. let a = spread_past n x xs (omega arith) in let b : tick x n ≡ 1 = subst (λ (z : ℕ). tick z n ≡ 1) (sym e) (tick_same n) in omega arith)
+spread_cons (suc n) x xs lt = dite (ℕ_discrete x n) (λ e. let a = spread_past n x xs (omega arith) in
+    let b : tick x n ≡ 1 = subst (λ (z : ℕ). tick z n ≡ 1) (sym e) (tick_same n) in omega arith)
     (λ other. let a = spread_cons n x xs (omega arith) in let b = tick_else x n other in omega arith)
 
 spread_none : (n : ℕ) → 0 ≡ spread n []
@@ -84,7 +99,8 @@ spread_none (suc n) = let a = spread_none n in omega arith
 
 spread_all : (n : ℕ) (l : List ℕ) → ((k : ℕ) → 0 < times k l → k < n) → length l ≡ spread n l
 spread_all n [] below = spread_none n
-spread_all n (x ∷ xs) below = let b = tick_same x in let a = spread_all n xs (λ k lt. below k (omega arith)) in let c = spread_cons n x xs (below x (omega arith)) in omega arith
+spread_all n (x ∷ xs) below = let b = tick_same x in let a = spread_all n xs (λ k lt. below k (omega arith)) in
+    let c = spread_cons n x xs (below x (omega arith)) in omega arith
 
 spread_few : (n : ℕ) (l : List ℕ) → ((k : ℕ) → times k l ≤ 1) → spread n l ≤ n
 spread_few zero l once = omega arith
@@ -92,7 +108,8 @@ spread_few (suc n) l once = let a = spread_few n l once in let b = once n in ome
 
 -- no more numbers have finished than there are jobs
 few_finished : (S : State) → Sound S → (now S).jobs ≤ most_jobs → length (now S).finished < 18446744073709551615
-few_finished S h few = let l : List ℕ = (now S).finished in let n : ℕ = (now S).jobs in let a = spread_all n l (λ k lt. below k lt) in let b = spread_few n l (λ k. let e = h.work.finished k in let c = over_le (h.fate k) in omega arith) in omega arith
+few_finished S h few = let l : List ℕ = (now S).finished in let n : ℕ = (now S).jobs in let a = spread_all n l (λ k lt. below k lt) in
+    let b = spread_few n l (λ k. let e = h.work.finished k in let c = over_le (h.fate k) in omega arith) in omega arith
   where
     over_le : (f : Fate) → over f ≤ 1
     over_le Open = omega arith
@@ -112,33 +129,44 @@ few_jobs S h shown = go S.published shown (λ m e. let g = h.gate.shown m e in l
     go (Some m) n f = f m refl
 
 module _ {X N : Type 0} (D : Discipline X N) (law : Lawful D) (t : ℕ) where
-  pub finishes : (slots id : ℕ) (me : SeatOf D t) (k : ℕ) → MayFinish k me.0 → D.may_give k me.0.note me.1 → Addition D t slots id me finished_at (Finish id ∷ []) (FinishTells D)
+  pub finishes : (slots id : ℕ) (me : SeatOf D t) (k : ℕ) → MayFinish k me.0 → D.may_give k me.0.note me.1 → Addition D t slots id me finished_at
+      (Finish id ∷ []) (FinishTells D)
   finishes slots id me k may give = record {
-    shows = λ run s r _ at small. let x : ℕ = get_or s.words finished_at 0 in let S : State = state run in let h = sound run r.is_run in let shows = (r.seats id me.0 at).0 in let st = subst (Stands S id) may.0.1 shows.stands in let knows = shows.inside may.0.0 may.0.1 in
-        let runs : (party S id).running ≡ Some k = shows.claim ∙ may.1 in let S' : State = done S id k runs in let w : View N = finishing x me.0 in let ran = (h.work.fits id).ran k runs in
+    shows = λ run s r _ at small. let x : ℕ = get_or s.words finished_at 0 in let S : State = state run in let h = sound run r.is_run in
+        let shows = (r.seats id me.0 at).0 in let st = subst (Stands S id) may.0.1 shows.stands in let knows = shows.inside may.0.0 may.0.1 in
+        let runs : (party S id).running ≡ Some k = shows.claim ∙ may.1 in let S' : State = done S id k runs in let w : View N = finishing x me.0 in
+        let ran = (h.work.fits id).ran k runs in
         let below : k < (now S).jobs = h.work.below k (λ e. cc) in let shown : S.published ≢ None = some_published S h id st.0 (omega arith) in
-        let few = few_finished S h (few_jobs S h shown) in let is = r.words.finished shown in let new : (x + 1) % 18446744073709551616 ≡ length (now S).finished + 1 = omega arith in
-        let alone : (p : ℕ) (u : View N) → p ≢ id → get_elem? s.views p ≡ some u → u.claim ≢ Some k = (λ p u n e c. let a = (h.work.fits p).ran k ((r.seats p u e).0.claim ∙ c) in let b : Ran p ≡ Ran id = sym a ∙ ran in let d : p ≡ id = cc in n d) in
-        let g = law.finishes S S' s.homes s.views id me.0 w me.1 k r.slots (finishes_here S id k runs) at may.1 alone (refl, refl) give in let look = look_here S.parties id (idle S id k runs) in let round = its_round S id k runs in
+        let few = few_finished S h (few_jobs S h shown) in let is = r.words.finished shown in
+        let new : (x + 1) % 18446744073709551616 ≡ length (now S).finished + 1 = omega arith in
+        let alone : (p : ℕ) (u : View N) → p ≢ id → get_elem? s.views p ≡ some u → u.claim ≢ Some k =
+        (λ p u n e c. let a = (h.work.fits p).ran k ((r.seats p u e).0.claim ∙ c) in let b : Ran p ≡ Ran id = sym a ∙ ran in let d : p ≡ id = cc in n d) in
+        let g = law.finishes S S' s.homes s.views id me.0 w me.1 k r.slots (finishes_here S id k runs) at may.1 alone (refl, refl) give in
+        let look = look_here S.parties id (idle S id k runs) in let round = its_round S id k runs in
         let own : S.round ≡ round_of me.0.standing = st.1 ∙ sym (ap round_of may.0.1) in (
           w,
           D.gives,
           g.0,
-          moves_with D t run s r finished_at ((x + 1) % 18446744073709551616) id me w D.gives (Finish id ∷ []) at (refl, tt) ((k, runs), r.is_run) (words_after S id k runs t s.words ((x + 1) % 18446744073709551616) r.words shown new)
+          moves_with D t run s r finished_at ((x + 1) % 18446744073709551616) id me w D.gives (Finish id ∷ []) at (refl, tt) ((k, runs), r.is_run)
+              (words_after S id k runs t s.words ((x + 1) % 18446744073709551616) r.words shown new)
               record {
                 stands = subst (Stands S' id) (sym may.0.1) (ap (λ (z : Party). z.status) look ∙ st.0, st.1);
                 leads = shows.leads;
                 claim = ap (λ (z : Party). z.running) look;
-                share = λ j. subst (λ (z : Bool). ((z ≡ true) → (me.0.from ≤ j) × (j < me.0.to)) × ((me.0.from ≤ j) × (j < me.0.to) → z ≡ true)) (sym (taken_same S id k runs id j)) (shows.share j);
+                share = λ j. subst (λ (z : Bool). ((z ≡ true) → (me.0.from ≤ j) × (j < me.0.to)) × ((me.0.from ≤ j) × (j < me.0.to) → z ≡ true))
+                    (sym (taken_same S id k runs id j)) (shows.share j);
                 inside = λ a e. record {
                   number = λ m e. let old = knows.number m e in (old.0, ap (λ (z : Round). z.stoppable) round ∙ old.1);
                   unpublished = knows.unpublished;
                   seen = ap (λ (z : Round). z.seen id) round ∙ knows.seen;
-                  emptied = λ m j e l. ⊎_elim (λ (u : (a : ℕ) → Free S a → home_of me.0.threads m a ≡ j → ⊥). inl (λ a f. u a (free_back S id k runs a f))) (λ u. inr (ap (λ (z : Round). z.stopped) round ∙ u)) (knows.emptied m j e l);
+                  emptied = λ m j e l. ⊎_elim (λ (u : (a : ℕ) → Free S a → home_of me.0.threads m a ≡ j → ⊥). inl (λ a f. u a (free_back S id k runs a f)))
+                      (λ u. inr (ap (λ (z : Round). z.stopped) round ∙ u)) (knows.emptied m j e l);
                   unread = knows.unread;
                 };
               }
-              ((λ z. Ended (sym own z) (number_or (may.1 z)) ∷ (r.seats id me.0 at).1 z) ∙ sym (ap (λ (b : Bool). (if b then ended_in S.round (party S id).running else []) ++ deeds id run) (eq-eqb id id refl) ∙ ap (λ (o : Option ℕ). ended_in S.round o ++ deeds id run) runs)) refl
+              ((λ z. Ended (sym own z) (number_or (may.1 z)) ∷ (r.seats id me.0 at).1 z) ∙ sym
+              (ap (λ (b : Bool). (if b then ended_in S.round (party S id).running else []) ++ deeds id run) (eq-eqb id id refl) ∙ ap
+              (λ (o : Option ℕ). ended_in S.round o ++ deeds id run) runs)) refl
               (still_laid D t run s r 16 ((x + 1) % 18446744073709551616) id me w (Finish id ∷ []) at (inr refl) refl refl (λ _. refl) (inr shown))
               g.1,
           (refl, refl),

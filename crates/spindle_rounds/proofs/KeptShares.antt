@@ -45,67 +45,93 @@ module _ (S : State) (h : Sound S) (id k : ℕ) (held : (party S id).taken k ≡
 
   taken_else : (j a : ℕ) → j ≢ k → (party begun a).taken j ≡ (party S a).taken j
   taken_else j a n = dite (ℕ_discrete a id)
-      (λ e. subst (λ (z : ℕ). (party begun z).taken j ≡ (party S z).taken j) (sym e) (ap (λ (z : Party). z.taken j) its_party ∙ put_else (party S id).taken k false j n))
+      (λ e. subst (λ (z : ℕ). (party begun z).taken j ≡ (party S z).taken j) (sym e)
+      (ap (λ (z : Party). z.taken j) its_party ∙ put_else (party S id).taken k false j n))
       (λ m. ap (λ (z : Party). z.taken j) (look_else S.parties id without a m))
 
   free_on : (j : ℕ) → Free S j → Free begun j
-  free_on j f = let n : j ≢ k = (λ e. let a = ap (party S id).taken e in let b = f.2 id in cc) in
-      (subst (λ (z : Round). j < z.jobs) (sym its_round) f.0, ap (λ (z : Round). times j z.begun) its_round ∙ (times_else j (now S).begun k n ∙ f.1), λ a. taken_else j a n ∙ f.2 a)
+  free_on j f = let n : j ≢ k = (λ e. let a = ap (party S id).taken e in let b = f.2 id in cc) in (
+    subst (λ (z : Round). j < z.jobs) (sym its_round) f.0,
+    ap (λ (z : Round). times j z.begun) its_round ∙ (times_else j (now S).begun k n ∙ f.1),
+    λ a. taken_else j a n ∙ f.2 a,
+  )
 
   pub free_back : (j : ℕ) → Free begun j → Free S j
-  free_back j f = let c = ap (λ (z : Round). times j z.begun) its_round in let n : j ≢ k = (λ e. let a = times_same k (now S).begun in let b = ap (λ (z : ℕ). times z ((now S).begun ++ k ∷ [])) e in let d = f.1 in absurd (omega arith)) in
+  free_back j f = let c = ap (λ (z : Round). times j z.begun) its_round in
+      let n : j ≢ k = (λ e. let a = times_same k (now S).begun in let b = ap (λ (z : ℕ). times z ((now S).begun ++ k ∷ [])) e in let d = f.1 in
+      absurd (omega arith)) in
       (subst (λ (z : Round). j < z.jobs) its_round f.0, sym (times_else j (now S).begun k n) ∙ (sym c ∙ f.1), λ a. sym (taken_else j a n) ∙ f.2 a)
 
   pub words_after : (t i x : ℕ) (ws : List ℕ) → range_at t ≤ i → Words t S ws → Words t begun (set ws i x)
-  words_after t i x ws high w = let other : (j : ℕ) → j < range_at t → get_or (set ws i x) j 0 ≡ get_or ws j 0 = (λ j lt. get_or-set_other ws i j x 0 (λ e. omega arith)) in
+  words_after t i x ws high w = let other : (j : ℕ) → j < range_at t → get_or (set ws i x) j 0 ≡ get_or ws j 0 =
+      (λ j lt. get_or-set_other ws i j x 0 (λ e. omega arith)) in
       changed_words t S begun ws i x (omega arith) w refl (ap (λ (z : Round). z.stoppable) its_round)
-      (word_stays S begun refl (counts_stay weight_in refl (λ x y e. ap is_in e) S.parties id without refl) (counts_stay weight_member refl (λ x y e. ap is_member e) S.parties id without refl))
+      (word_stays S begun refl (counts_stay weight_in refl (λ x y e. ap is_in e) S.parties id without refl)
+      (counts_stay weight_member refl (λ x y e. ap is_member e) S.parties id without refl))
       (λ is. other finished_at (omega arith) ∙ (w.finished is ∙ sym (ap (λ (z : Round). length z.finished) its_round)))
-      (λ is. let e = ap (λ (z : Round). z.stopped) its_round in ((λ on. other stopped_at (omega arith) ∙ (w.stopped is).0 (sym e ∙ on)), (λ on. other stopped_at (omega arith) ∙ (w.stopped is).1 (sym e ∙ on))))
-      (λ n e. counters_stay t S begun ws (set ws i x) n (other remainder_at (omega arith)) (λ j lt. other (range_at j) (omega arith)) free_on free_back (λ on. sym (ap (λ (z : Round). z.stopped) its_round) ∙ on) (w.counters n e))
+      (λ is. let e = ap (λ (z : Round). z.stopped) its_round in
+      ((λ on. other stopped_at (omega arith) ∙ (w.stopped is).0 (sym e ∙ on)), (λ on. other stopped_at (omega arith) ∙ (w.stopped is).1 (sym e ∙ on))))
+      (λ n e. counters_stay t S begun ws (set ws i x) n (other remainder_at (omega arith)) (λ j lt. other (range_at j) (omega arith)) free_on free_back
+      (λ on. sym (ap (λ (z : Round). z.stopped) its_round) ∙ on) (w.counters n e))
 
   -- to the slots, k begins
   pub begins_here : (n : ℕ) → S.published ≡ Some n → Begins S begun k
-  begins_here n shown = let R : Round = record (now S) { begun = (now S).begun ++ k ∷ [] } in let jobs = (h.gate.shown n shown).0 in let below = in_round in let not_begun = unbegun in record {
-    round = refl;
-    published = refl;
-    begun = λ q j o. put_all (λ a y. (a ≢ S.round) ⊎ (j ≢ k) → times j y.begun ≡ times j (S.rounds a).begun) S.rounds S.round R (λ o. ⊎_elim (λ (z : S.round ≢ S.round). absurd (z refl)) (λ (z : j ≢ k). times_else j (now S).begun k z) o) (λ a z o. refl) q o;
-    finished = λ q j. put_all (λ a y. times j y.finished ≡ times j (S.rounds a).finished) S.rounds S.round R refl (λ a z. refl) q;
-    before = unbegun;
-    after = (let a = ap (λ (z : Round). times k z.begun) its_round in let b = times_same k (now S).begun in omega arith);
-    unfinished = h.work.finished k ∙ ap over mine;
-    shown = (n, shown, omega arith);
-  }
+  begins_here n shown = let R : Round = record (now S) { begun = (now S).begun ++ k ∷ [] } in let jobs = (h.gate.shown n shown).0 in let below = in_round in
+      let not_begun = unbegun in record {
+        round = refl;
+        published = refl;
+        begun = λ q j o. put_all (λ a y. (a ≢ S.round) ⊎ (j ≢ k) → times j y.begun ≡ times j (S.rounds a).begun) S.rounds S.round R
+            (λ o. ⊎_elim (λ (z : S.round ≢ S.round). absurd (z refl)) (λ (z : j ≢ k). times_else j (now S).begun k z) o) (λ a z o. refl) q o;
+        finished = λ q j. put_all (λ a y. times j y.finished ≡ times j (S.rounds a).finished) S.rounds S.round R refl (λ a z. refl) q;
+        before = unbegun;
+        after = (let a = ap (λ (z : Round). times k z.begun) its_round in let b = times_same k (now S).begun in omega arith);
+        unfinished = h.work.finished k ∙ ap over mine;
+        shown = (n, shown, omega arith);
+      }
 
 module _ {X N : Type 0} (D : Discipline X N) (law : Lawful D) (t : ℕ) where
-  pub shares : (slots id : ℕ) (me : SeatOf D t) (i new : ℕ) → t ≤ i → MayBegin me.0 → me.0.from < me.0.to → Store D t slots id me (range_at i) new (Begin id me.0.from ∷ []) (ShareTells D)
+  pub shares : (slots id : ℕ) (me : SeatOf D t) (i new : ℕ) → t ≤ i → MayBegin me.0 → me.0.from < me.0.to → Store D t slots id me (range_at i) new
+      (Begin id me.0.from ∷ []) (ShareTells D)
   shares slots id me i new high may some = record {
-    shows = λ run s r _ at _. let word_at : ℕ = range_at i in let q = may.0.0 in let k : ℕ = me.0.from in let S : State = state run in let h = sound run r.is_run in let seat = r.seats id me.0 at in let shows = seat.0 in
-        let st = subst (Stands S id) may.0.1 shows.stands in let knows = shows.inside q may.0.1 in let held : (party S id).taken k ≡ true = (shows.share k).1 (omega arith, some) in let S' : State = begun S h id k held in
-        let is_shown : S.published ≢ None = some_published S h id st.0 (let a = in_round S h id k held in omega arith) in let n = some_of S.published is_shown in let w : Option N → View N = (λ x. sharing word_at new x me.0) in
-        let b = law.begins S S' s.homes s.views id me.0 me.1 k w r.slots (begins_here S h id k held n.0 n.1) at (λ o. (refl, refl, refl)) in let last = its_party S h id k held in let round = its_round S h id k held in
+    shows = λ run s r _ at _. let word_at : ℕ = range_at i in let q = may.0.0 in let k : ℕ = me.0.from in let S : State = state run in
+        let h = sound run r.is_run in let seat = r.seats id me.0 at in let shows = seat.0 in
+        let st = subst (Stands S id) may.0.1 shows.stands in let knows = shows.inside q may.0.1 in
+        let held : (party S id).taken k ≡ true = (shows.share k).1 (omega arith, some) in let S' : State = begun S h id k held in
+        let is_shown : S.published ≢ None = some_published S h id st.0 (let a = in_round S h id k held in omega arith) in
+        let n = some_of S.published is_shown in let w : Option N → View N = (λ x. sharing word_at new x me.0) in
+        let b = law.begins S S' s.homes s.views id me.0 me.1 k w r.slots (begins_here S h id k held n.0 n.1) at (λ o. (refl, refl, refl)) in
+        let last = its_party S h id k held in let round = its_round S h id k held in
         let own : S.round ≡ round_of me.0.standing = st.1 ∙ sym (ap round_of may.0.1) in (
           w b.0,
           b.1,
           b.2,
-          moves_with D t run s r word_at new id me (w b.0) b.1 (Begin id k ∷ []) at (refl, tt) ((st.0, knows.seen ∙ may.2, shows.claim ∙ may.1, held), r.is_run) (words_after S h id k held t word_at new s.words (omega arith) r.words)
+          moves_with D t run s r word_at new id me (w b.0) b.1 (Begin id k ∷ []) at (refl, tt) ((st.0, knows.seen ∙ may.2, shows.claim ∙ may.1, held), r.is_run)
+              (words_after S h id k held t word_at new s.words (omega arith) r.words)
               record {
                 stands = subst (Stands S' id) (sym may.0.1) (ap (λ (z : Party). z.status) last ∙ st.0, st.1);
                 leads = shows.leads;
                 claim = ap (λ (z : Party). z.running) last;
-                share = λ j. let old = shows.share j in subst (λ (f : ℕ → Bool). ((f j ≡ true) → (k + 1 ≤ j) × (j < me.0.to)) × ((k + 1 ≤ j) × (j < me.0.to) → f j ≡ true)) (sym (ap (λ (z : Party). z.taken) last))
+                share = λ j. let old = shows.share j in subst (λ (f : ℕ → Bool). ((f j ≡ true) → (k + 1 ≤ j) × (j < me.0.to)) ×
+                    ((k + 1 ≤ j) × (j < me.0.to) → f j ≡ true)) (sym (ap (λ (z : Party). z.taken) last))
                     (dite (ℕ_discrete j k)
-                    (λ e. ((λ on. let a = put_here (party S id).taken k false in let b = ap (put (party S id).taken k false) e in absurd cc), (λ z. let z₀ = z.0 in absurd (omega arith))))
-                    (λ apart. let same = put_else (party S id).taken k false j apart in ((λ on. let z = old.0 (sym same ∙ on) in let z₀ = z.0 in (omega arith, z.1)), (λ z. let z₀ = z.0 in same ∙ old.1 (omega arith, z.1)))));
+                    (λ e. (
+                      (λ on. let a = put_here (party S id).taken k false in let b = ap (put (party S id).taken k false) e in
+                          absurd cc),
+                      (λ z. let z₀ = z.0 in absurd (omega arith)),
+                    ))
+                    (λ apart. let same = put_else (party S id).taken k false j apart in
+                    ((λ on. let z = old.0 (sym same ∙ on) in let z₀ = z.0 in (omega arith, z.1)), (λ z. let z₀ = z.0 in same ∙ old.1 (omega arith, z.1)))));
                 inside = λ a e. record {
                   number = λ m e. let old = knows.number m e in (old.0, ap (λ (z : Round). z.stoppable) round ∙ old.1);
                   unpublished = knows.unpublished;
                   seen = ap (λ (z : Round). z.seen id) round ∙ knows.seen;
-                  emptied = λ m j e l. ⊎_elim (λ (u : (a : ℕ) → Free S a → home_of me.0.threads m a ≡ j → ⊥). inl (λ a f. u a (free_back S h id k held a f))) (λ u. inr (ap (λ (z : Round). z.stopped) round ∙ u)) (knows.emptied m j e l);
+                  emptied = λ m j e l. ⊎_elim (λ (u : (a : ℕ) → Free S a → home_of me.0.threads m a ≡ j → ⊥). inl (λ a f. u a (free_back S h id k held a f)))
+                      (λ u. inr (ap (λ (z : Round). z.stopped) round ∙ u)) (knows.emptied m j e l);
                   unread = knows.unread;
                 };
               }
-              ((λ z. Began (sym own z) k ∷ seat.1 z) ∙ sym (ap (λ (b : Bool). (if b then Began S.round k ∷ [] else []) ++ deeds id run) (eq-eqb id id refl))) refl
+              ((λ z. Began (sym own z) k ∷ seat.1 z) ∙ sym (ap (λ (b : Bool). (if b then Began S.round k ∷ [] else []) ++ deeds id run)
+              (eq-eqb id id refl))) refl
               (still_laid D t run s r word_at new id me (w b.0) (Begin id k ∷ []) at (inr refl) refl refl (λ _. refl) (inr is_shown)) b.3,
           (b.0, refl, b.4),
         );

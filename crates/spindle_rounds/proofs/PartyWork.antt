@@ -31,7 +31,8 @@ module _ {T S N : Type 0} (round : Round T S N) (task : Task) where
   went_then s t u f g = record { same = (g.same.0 ∙ f.same.0, g.same.1 ∙ f.same.1); on = onward_then s.me.0 t.me.0 u.me.0 f.on g.on; at = g.at }
 
   -- a step after which only in a round that may stop more was seen
-  pub went_step : (s t : Seat S (View N)) → IsAtTask round task s → IsSameSeat s t → Onward s.me.0 t.me.0 → (s.me.0.known.may_stop ≡ false → SeesAsBefore s.me.0 t.me.0) → WentOn round task s t
+  pub went_step : (s t : Seat S (View N)) → IsAtTask round task s → IsSameSeat s t → Onward s.me.0 t.me.0 →
+      (s.me.0.known.may_stop ≡ false → SeesAsBefore s.me.0 t.me.0) → WentOn round task s t
   went_step s t at same step sees = record {
     same = same;
     on = step;
@@ -43,7 +44,8 @@ module _ {T S N : Type 0} (round : Round T S N) (task : Task) where
   }
 
   -- and one more such step
-  pub went_more : (s t u : Seat S (View N)) → WentOn round task s t → IsSameSeat t u → Onward t.me.0 u.me.0 → (t.me.0.known.may_stop ≡ false → SeesAsBefore t.me.0 u.me.0) → WentOn round task s u
+  pub went_more : (s t u : Seat S (View N)) → WentOn round task s t → IsSameSeat t u → Onward t.me.0 u.me.0 →
+      (t.me.0.known.may_stop ≡ false → SeesAsBefore t.me.0 u.me.0) → WentOn round task s u
   went_more s t u went same step sees = went_then s t u went (went_step t u went.at same step sees)
 
   -- who has seen no stop may claim
@@ -51,17 +53,21 @@ module _ {T S N : Type 0} (round : Round T S N) (task : Task) where
   claims_at s at idle unseen = may_claim task.jobs task.may_stop s.me.0 at.on.0 idle.0 idle.1 unseen
 
   -- who has seen the stop is done, and so is who has read all ranges and the remainder as empty
-  pub done_at : (s t : Seat S (View N)) → WentOn round task s t → HasEmptied Longest s.me.0 → (stopped : Bool) → MatchBool stopped (t.me.0.known.seen_stop ≡ true) (HasEmptied Remainder t.me.0) → IsDone t.me.0
+  pub done_at : (s t : Seat S (View N)) → WentOn round task s t → HasEmptied Longest s.me.0 → (stopped : Bool) → MatchBool stopped
+      (t.me.0.known.seen_stop ≡ true) (HasEmptied Remainder t.me.0) → IsDone t.me.0
   done_at s t went searched true seen = inr (inl seen)
-  done_at s t went searched false rest = all_empty task.jobs task.may_stop t.me.0 went.at.on.0 (λ i lt. went.on.emptied i (searched i (let same = went.on.threads in omega arith))) rest
+  done_at s t went searched false rest = all_empty task.jobs task.may_stop t.me.0 went.at.on.0
+      (λ i lt. went.on.emptied i (searched i (let same = went.on.threads in omega arith))) rest
 
   -- no step was made
   pub went_still : (s t u : Seat S (View N)) → WentOn round task s t → IsSameSeat t u → u.me ≡ t.me → WentOn round task s u
-  went_still s t u went same is = went_more s t u went same (subst (λ m. Onward t.me.0 m.0) (sym is) (onward_same t.me.0)) (λ _. ap (λ m. m.0.known.seen_stop) is)
+  went_still s t u went same is = went_more s t u went same (subst (λ m. Onward t.me.0 m.0) (sym is) (onward_same t.me.0))
+      (λ _. ap (λ m. m.0.known.seen_stop) is)
 
 module _ {S N : Type 0} where
   -- the next number of a share has taken its slot
-  pub share_taken : (D : Discipline S N) (Held : List (ℕ × S) → Type 0) (m w : Me S (View N)) (i k : ℕ) (share left : Span) → SharedBy D i share (Some k) left m w → Held m.1 → HasTaken D Held k w
+  pub share_taken : (D : Discipline S N) (Held : List (ℕ × S) → Type 0) (m w : Me S (View N)) (i k : ℕ) (share left : Span) → SharedBy D i share
+      (Some k) left m w → Held m.1 → HasTaken D Held k w
   share_taken D Held m w i k share left a held = (m.1, held, subst (λ x. D.took k m.1 x w.1) (sym (ap (λ v. v.note) a.1)) a.2)
 
   -- a share that goes back moves no slot

@@ -81,11 +81,13 @@ module _ {N : Type 0} where
   -- once the first n slots are out
   out_below : (n k : ℕ) (b : List (ℕ × Spot N)) → spot_at b k ≡ Out → spot_at (board_out n b) k ≡ Out
   out_below zero k b e = e
-  out_below (suc n) k b e = out_below n k ((n, Out) ∷ b) (dite (ℕ_discrete k n) (λ z. subst (λ (j : ℕ). spot_at ((n, Out) ∷ b) j ≡ Out) (sym z) (spot_here b n Out)) (λ other. spot_else b n k Out other ∙ e))
+  out_below (suc n) k b e = out_below n k ((n, Out) ∷ b) (dite (ℕ_discrete k n)
+      (λ z. subst (λ (j : ℕ). spot_at ((n, Out) ∷ b) j ≡ Out) (sym z) (spot_here b n Out)) (λ other. spot_else b n k Out other ∙ e))
 
   pub all_out : (n k : ℕ) (b : List (ℕ × Spot N)) → k < n → spot_at (board_out n b) k ≡ Out
   all_out zero k b lt = absurd (omega arith)
-  all_out (suc n) k b lt = dite (ℕ_discrete k n) (λ z. out_below n k ((n, Out) ∷ b) (subst (λ (j : ℕ). spot_at ((n, Out) ∷ b) j ≡ Out) (sym z) (spot_here b n Out)))
+  all_out (suc n) k b lt = dite (ℕ_discrete k n) (λ z. out_below n k ((n, Out) ∷ b)
+      (subst (λ (j : ℕ). spot_at ((n, Out) ∷ b) j ≡ Out) (sym z) (spot_here b n Out)))
       (λ other. all_out n k ((n, Out) ∷ b) (omega arith))
 
 module _ {P A : Type 0} (answers : P → A → Type 0) where
@@ -111,7 +113,8 @@ module _ {P A : Type 0} (answers : P → A → Type 0) where
   -- what stands before them is as it was
   back_before : (q i j : ℕ) (ys : List Slot) (b : Board) → j < i → spot_at (back q i ys b) j ≡ spot_at b j
   back_before q i j [] b lt = refl
-  back_before q i j (y ∷ ys) b lt = back_before q (i + 1) j ys ((i, spot_with answers q y) ∷ b) (omega arith) ∙ spot_else b i j (spot_with answers q y) (λ e. omega arith)
+  back_before q i j (y ∷ ys) b lt = back_before q (i + 1) j ys ((i, spot_with answers q y) ∷ b) (omega arith) ∙ spot_else b i j (spot_with answers q y)
+      (λ e. omega arith)
 
   back_at : (q i k : ℕ) (ys : List Slot) (b : Board) (y : Slot) → get_elem? ys k ≡ some y → spot_at (back q i ys b) (i + k) ≡ spot_with answers q y
   back_at q i k [] b y e = absurd (some-ne-none y (sym e))
@@ -128,7 +131,8 @@ module _ {P A : Type 0} (answers : P → A → Type 0) where
   -- after the round that the leader published the slots below its number hold answers to its pieces
   pub all_answered : (slots found n r : ℕ) (m w : Me Slot (View P)) → TakenOut (pieces answers) slots found m w → n ≤ slots → HasPublished m.0 r n
       → AreFilled answers r n m.0.board → AreAnswered answers n m.0.board w.1
-  all_answered slots found n r m w t few shown filled k lt = let at : 0 + k ≡ k = omega arith in let ys : List Slot = t.0 in let many = t.1 in let y = there ys k (omega arith) in
+  all_answered slots found n r m w t few shown filled k lt = let at : 0 + k ≡ k = omega arith in let ys : List Slot = t.0 in let many = t.1 in
+      let y = there ys k (omega arith) in
       let put = filled k lt in let x : P = put.0 in
       let d = subst (λ (p : Spot P). Answered answers p y.0) put.1
       ((t.3 k y.0 y.1).1 (subst (λ (p : Spot P). IsSure m.0 k p) (sym put.1) (n, lt, shown))) in (

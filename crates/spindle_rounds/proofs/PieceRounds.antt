@@ -58,7 +58,8 @@ module _ {P A : Type 0} (answers : P → A → Type 0) where
               p.2 ∙ (r.2 ∙ ap (λ (z : HandOf). z.0.claim) gave),
             );
             published = let q : h.0 ≡ round_of m.0.standing = sym (ap round_of h.1) in
-                p.4 ∙ ((λ i. Showed (q i) n false ∷ r.1 i) ∙ ap (λ (l : List Deed). Showed (round_of m.0.standing) n false ∷ l) (ap (λ (z : HandOf). published_of z.0.trail) gave));
+                p.4 ∙ ((λ i. Showed (q i) n false ∷ r.1 i) ∙ ap (λ (l : List Deed). Showed (round_of m.0.standing) n false ∷ l)
+                (ap (λ (z : HandOf). published_of z.0.trail) gave));
           }
 
   module _ (slots n : ℕ) (m u : HandOf) (a : AwaitsAnswers answers slots n m) (next : InNext m u) where

@@ -7,9 +7,11 @@ use Rattle.spindle_rounds.specs.RoundRule.{Counters, Words, number_of}
 use Rattle.spindle_rounds.specs.Words.{barrier_at, published_at, finished_at, stopped_at}
 
 -- the word i becomes x, while the number published and the barrier word stay
-pub changed_words : (t : ℕ) (S S' : State) (ws : List ℕ) (i x : ℕ) → finished_at ≤ i → Words t S ws → S'.published ≡ S.published → (now S').stoppable ≡ (now S).stoppable → word S ≡ word S'
+pub changed_words : (t : ℕ) (S S' : State) (ws : List ℕ) (i x : ℕ) → finished_at ≤ i → Words t S ws → S'.published ≡ S.published → (now S').stoppable ≡
+    (now S).stoppable → word S ≡ word S'
     → (S.published ≢ None → get_or (set ws i x) finished_at 0 ≡ length (now S').finished)
-    → (S.published ≢ None → ((now S').stopped ≡ true → get_or (set ws i x) stopped_at 0 ≡ 1) × ((now S').stopped ≡ false → get_or (set ws i x) stopped_at 0 ≡ 0))
+    → (S.published ≢ None → ((now S').stopped ≡ true → get_or (set ws i x) stopped_at 0 ≡ 1) ×
+    ((now S').stopped ≡ false → get_or (set ws i x) stopped_at 0 ≡ 0))
     → ((n : ℕ) → S.published ≡ Some n → Counters t S' (set ws i x) n) → Words t S' (set ws i x)
 changed_words t S S' ws i x high w shown may same_word finished stopped counters = record {
   wide = length-set ws i x ∙ w.wide;

@@ -26,7 +26,18 @@ use Rattle.spindle_rounds.proofs.RoundFilled.{filled_stands, filled_quiet}
 -- Going on.
 
 pub onward_same : {N : Type 0} (v : View N) → Onward v v
-onward_same v = record { leader = refl; threads = refl; standing = refl; number = refl; may_stop = refl; unpublished = refl; emptied = λ i l. l; laid = refl; board = refl; published = refl }
+onward_same v = record {
+  leader = refl;
+  threads = refl;
+  standing = refl;
+  number = refl;
+  may_stop = refl;
+  unpublished = refl;
+  emptied = λ i l. l;
+  laid = refl;
+  board = refl;
+  published = refl;
+}
 
 pub onward_then : {N : Type 0} (u v w : View N) → Onward u v → Onward v w → Onward u w
 onward_then u v w a b = record {
@@ -66,59 +77,188 @@ read_empty x le = by_less (start_of x) (end_of x) (λ b. (if b then false else t
 
 module _ {N : Type 0} where
   pub searched_on : (i x : ℕ) (v : View N) → Onward v (searching i x v)
-  searched_on i x v = record { leader = refl; threads = refl; standing = refl; number = refl; may_stop = refl; unpublished = refl; emptied = λ j l. more_listed v.known.number (if nat_lt (start_of x) (end_of x) then false else true) i j v.known.emptied l; laid = refl; board = refl; published = refl }
+  searched_on i x v = record {
+    leader = refl;
+    threads = refl;
+    standing = refl;
+    number = refl;
+    may_stop = refl;
+    unpublished = refl;
+    emptied = λ j l. more_listed v.known.number (if nat_lt (start_of x) (end_of x) then false else true) i j v.known.emptied l;
+    laid = refl;
+    board = refl;
+    published = refl;
+  }
 
   -- an empty range is listed
   pub searched_empty : (n i x : ℕ) (v : View N) → v.known.number ≡ Some n → end_of x ≤ start_of x → IsListed i (searching i x v).known.emptied
-  searched_empty n i x v known le = now_listed v.known.number n i (if nat_lt (start_of x) (end_of x) then false else true) v.known.emptied known (read_empty x le)
+  searched_empty n i x v known le = now_listed v.known.number n i (if nat_lt (start_of x) (end_of x) then false else true) v.known.emptied known
+      (read_empty x le)
 
   pub rest_on : (x : ℕ) (v : View N) → Onward v (reading_remainder x v)
-  rest_on x v = record { leader = refl; threads = refl; standing = refl; number = refl; may_stop = refl; unpublished = refl; emptied = λ j l. more_listed v.known.number (x == 0) v.threads j v.known.emptied l; laid = refl; board = refl; published = refl }
+  rest_on x v = record {
+    leader = refl;
+    threads = refl;
+    standing = refl;
+    number = refl;
+    may_stop = refl;
+    unpublished = refl;
+    emptied = λ j l. more_listed v.known.number (x == 0) v.threads j v.known.emptied l;
+    laid = refl;
+    board = refl;
+    published = refl;
+  }
 
   -- and an empty remainder
   pub rest_empty : (n x : ℕ) (v : View N) → v.known.number ≡ Some n → x ≡ 0 → IsListed v.threads (reading_remainder x v).known.emptied
   rest_empty n x v known zero_read = now_listed v.known.number n v.threads (x == 0) v.known.emptied known (ap (λ (z : ℕ). z == 0) zero_read)
 
-  pub all_searched_on : (i : ℕ) (xs : List ℕ) (v : View N) → Onward v (searching_all i xs v) × SeesAsBefore v (searching_all i xs v) × SharesAsBefore v (searching_all i xs v) × ((searching_all i xs v).claim ≡ v.claim)
+  pub all_searched_on : (i : ℕ) (xs : List ℕ) (v : View N) → Onward v (searching_all i xs v) × SeesAsBefore v (searching_all i xs v) × SharesAsBefore v
+      (searching_all i xs v) × ((searching_all i xs v).claim ≡ v.claim)
   all_searched_on i [] v = (onward_same v, refl, (refl, refl), refl)
-  all_searched_on i (x ∷ xs) v = let r = all_searched_on (i + 1) xs (searching i x v) in (onward_then v (searching i x v) (searching_all (i + 1) xs (searching i x v)) (searched_on i x v) r.0, r.1, r.2, r.3)
+  all_searched_on i (x ∷ xs) v = let r = all_searched_on (i + 1) xs (searching i x v) in
+      (onward_then v (searching i x v) (searching_all (i + 1) xs (searching i x v)) (searched_on i x v) r.0, r.1, r.2, r.3)
 
   -- where all were read as empty, all are listed
-  pub all_listed : (n i : ℕ) (xs : List ℕ) (v : View N) → v.known.number ≡ Some n → ((j : ℕ) → j < length xs → end_of (get_or xs j 0) ≤ start_of (get_or xs j 0)) → (j : ℕ) → j < length xs → IsListed (i + j) (searching_all i xs v).known.emptied
+  pub all_listed : (n i : ℕ) (xs : List ℕ) (v : View N) → v.known.number ≡ Some n →
+      ((j : ℕ) → j < length xs → end_of (get_or xs j 0) ≤ start_of (get_or xs j 0)) → (j : ℕ) → j < length xs → IsListed (i + j)
+      (searching_all i xs v).known.emptied
   all_listed n i [] v known empty j lt = absurd (omega arith)
-  all_listed n i (x ∷ xs) v known empty zero lt = let here : i + 0 ≡ i = omega arith in subst (λ (a : ℕ). IsListed a (searching_all (i + 1) xs (searching i x v)).known.emptied) (sym here) ((all_searched_on (i + 1) xs (searching i x v)).0.emptied i (searched_empty n i x v known (empty zero (omega arith))))
-  all_listed n i (x ∷ xs) v known empty (suc j) lt = let there : i + 1 + j ≡ i + suc j = omega arith in subst (λ (a : ℕ). IsListed a (searching_all (i + 1) xs (searching i x v)).known.emptied) there
+  all_listed n i (x ∷ xs) v known empty zero lt = let here : i + 0 ≡ i = omega arith in
+      subst (λ (a : ℕ). IsListed a (searching_all (i + 1) xs (searching i x v)).known.emptied) (sym here)
+      ((all_searched_on (i + 1) xs (searching i x v)).0.emptied i (searched_empty n i x v known (empty zero (omega arith))))
+  all_listed n i (x ∷ xs) v known empty (suc j) lt = let there : i + 1 + j ≡ i + suc j = omega arith in
+      subst (λ (a : ℕ). IsListed a (searching_all (i + 1) xs (searching i x v)).known.emptied) there
       (all_listed n (i + 1) xs (searching i x v) known (λ k l. empty (suc k) (omega arith)) j (omega arith))
 
 -- Steps that leave what is known.
 
 module _ {N : Type 0} where
   pub missed_on : (i found : ℕ) (v : View N) → Onward v (missing i found v)
-  missed_on i found v = record { leader = refl; threads = refl; standing = refl; number = refl; may_stop = refl; unpublished = refl; emptied = λ i l. l; laid = refl; board = refl; published = refl }
+  missed_on i found v = record {
+    leader = refl;
+    threads = refl;
+    standing = refl;
+    number = refl;
+    may_stop = refl;
+    unpublished = refl;
+    emptied = λ i l. l;
+    laid = refl;
+    board = refl;
+    published = refl;
+  }
 
   pub began_on : (i k found new : ℕ) (x : Option N) (v : View N) → Onward v (beginning i k found new x v)
-  began_on i k found new x v = record { leader = refl; threads = refl; standing = refl; number = refl; may_stop = refl; unpublished = refl; emptied = λ i l. l; laid = refl; board = refl; published = refl }
+  began_on i k found new x v = record {
+    leader = refl;
+    threads = refl;
+    standing = refl;
+    number = refl;
+    may_stop = refl;
+    unpublished = refl;
+    emptied = λ i l. l;
+    laid = refl;
+    board = refl;
+    published = refl;
+  }
 
   pub stole_on : (i found : ℕ) (x : Option N) (v : View N) → Onward v (stealing i found x v)
-  stole_on i found x v = record { leader = refl; threads = refl; standing = refl; number = refl; may_stop = refl; unpublished = refl; emptied = λ i l. l; laid = refl; board = refl; published = refl }
+  stole_on i found x v = record {
+    leader = refl;
+    threads = refl;
+    standing = refl;
+    number = refl;
+    may_stop = refl;
+    unpublished = refl;
+    emptied = λ i l. l;
+    laid = refl;
+    board = refl;
+    published = refl;
+  }
 
   pub shared_on : (i stored : ℕ) (x : Option N) (v : View N) → Onward v (sharing i stored x v)
-  shared_on i stored x v = record { leader = refl; threads = refl; standing = refl; number = refl; may_stop = refl; unpublished = refl; emptied = λ i l. l; laid = refl; board = refl; published = refl }
+  shared_on i stored x v = record {
+    leader = refl;
+    threads = refl;
+    standing = refl;
+    number = refl;
+    may_stop = refl;
+    unpublished = refl;
+    emptied = λ i l. l;
+    laid = refl;
+    board = refl;
+    published = refl;
+  }
 
   pub recalled_on : (n : ℕ) (v : View N) → Onward v (recalling n v)
-  recalled_on n v = record { leader = refl; threads = refl; standing = refl; number = refl; may_stop = refl; unpublished = refl; emptied = λ i l. l; laid = refl; board = refl; published = refl }
+  recalled_on n v = record {
+    leader = refl;
+    threads = refl;
+    standing = refl;
+    number = refl;
+    may_stop = refl;
+    unpublished = refl;
+    emptied = λ i l. l;
+    laid = refl;
+    board = refl;
+    published = refl;
+  }
 
   pub finished_on : (found : ℕ) (v : View N) → Onward v (finishing found v)
-  finished_on found v = record { leader = refl; threads = refl; standing = refl; number = refl; may_stop = refl; unpublished = refl; emptied = λ i l. l; laid = refl; board = refl; published = refl }
+  finished_on found v = record {
+    leader = refl;
+    threads = refl;
+    standing = refl;
+    number = refl;
+    may_stop = refl;
+    unpublished = refl;
+    emptied = λ i l. l;
+    laid = refl;
+    board = refl;
+    published = refl;
+  }
 
   pub stopped_on : (stored : ℕ) (v : View N) → Onward v (stopping stored v)
-  stopped_on stored v = record { leader = refl; threads = refl; standing = refl; number = refl; may_stop = refl; unpublished = refl; emptied = λ i l. l; laid = refl; board = refl; published = refl }
+  stopped_on stored v = record {
+    leader = refl;
+    threads = refl;
+    standing = refl;
+    number = refl;
+    may_stop = refl;
+    unpublished = refl;
+    emptied = λ i l. l;
+    laid = refl;
+    board = refl;
+    published = refl;
+  }
 
   pub saw_on : (found : ℕ) (v : View N) → Onward v (seeing found v)
-  saw_on found v = record { leader = refl; threads = refl; standing = refl; number = refl; may_stop = refl; unpublished = refl; emptied = λ i l. l; laid = refl; board = refl; published = refl }
+  saw_on found v = record {
+    leader = refl;
+    threads = refl;
+    standing = refl;
+    number = refl;
+    may_stop = refl;
+    unpublished = refl;
+    emptied = λ i l. l;
+    laid = refl;
+    board = refl;
+    published = refl;
+  }
 
   pub put_on : (i found : ℕ) (v : View N) → Onward v (putting_back i found v)
-  put_on i found v = record { leader = refl; threads = refl; standing = refl; number = refl; may_stop = refl; unpublished = refl; emptied = λ i l. l; laid = refl; board = refl; published = refl }
+  put_on i found v = record {
+    leader = refl;
+    threads = refl;
+    standing = refl;
+    number = refl;
+    may_stop = refl;
+    unpublished = refl;
+    emptied = λ i l. l;
+    laid = refl;
+    board = refl;
+    published = refl;
+  }
 
 -- Claims.
 
@@ -127,16 +267,34 @@ module _ {S N : Type 0} (D : Discipline S N) (m w : Me S (View N)) (may : MayCla
   inside = (may.0.0, may.0.1)
 
   pub own_claimed : (i : ℕ) (r : Claim) → OwnClaimedBy D i r m w → AfterClaim r m.0 w.0
-  own_claimed i (claim.Job c) a = let v : View N = searching i a.0 m.0 in let u : View N = claiming (range_at i) a.0 a.1 v in subst (AfterClaim (claim.Job c) m.0) (sym a.2)
-      (onward_then m.0 v u (searched_on i a.0 m.0) (began_on (range_at i) (start_of a.0) a.0 (a.0 + 1) a.1 v), refl, (refl, refl), (inside, ap (λ (k : ℕ). Some k) (sym a.4)))
+  own_claimed i (claim.Job c) a = let v : View N = searching i a.0 m.0 in let u : View N = claiming (range_at i) a.0 a.1 v in
+      subst (AfterClaim (claim.Job c) m.0) (sym a.2) (
+        onward_then m.0 v u (searched_on i a.0 m.0) (began_on (range_at i) (start_of a.0) a.0 (a.0 + 1) a.1 v),
+        refl,
+        (refl, refl),
+        (inside, ap (λ (k : ℕ). Some k) (sym a.4)),
+      )
   own_claimed i claim.Nothing a = subst (AfterClaim claim.Nothing m.0) (sym (ap (λ z. z.0) a.1)) (searched_on i a.0 m.0, refl, (refl, refl), may)
-  own_claimed i claim.Again a = let v : View N = searching i a.0 m.0 in subst (AfterClaim claim.Again m.0) (sym (ap (λ z. z.0) a.2)) (onward_then m.0 v (missing (range_at i) a.1 v) (searched_on i a.0 m.0) (missed_on (range_at i) a.1 v), refl, (refl, refl), may)
+  own_claimed i claim.Again a = let v : View N = searching i a.0 m.0 in
+      subst (AfterClaim claim.Again m.0) (sym (ap (λ z. z.0) a.2)) (
+        onward_then m.0 v (missing (range_at i) a.1 v) (searched_on i a.0 m.0)
+            (missed_on (range_at i) a.1 v),
+        refl,
+        (refl, refl),
+        may,
+      )
 
   pub rest_claimed : (n : ℕ) (r : Claim) → RemainderClaimedBy D n r m w → AfterClaim r m.0 w.0
-  rest_claimed n (claim.Job c) a = let v : View N = reading_remainder a.0 m.0 in let u : View N = recalling n v in let z : View N = claiming_remainder n a.0 a.1 u in subst (AfterClaim (claim.Job c) m.0) (sym a.2)
-      (onward_then m.0 v z (rest_on a.0 m.0) (onward_then v u z (recalled_on n v) (began_on 32 (n - a.0) a.0 (a.0 - 1) a.1 u)), refl, (refl, refl), (inside, ap (λ (k : ℕ). Some k) (sym a.4)))
+  rest_claimed n (claim.Job c) a = let v : View N = reading_remainder a.0 m.0 in let u : View N = recalling n v in
+      let z : View N = claiming_remainder n a.0 a.1 u in subst (AfterClaim (claim.Job c) m.0) (sym a.2) (
+        onward_then m.0 v z (rest_on a.0 m.0) (onward_then v u z (recalled_on n v) (began_on 32 (n - a.0) a.0 (a.0 - 1) a.1 u)),
+        refl,
+        (refl, refl),
+        (inside, ap (λ (k : ℕ). Some k) (sym a.4)),
+      )
   rest_claimed n claim.Nothing a = subst (AfterClaim claim.Nothing m.0) (sym (ap (λ z. z.0) a.1)) (rest_on a.0 m.0, refl, (refl, refl), may)
-  rest_claimed n claim.Again a = let v : View N = reading_remainder a.0 m.0 in let u : View N = recalling n v in let z : View N = missing remainder_at a.1 u in subst (AfterClaim claim.Again m.0) (sym (ap (λ y. y.0) a.2))
+  rest_claimed n claim.Again a = let v : View N = reading_remainder a.0 m.0 in let u : View N = recalling n v in let z : View N = missing remainder_at a.1 u in
+      subst (AfterClaim claim.Again m.0) (sym (ap (λ y. y.0) a.2))
       (onward_then m.0 v z (rest_on a.0 m.0) (onward_then v u z (recalled_on n v) (missed_on 32 a.1 u)), refl, (refl, refl), may)
 
   -- the range was read as empty
@@ -148,55 +306,94 @@ module _ {S N : Type 0} (D : Discipline S N) (m w : Me S (View N)) (may : MayCla
   rest_nothing n a = subst (λ (v : View N). IsListed v.threads v.known.emptied) (sym (ap (λ z. z.0) a.1)) (rest_empty may.1.0 a.0 m.0 may.1.1 a.2)
 
   pub stolen : (t : ℕ) (r : Steal) → StolenBy D t r m w → AfterSteal t r m.0 w.0
-  stolen t (steal.Job c share) a = let v : View N = searching_all 0 a.0 m.0 in let b = all_searched_on 0 a.0 m.0 in let x : ℕ = get_or a.0 a.1 0 in let u : View N = stealing (range_at a.1) x a.2 v in
-      subst (AfterSteal t (steal.Job c share) m.0) (sym a.5) (onward_then m.0 v u b.0 (stole_on (range_at a.1) x a.2 v), b.1, ((may.0.0, b.0.standing ∙ may.0.1), ap (λ (k : ℕ). Some k) (sym a.7)), (a.8 ∙ ap (λ (k : ℕ). k + 1) a.7, a.9))
+  stolen t (steal.Job c share) a = let v : View N = searching_all 0 a.0 m.0 in let b = all_searched_on 0 a.0 m.0 in let x : ℕ = get_or a.0 a.1 0 in
+      let u : View N = stealing (range_at a.1) x a.2 v in
+      subst (AfterSteal t (steal.Job c share) m.0) (sym a.5) (
+        onward_then m.0 v u b.0 (stole_on (range_at a.1) x a.2 v),
+        b.1,
+        ((may.0.0, b.0.standing ∙ may.0.1), ap (λ (k : ℕ). Some k) (sym a.7)),
+        (a.8 ∙ ap (λ (k : ℕ). k + 1) a.7, a.9),
+      )
   stolen t steal.Nothing a = let b = all_searched_on 0 a.0 m.0 in subst (AfterSteal t steal.Nothing m.0) (sym (ap (λ z. z.0) a.3)) (
     b.0,
     b.1,
     b.2,
     may_still 0 a.0 m.0 may,
-    (λ i lt. let len = a.1 in let same : 0 + i ≡ i = omega arith in subst (λ (j : ℕ). IsListed j (searching_all 0 a.0 m.0).known.emptied) same (all_listed may.1.0 0 a.0 m.0 may.1.1 (λ j l. a.2 j (omega arith)) i (omega arith))),
+    (λ i lt. let len = a.1 in let same : 0 + i ≡ i = omega arith in
+        subst (λ (j : ℕ). IsListed j (searching_all 0 a.0 m.0).known.emptied) same
+        (all_listed may.1.0 0 a.0 m.0 may.1.1 (λ j l. a.2 j (omega arith)) i (omega arith))),
   )
   stolen t steal.Again a = let v : View N = searching_all 0 a.0 m.0 in let b = all_searched_on 0 a.0 m.0 in let u : View N = missing (range_at a.1) a.2 v in
-      subst (AfterSteal t steal.Again m.0) (sym (ap (λ z. z.0) a.5)) (onward_then m.0 v u b.0 (missed_on (range_at a.1) a.2 v), b.1, b.2, may_still 0 a.0 m.0 may)
+      subst (AfterSteal t steal.Again m.0) (sym (ap (λ z. z.0) a.5)) (
+        onward_then m.0 v u b.0 (missed_on (range_at a.1) a.2 v),
+        b.1,
+        b.2,
+        may_still 0 a.0 m.0 may,
+      )
 
 -- A number of a share has begun, and the share that is left is the seat's.
-pub share_next : {S N : Type 0} (D : Discipline S N) (m w : Me S (View N)) (i k : ℕ) (share left : Span) → MayBegin m.0 → IsItsShare share m.0 → SharedBy D i share (Some k) left m w → Onward m.0 w.0 × SeesAsBefore m.0 w.0 × MayFinish k w.0 × IsItsShare left w.0
+pub share_next : {S N : Type 0} (D : Discipline S N) (m w : Me S (View N)) (i k : ℕ) (share left : Span) → MayBegin m.0 → IsItsShare share m.0
+    → SharedBy D i share (Some k) left m w → Onward m.0 w.0 × SeesAsBefore m.0 w.0 × MayFinish k w.0 × IsItsShare left w.0
 share_next {N = N} D m w i k share left may own a = let word : ℕ = range_word (k + 1) share.to in let is : k ≡ m.0.from = a.3 ∙ own.0 in
-    subst (λ (u : View N). Onward m.0 u × SeesAsBefore m.0 u × MayFinish k u × IsItsShare left u) (sym a.1) (shared_on (range_at i) word a.0 m.0, refl, (may.0, ap (λ (j : ℕ). Some j) (sym is)), (a.5 ∙ ap (λ (j : ℕ). j + 1) is, a.6 ∙ own.1))
+    subst (λ (u : View N). Onward m.0 u × SeesAsBefore m.0 u × MayFinish k u × IsItsShare left u) (sym a.1)
+    (shared_on (range_at i) word a.0 m.0, refl, (may.0, ap (λ (j : ℕ). Some j) (sym is)), (a.5 ∙ ap (λ (j : ℕ). j + 1) is, a.6 ∙ own.1))
 
 -- A number has finished: the seat may begin the next of its share, and share and stop are as before.
-pub finish_done : {S N : Type 0} (D : Discipline S N) (m w : Me S (View N)) (k : ℕ) → MayFinish k m.0 → FinishedBy D m w → Onward m.0 w.0 × SeesAsBefore m.0 w.0 × SharesAsBefore m.0 w.0 × (w.0.claim ≡ None)
-finish_done {N = N} D m w k may a = subst (λ (u : View N). Onward m.0 u × SeesAsBefore m.0 u × SharesAsBefore m.0 u × (u.claim ≡ None)) (sym (ap (λ z. z.0) a.1)) (finished_on a.0 m.0, refl, (refl, refl), refl)
+pub finish_done : {S N : Type 0} (D : Discipline S N) (m w : Me S (View N)) (k : ℕ) → MayFinish k m.0 → FinishedBy D m w → Onward m.0 w.0 × SeesAsBefore m.0 w.0
+    × SharesAsBefore m.0 w.0 × (w.0.claim ≡ None)
+finish_done {N = N} D m w k may a = subst (λ (u : View N). Onward m.0 u × SeesAsBefore m.0 u × SharesAsBefore m.0 u × (u.claim ≡ None))
+    (sym (ap (λ z. z.0) a.1)) (finished_on a.0 m.0, refl, (refl, refl), refl)
 
 -- The stop was seen, or not.
-pub stop_seen : {S N : Type 0} (m w : Me S (View N)) (stopped : Bool) → SeenBy stopped m w → Onward m.0 w.0 × (w.0.known.seen_stop ≡ stopped) × SharesAsBefore m.0 w.0 × (w.0.claim ≡ m.0.claim)
-stop_seen {N = N} m w true a = subst (λ (u : View N). Onward m.0 u × (u.known.seen_stop ≡ true) × SharesAsBefore m.0 u × (u.claim ≡ m.0.claim)) (sym (ap (λ z. z.0) a)) (saw_on 1 m.0, refl, (refl, refl), refl)
-stop_seen {N = N} m w false a = subst (λ (u : View N). Onward m.0 u × (u.known.seen_stop ≡ false) × SharesAsBefore m.0 u × (u.claim ≡ m.0.claim)) (sym (ap (λ z. z.0) a)) (saw_on 0 m.0, refl, (refl, refl), refl)
+pub stop_seen : {S N : Type 0} (m w : Me S (View N)) (stopped : Bool) → SeenBy stopped m w → Onward m.0 w.0 × (w.0.known.seen_stop ≡ stopped)
+    × SharesAsBefore m.0 w.0 × (w.0.claim ≡ m.0.claim)
+stop_seen {N = N} m w true a = subst (λ (u : View N). Onward m.0 u × (u.known.seen_stop ≡ true) × SharesAsBefore m.0 u × (u.claim ≡ m.0.claim))
+    (sym (ap (λ z. z.0) a)) (saw_on 1 m.0, refl, (refl, refl), refl)
+stop_seen {N = N} m w false a = subst (λ (u : View N). Onward m.0 u × (u.known.seen_stop ≡ false) × SharesAsBefore m.0 u × (u.claim ≡ m.0.claim))
+    (sym (ap (λ z. z.0) a)) (saw_on 0 m.0, refl, (refl, refl), refl)
 
 -- Who has stopped the round still has its claim, and has seen the stop.
-pub stop_done : {S N : Type 0} (m w : Me S (View N)) → w ≡ (stopping 1 m.0, m.1) → Onward m.0 w.0 × (w.0.known.seen_stop ≡ true) × SharesAsBefore m.0 w.0 × (w.0.claim ≡ m.0.claim)
-stop_done {N = N} m w a = subst (λ (u : View N). Onward m.0 u × (u.known.seen_stop ≡ true) × SharesAsBefore m.0 u × (u.claim ≡ m.0.claim)) (sym (ap (λ z. z.0) a)) (stopped_on 1 m.0, refl, (refl, refl), refl)
+pub stop_done : {S N : Type 0} (m w : Me S (View N)) → w ≡ (stopping 1 m.0, m.1) → Onward m.0 w.0 × (w.0.known.seen_stop ≡ true) × SharesAsBefore m.0 w.0 ×
+    (w.0.claim ≡ m.0.claim)
+stop_done {N = N} m w a = subst (λ (u : View N). Onward m.0 u × (u.known.seen_stop ≡ true) × SharesAsBefore m.0 u × (u.claim ≡ m.0.claim))
+    (sym (ap (λ z. z.0) a)) (stopped_on 1 m.0, refl, (refl, refl), refl)
 
 -- A share is back, or else the seat may try again.
-pub share_put : {S N : Type 0} (m w : Me S (View N)) (i : ℕ) (r : PutBack) (share left : Span) → MayPutBack m.0 → IsItsShare share m.0 → PutBy i r share left m w → Onward m.0 w.0 × MayPutBack w.0 × IsItsShare left w.0 × (r ≡ back.Put → left.from ≡ left.to)
+pub share_put : {S N : Type 0} (m w : Me S (View N)) (i : ℕ) (r : PutBack) (share left : Span) → MayPutBack m.0 → IsItsShare share m.0
+    → PutBy i r share left m w → Onward m.0 w.0 × MayPutBack w.0 × IsItsShare left w.0 × (r ≡ back.Put → left.from ≡ left.to)
 share_put {N = N} m w i back.Put share left may own a = let v : View N = searching i a.0 m.0 in let u : View N = putting_back (range_at i) a.0 v in
-    subst (λ (z : View N). Onward m.0 z × MayPutBack z × IsItsShare left z × (back.Put ≡ back.Put → left.from ≡ left.to)) (sym (ap (λ z. z.0) a.1)) (onward_then m.0 v u (searched_on i a.0 m.0) (put_on (range_at i) a.0 v), may, (a.3 ∙ own.1, a.4 ∙ own.1), λ _. a.3 ∙ sym a.4)
-share_put {N = N} m w i back.Occupied share left may own a = subst (λ (z : View N). Onward m.0 z × MayPutBack z × IsItsShare left z × (back.Occupied ≡ back.Put → left.from ≡ left.to)) (sym (ap (λ z. z.0) a.1))
+    subst (λ (z : View N). Onward m.0 z × MayPutBack z × IsItsShare left z × (back.Put ≡ back.Put → left.from ≡ left.to)) (sym (ap (λ z. z.0) a.1))
+    (onward_then m.0 v u (searched_on i a.0 m.0) (put_on (range_at i) a.0 v), may, (a.3 ∙ own.1, a.4 ∙ own.1), λ _. a.3 ∙ sym a.4)
+share_put {N = N} m w i back.Occupied share left may own a = subst (λ (z : View N). Onward m.0 z × MayPutBack z × IsItsShare left z ×
+    (back.Occupied ≡ back.Put → left.from ≡ left.to)) (sym (ap (λ z. z.0) a.1))
     (searched_on i a.0 m.0, may, subst (λ (z : Span). IsItsShare z m.0) (sym a.3) own, λ e. absurd cc)
-share_put {N = N} m w i back.Again share left may own a = let v : View N = searching i a.0 m.0 in subst (λ (z : View N). Onward m.0 z × MayPutBack z × IsItsShare left z × (back.Again ≡ back.Put → left.from ≡ left.to)) (sym (ap (λ z. z.0) a.2))
-    (onward_then m.0 v (missing (range_at i) a.1 v) (searched_on i a.0 m.0) (missed_on (range_at i) a.1 v), may, subst (λ (z : Span). IsItsShare z m.0) (sym a.4) own, λ e. absurd cc)
+share_put {N = N} m w i back.Again share left may own a = let v : View N = searching i a.0 m.0 in
+    subst (λ (z : View N). Onward m.0 z × MayPutBack z × IsItsShare left z × (back.Again ≡ back.Put → left.from ≡ left.to)) (sym (ap (λ z. z.0) a.2)) (
+      onward_then m.0 v (missing (range_at i) a.1 v) (searched_on i a.0 m.0) (missed_on (range_at i) a.1 v),
+      may,
+      subst (λ (z : Span). IsItsShare z m.0)
+          (sym a.4) own,
+      λ e. absurd cc,
+    )
 
 -- What is left was read.
-pub left_seen : {S N : Type 0} (m w : Me S (View N)) (t i found : ℕ) → i ≤ t → LeftOverBy t i found m w → Onward m.0 w.0 × SeesAsBefore m.0 w.0 × SharesAsBefore m.0 w.0 × (w.0.claim ≡ m.0.claim)
+pub left_seen : {S N : Type 0} (m w : Me S (View N)) (t i found : ℕ) → i ≤ t → LeftOverBy t i found m w → Onward m.0 w.0 × SeesAsBefore m.0 w.0
+    × SharesAsBefore m.0 w.0 × (w.0.claim ≡ m.0.claim)
 left_seen {N = N} m w t i found le a = let P : View N → Type 0 = λ u. Onward m.0 u × SeesAsBefore m.0 u × SharesAsBefore m.0 u × (u.claim ≡ m.0.claim) in
-    dite (ℕ_discrete i t) (λ here. subst P (sym (ap (λ z. z.0) (a.1 here))) (rest_on found m.0, refl, (refl, refl), refl)) (λ apart. subst P (sym (ap (λ z. z.0) (a.0 (omega arith)))) (searched_on i found m.0, refl, (refl, refl), refl))
+    dite (ℕ_discrete i t) (λ here. subst P (sym (ap (λ z. z.0) (a.1 here))) (rest_on found m.0, refl, (refl, refl), refl))
+    (λ apart. subst P (sym (ap (λ z. z.0) (a.0 (omega arith)))) (searched_on i found m.0, refl, (refl, refl), refl))
 
 -- Arriving.
 
 -- where all ranges and the remainder were read as empty, nothing is left
-pub all_empty : {N : Type 0} (n : ℕ) (b : Bool) (v : View N) → AtWork n b v → ((i : ℕ) → i < v.threads → IsListed i v.known.emptied) → IsListed v.threads v.known.emptied → IsDone v
-all_empty n b v a ranges rest = inr (inr (inr (n, a.number, λ i le. dite (ℕ_discrete i v.threads) (λ e. subst (λ (j : ℕ). IsListed j v.known.emptied) (sym e) rest) (λ apart. ranges i (omega arith)))))
+pub all_empty : {N : Type 0} (n : ℕ) (b : Bool) (v : View N) → AtWork n b v → ((i : ℕ) → i < v.threads → IsListed i v.known.emptied)
+    → IsListed v.threads v.known.emptied → IsDone v
+all_empty n b v a ranges rest = inr (inr (inr (
+  n,
+  a.number,
+  λ i le. dite (ℕ_discrete i v.threads)
+      (λ e. subst (λ (j : ℕ). IsListed j v.known.emptied) (sym e) rest) (λ apart. ranges i (omega arith)),
+)))
 
 -- and so for who has seen the stop
 pub may_arrive : {N : Type 0} (n : ℕ) (b : Bool) (v : View N) → AtWork n b v → v.claim ≡ None → v.to ≤ v.from → IsDone v → MayArrive v
@@ -205,14 +402,25 @@ may_arrive n b v a idle empty done = ((a.inside.0, a.inside.1, idle, empty), don
 -- The leader.
 
 -- after `fill` the same number may be published, and nothing was
-pub filled_round : {S N : Type 0} (D : Discipline S N) (t n q : ℕ) (v w : View N) → v.standing ≡ Inside q → v.known.unpublished ≡ true → D.may_publish q n v.board → FilledBy t n v w → MayPublish D t n w × (published_of w.trail ≡ published_of v.trail) × (w.claim ≡ v.claim) × SharesAsBefore v w × (w.standing ≡ Inside q)
-filled_round {N = N} D t n q v w inside_q alone may f = subst (λ (u : View N). MayPublish D t n u × (published_of u.trail ≡ published_of v.trail) × (u.claim ≡ v.claim) × SharesAsBefore v u × (u.standing ≡ Inside q)) (sym f.0)
+pub filled_round : {S N : Type 0} (D : Discipline S N) (t n q : ℕ) (v w : View N) → v.standing ≡ Inside q → v.known.unpublished ≡ true
+    → D.may_publish q n v.board → FilledBy t n v w → MayPublish D t n w × (published_of w.trail ≡ published_of v.trail) × (w.claim ≡ v.claim)
+    × SharesAsBefore v w × (w.standing ≡ Inside q)
+filled_round {N = N} D t n q v w inside_q alone may f = subst (λ (u : View N). MayPublish D t n u × (published_of u.trail ≡ published_of v.trail) ×
+    (u.claim ≡ v.claim) × SharesAsBefore v u × (u.standing ≡ Inside q)) (sym f.0)
     ((q, inside_q, alone, filled_stands t n v.known.stored (3 + t), may), filled_quiet t n v.trail (3 + t), refl, (refl, refl), inside_q)
 
 -- a published round is the leader's work, and stands in its trail
-pub round_published : {S N : Type 0} (m w : Me S (View N)) (q n : ℕ) (b : Bool) → m.0.standing ≡ Inside q → w ≡ (publishing b n m.0, m.1) → AtWork n b w.0 × (w.0.known.seen_stop ≡ false) × (w.0.claim ≡ m.0.claim) × SharesAsBefore m.0 w.0 × (published_of w.0.trail ≡ Showed q n b ∷ published_of m.0.trail)
-round_published {N = N} m w q n b inside_q a = subst (λ (u : View N). AtWork n b u × (u.known.seen_stop ≡ false) × (u.claim ≡ m.0.claim) × SharesAsBefore m.0 u × (published_of u.trail ≡ Showed q n b ∷ published_of m.0.trail)) (sym (ap (λ z. z.0) a))
-    (record { inside = (q, inside_q); number = refl; may_stop = refl }, refl, refl, (refl, refl), ap (λ (z : ℕ). Showed z n b ∷ published_of m.0.trail) (ap round_of inside_q))
+pub round_published : {S N : Type 0} (m w : Me S (View N)) (q n : ℕ) (b : Bool) → m.0.standing ≡ Inside q → w ≡ (publishing b n m.0, m.1) → AtWork n b w.0 ×
+    (w.0.known.seen_stop ≡ false) × (w.0.claim ≡ m.0.claim) × SharesAsBefore m.0 w.0 × (published_of w.0.trail ≡ Showed q n b ∷ published_of m.0.trail)
+round_published {N = N} m w q n b inside_q a = subst (λ (u : View N). AtWork n b u × (u.known.seen_stop ≡ false) × (u.claim ≡ m.0.claim) × SharesAsBefore m.0 u
+    × (published_of u.trail ≡ Showed q n b ∷ published_of m.0.trail)) (sym (ap (λ z. z.0) a)) (
+      record { inside = (q, inside_q); number = refl; may_stop = refl },
+      refl,
+      refl,
+      (refl, refl),
+      ap (λ (z : ℕ). Showed z n b ∷ published_of m.0.trail)
+          (ap round_of inside_q),
+    )
 
 -- who may claim may claim again, once what it has begun since is finished and its share is empty
 pub claims_again : {N : Type 0} (v w : View N) → MayClaim v → Onward v w → SeesAsBefore v w → w.to ≤ w.from → w.claim ≡ None → MayClaim w
@@ -220,11 +428,19 @@ claims_again v w may on same empty idle = ((may.0.0, on.standing ∙ may.0.1, id
 
 -- the published word tells a member the number
 pub number_learned : {S N : Type 0} (m w : Me S (View N)) (q found : ℕ) → m.0.standing ≡ Inside q → w ≡ (learning found m.0, m.1) → found ≢ 0
-    → AtWork (found % high_half) (nat_lt most_jobs found) w.0 × (found ≤ most_jobs → w.0.known.seen_stop ≡ false) × (w.0.claim ≡ m.0.claim) × SharesAsBefore m.0 w.0 × (published_of w.0.trail ≡ published_of m.0.trail)
-number_learned {N = N} m w q found inside_q a some = subst (λ (u : View N). AtWork (found % high_half) (nat_lt most_jobs found) u × (found ≤ most_jobs → u.known.seen_stop ≡ false) × (u.claim ≡ m.0.claim) × SharesAsBefore m.0 u × (published_of u.trail ≡ published_of m.0.trail)) (sym (ap (λ z. z.0) a)) (
-  record { inside = (q, inside_q); number = by_equal found 0 (λ b. (if b then None else Some (found % high_half)) ≡ Some (found % high_half)) (λ z. absurd (some z)) (λ _. refl); may_stop = refl },
-  (λ few. by_less most_jobs found (λ b. (if b then m.0.known.seen_stop else false) ≡ false) (λ lt. absurd (omega arith)) (λ _. refl)),
-  refl,
-  (refl, refl),
-  refl,
-)
+    → AtWork (found % high_half) (nat_lt most_jobs found) w.0 × (found ≤ most_jobs → w.0.known.seen_stop ≡ false) × (w.0.claim ≡ m.0.claim)
+    × SharesAsBefore m.0 w.0 × (published_of w.0.trail ≡ published_of m.0.trail)
+number_learned {N = N} m w q found inside_q a some = subst (λ (u : View N). AtWork (found % high_half) (nat_lt most_jobs found) u ×
+    (found ≤ most_jobs → u.known.seen_stop ≡ false) × (u.claim ≡ m.0.claim) × SharesAsBefore m.0 u × (published_of u.trail ≡ published_of m.0.trail))
+    (sym (ap (λ z. z.0) a)) (
+      record {
+        inside = (q, inside_q);
+        number = by_equal found 0 (λ b. (if b then None else Some (found % high_half)) ≡ Some (found % high_half))
+            (λ z. absurd (some z)) (λ _. refl);
+        may_stop = refl;
+      },
+      (λ few. by_less most_jobs found (λ b. (if b then m.0.known.seen_stop else false) ≡ false) (λ lt. absurd (omega arith)) (λ _. refl)),
+      refl,
+      (refl, refl),
+      refl,
+    )

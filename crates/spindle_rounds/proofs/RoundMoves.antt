@@ -40,7 +40,8 @@ module _ {N : Type 0} (s s' : State) (q : ℕ) (v : View N) (w : Shows s q v) (a
   inside_in r e = (subst (Stands s q) e w.stands).0
 
   same_share : (y : Party) (t : Status) → y ≡ with_status t (party s q) → IsShare y.taken v.from v.to
-  same_share y t e k = subst (λ (x : Party). ((x.taken k ≡ true) → (v.from ≤ k) × (k < v.to)) × ((v.from ≤ k) × (k < v.to) → x.taken k ≡ true)) (sym e) (w.share k)
+  same_share y t e k = subst (λ (x : Party). ((x.taken k ≡ true) → (v.from ≤ k) × (k < v.to)) × ((v.from ≤ k) × (k < v.to) → x.taken k ≡ true)) (sym e)
+      (w.share k)
 
   -- what it knows stays, while the round goes on
   still_knows : Steady s s' q → (party s q).status ≡ In → Knows v.threads s q v.known → Knows v.threads s' q v.known
@@ -48,7 +49,8 @@ module _ {N : Type 0} (s s' : State) (q : ℕ) (v : View N) (w : Shows s q v) (a
     number = λ n e. let old = k.number n e in (f.published n at_in old.0, f.may_stop (λ z. cc) ∙ old.1);
     unpublished = λ e. let old = k.unpublished e in (old.0, f.hidden (inl old.0) old.1);
     seen = f.seen ∙ k.seen;
-    emptied = λ n i e l. ⊎_elim (λ (none_left : (j : ℕ) → Free s j → home_of v.threads n j ≡ i → ⊥). ⊎_elim (λ (fr : s.published ≢ None → Frees s s'). inl (λ j g. none_left j (fr (let a = (k.number n e).0 in (λ z. cc)) j g))) inr f.frees)
+    emptied = λ n i e l. ⊎_elim (λ (none_left : (j : ℕ) → Free s j → home_of v.threads n j ≡ i → ⊥). ⊎_elim
+        (λ (fr : s.published ≢ None → Frees s s'). inl (λ j g. none_left j (fr (let a = (k.number n e).0 in (λ z. cc)) j g))) inr f.frees)
         (λ st. inr (f.stops st)) (k.emptied n i e l);
     unread = k.unread;
   }
@@ -58,16 +60,19 @@ module _ {N : Type 0} (s s' : State) (q : ℕ) (v : View N) (w : Shows s q v) (a
     stands = go v.standing w.stands;
     leads = w.leads;
     claim = ap (λ (x : Party). x.running) f.same ∙ w.claim;
-    share = λ k. subst (λ (x : Party). ((x.taken k ≡ true) → (v.from ≤ k) × (k < v.to)) × ((v.from ≤ k) × (k < v.to) → x.taken k ≡ true)) (sym f.same) (w.share k);
+    share = λ k. subst (λ (x : Party). ((x.taken k ≡ true) → (v.from ≤ k) × (k < v.to)) × ((v.from ≤ k) × (k < v.to) → x.taken k ≡ true)) (sym f.same)
+        (w.share k);
     inside = λ r e. still_knows f (inside_in r e) (w.inside r e);
   }
     where
       go : (st : Standing) → Stands s q st → Stands s' q st
       go Away h = (ap (λ (x : Party). x.status) f.same ∙ h.0, f.closer.1 h.1)
       go (Inside r) h = (ap (λ (x : Party). x.status) f.same ∙ h.0, f.round ∙ h.1)
-      go (Waiting r quiet) h = ⊎_elim (λ (t : ((party s q).status ≡ Arrived) × (s.round ≡ r) × (s.closer ≢ Some q) × (quiet ≡ true → (q ≡ 0) × (s.published ≡ None))).
+      go (Waiting r quiet) h = ⊎_elim (λ (t : ((party s q).status ≡ Arrived) × (s.round ≡ r) × (s.closer ≢ Some q) ×
+          (quiet ≡ true → (q ≡ 0) × (s.published ≡ None))).
           inl (ap (λ (x : Party). x.status) f.same ∙ t.0, f.round ∙ t.1, f.closer.1 t.2, λ e. ((t.3 e).0, f.hidden (inl (t.3 e).0) (t.3 e).1)))
-          (λ (t : ((party s q).status ≡ In) × (s.round ≡ suc r) × (q ≡ 0 → s.published ≡ None) × ((now s).seen q ≡ false)). inr (ap (λ (x : Party). x.status) f.same ∙ t.0, f.round ∙ t.1, (λ e. f.hidden (inl e) (t.2 e)), f.seen ∙ t.3)) h
+          (λ (t : ((party s q).status ≡ In) × (s.round ≡ suc r) × (q ≡ 0 → s.published ≡ None) × ((now s).seen q ≡ false)). inr
+          (ap (λ (x : Party). x.status) f.same ∙ t.0, f.round ∙ t.1, (λ e. f.hidden (inl e) (t.2 e)), f.seen ∙ t.3)) h
       go (Closing r member cleared at) h = absurd (alone h.0)
 
   turned : Turned s s' q → Shows s' q v
@@ -75,7 +80,8 @@ module _ {N : Type 0} (s s' : State) (q : ℕ) (v : View N) (w : Shows s q v) (a
     stands = go v.standing w.stands;
     leads = w.leads;
     claim = ap (λ (x : Party). x.running) f.same ∙ w.claim;
-    share = λ k. subst (λ (x : Party). ((x.taken k ≡ true) → (v.from ≤ k) × (k < v.to)) × ((v.from ≤ k) × (k < v.to) → x.taken k ≡ true)) (sym f.same) (w.share k);
+    share = λ k. subst (λ (x : Party). ((x.taken k ≡ true) → (v.from ≤ k) × (k < v.to)) × ((v.from ≤ k) × (k < v.to) → x.taken k ≡ true)) (sym f.same)
+        (w.share k);
     inside = λ r e. absurd (f.out (inside_in r e));
   }
     where
@@ -85,12 +91,14 @@ module _ {N : Type 0} (s s' : State) (q : ℕ) (v : View N) (w : Shows s q v) (a
       go : (st : Standing) → Stands s q st → Stands s' q st
       go Away h = (woke Out h.0, f.closer)
       go (Inside r) h = absurd (f.out h.0)
-      go (Waiting r quiet) h = ⊎_elim (λ (t : ((party s q).status ≡ Arrived) × (s.round ≡ r) × (s.closer ≢ Some q) × (quiet ≡ true → (q ≡ 0) × (s.published ≡ None))). inr (woke Arrived t.0, f.round ∙ ap suc t.1, (λ _. f.hidden), f.seen))
+      go (Waiting r quiet) h = ⊎_elim (λ (t : ((party s q).status ≡ Arrived) × (s.round ≡ r) × (s.closer ≢ Some q) ×
+          (quiet ≡ true → (q ≡ 0) × (s.published ≡ None))). inr (woke Arrived t.0, f.round ∙ ap suc t.1, (λ _. f.hidden), f.seen))
           (λ (t : ((party s q).status ≡ In) × (s.round ≡ suc r) × (q ≡ 0 → s.published ≡ None) × ((now s).seen q ≡ false)). absurd (f.out t.0)) h
       go (Closing r member cleared at) h = absurd (f.before h.0)
 
 pub others_shown : {N : Type 0} (s : State) → Sound s → (e : Event) (q : ℕ) → Allowed s e → q ≢ by e → (v : View N) → Shows s q v → Shows (after s e) q v
-others_shown s h e q ok other v w = let alone : s.closer ≡ Some q → ⊥ = (λ c. other (sym (closer_alone s h e q ok c))) in ⊎_elim (steady s (after s e) q v w alone) (turned s (after s e) q v w alone) (frame s h e q ok other)
+others_shown s h e q ok other v w = let alone : s.closer ≡ Some q → ⊥ = (λ c. other (sym (closer_alone s h e q ok c))) in
+    ⊎_elim (steady s (after s e) q v w alone) (turned s (after s e) q v w alone) (frame s h e q ok other)
 
 -- events of the party p alone
 abbrev pub AllBy : ℕ → List Event → Type 0
@@ -98,7 +106,8 @@ AllBy p [] = Unit {0}
 AllBy p (e ∷ es) = (by e ≡ p) × AllBy p es
 
 -- the same over the few events of one step
-pub others_run : {N : Type 0} (p q : ℕ) (v : View N) → q ≢ p → (new run : List Event) → AllBy p new → IsRun (new ++ run) → Shows (state run) q v × (deeds_of v.trail ≡ deeds q run) → Shows (state (new ++ run)) q v × (deeds_of v.trail ≡ deeds q (new ++ run))
+pub others_run : {N : Type 0} (p q : ℕ) (v : View N) → q ≢ p → (new run : List Event) → AllBy p new → IsRun (new ++ run) → Shows (state run) q v ×
+    (deeds_of v.trail ≡ deeds q run) → Shows (state (new ++ run)) q v × (deeds_of v.trail ≡ deeds q (new ++ run))
 others_run p q v other [] run all ok h = h
 others_run p q v other (e ∷ es) run all ok h = let r = others_run p q v other es run all.1 ok.1 h in let mine = all.0 in (
   others_shown (state (es ++ run)) (sound (es ++ run) ok.1) e q ok.0 (λ z. other (z ∙ mine)) v r.0,
@@ -106,21 +115,27 @@ others_run p q v other (e ∷ es) run all ok h = let r = others_run p q v other 
 )
 
 -- nobody there stays nobody
-pub nobody_run : (p q : ℕ) → q ≢ p → (new run : List Event) → AllBy p new → IsRun (new ++ run) → (party (state run) q ≡ absent) × ((state run).closer ≢ Some q) × (deeds q run ≡ [])
+pub nobody_run : (p q : ℕ) → q ≢ p → (new run : List Event) → AllBy p new → IsRun (new ++ run) → (party (state run) q ≡ absent) × ((state run).closer ≢ Some q)
+    × (deeds q run ≡ [])
     → (party (state (new ++ run)) q ≡ absent) × ((state (new ++ run)).closer ≢ Some q) × (deeds q (new ++ run) ≡ [])
 nobody_run p q other [] run all ok h = h
-nobody_run p q other (e ∷ es) run all ok h = let r = nobody_run p q other es run all.1 ok.1 h in let mine = all.0 in let s : State = state (es ++ run) in let none_here = ne_eqb (by e) q (λ z. other (sym z ∙ mine)) in
+nobody_run p q other (e ∷ es) run all ok h = let r = nobody_run p q other es run all.1 ok.1 h in let mine = all.0 in let s : State = state (es ++ run) in
+    let none_here = ne_eqb (by e) q (λ z. other (sym z ∙ mine)) in
     let same : (party (after s e) q ≡ absent) × ((after s e).closer ≢ Some q) = ⊎_elim (λ (f : Steady s (after s e) q). (f.same ∙ r.0, f.closer.1 r.1))
-    (λ (f : Turned s (after s e) q). (f.same ∙ ap (λ (x : Party). with_status (waking x.status) x) r.0, f.closer)) (frame s (sound (es ++ run) ok.1) e q ok.0 (λ z. other (z ∙ mine))) in
+    (λ (f : Turned s (after s e) q). (f.same ∙ ap (λ (x : Party). with_status (waking x.status) x) r.0, f.closer))
+    (frame s (sound (es ++ run) ok.1) e q ok.0 (λ z. other (z ∙ mine))) in
     (same.0, same.1, ap (λ (b : Bool). (if b then deed s e else []) ++ deeds q (es ++ run)) none_here ∙ r.2)
 
 -- the numbers of a round that were not begun, where its numbers stay and the words do
-pub stands_on : (t : ℕ) (r r' : Round) (ws ws' : List ℕ) → r'.jobs ≡ r.jobs → ((k : ℕ) → times k r'.begun ≡ times k r.begun) → ((i : ℕ) → remainder_at ≤ i → get_or ws' i 0 ≡ get_or ws i 0) → StandsFor t r ws → StandsFor t r' ws'
-stands_on t r r' ws ws' jobs begun same h k = let b = begun k in subst (λ (n : ℕ). (((k < n) × (times k r'.begun ≡ 0)) → IsLeft t ws' n k) × (IsLeft t ws' n k → (k < n) × (times k r'.begun ≡ 0))) (sym jobs)
+pub stands_on : (t : ℕ) (r r' : Round) (ws ws' : List ℕ) → r'.jobs ≡ r.jobs → ((k : ℕ) → times k r'.begun ≡ times k r.begun) →
+    ((i : ℕ) → remainder_at ≤ i → get_or ws' i 0 ≡ get_or ws i 0) → StandsFor t r ws → StandsFor t r' ws'
+stands_on t r r' ws ws' jobs begun same h k = let b = begun k in
+    subst (λ (n : ℕ). (((k < n) × (times k r'.begun ≡ 0)) → IsLeft t ws' n k) × (IsLeft t ws' n k → (k < n) × (times k r'.begun ≡ 0))) (sym jobs)
     ((λ e. moved ws ws' (λ i le. sym (same i le)) ((h k).0 (e.0, sym b ∙ e.1))), (λ l. let e = (h k).1 (moved ws' ws same l) in (e.0, b ∙ e.1)))
   where
     moved : (xs ys : List ℕ) → ((i : ℕ) → remainder_at ≤ i → get_or xs i 0 ≡ get_or ys i 0) → IsLeft t xs r.jobs k → IsLeft t ys r.jobs k
-    moved xs ys e = ⊎_elim (λ (z : (i : ℕ) × (i < t) × InRange xs i k). inl (z.0, z.1, subst (λ (x : ℕ). (x % high_half ≤ k) × (k < x / high_half)) (e (range_at z.0) (omega arith)) z.2))
+    moved xs ys e = ⊎_elim (λ (z : (i : ℕ) × (i < t) × InRange xs i k). inl
+        (z.0, z.1, subst (λ (x : ℕ). (x % high_half ≤ k) × (k < x / high_half)) (e (range_at z.0) (omega arith)) z.2))
         (λ (z : InRemainder xs r.jobs k). inr (subst (λ (x : ℕ). (r.jobs ≤ k + x) × (k < r.jobs)) (e 32 (omega arith)) z))
 
 module _ {X N : Type 0} (D : Discipline X N) (t : ℕ) where
@@ -131,7 +146,8 @@ module _ {X N : Type 0} (D : Discipline X N) (t : ℕ) where
   SeatOf = Me X (View N)
 
   -- the seat's few new events, the word i changed to x, and the view w
-  pub moves_with : (run : List Event) (s : table.State X (View N)) (r : Rule run s) (i x id : ℕ) (me : SeatOf) (w : View N) (a : Act X) (new : List Event) → get_elem? s.views id ≡ some me.0 → AllBy id new → IsRun (new ++ run)
+  pub moves_with : (run : List Event) (s : table.State X (View N)) (r : Rule run s) (i x id : ℕ) (me : SeatOf) (w : View N) (a : Act X) (new : List Event)
+      → get_elem? s.views id ≡ some me.0 → AllBy id new → IsRun (new ++ run)
       → Words t (state (new ++ run)) (set s.words i x) → Shows (state (new ++ run)) id w → deeds_of w.trail ≡ deeds id (new ++ run) → w.threads ≡ me.0.threads
       → ((v : View N) → get_elem? (set s.views id w) 0 ≡ some v → Laid t (state (new ++ run)) (set s.words i x) v)
       → D.clause (state (new ++ run)) (homes_after s.homes me.1 a) (set s.views id w) → Rule (new ++ run) (stepped s i x id me.1 w a)
@@ -139,10 +155,13 @@ module _ {X N : Type 0} (D : Discipline X N) (t : ℕ) where
     slots = slots;
     is_run = ok;
     words = words;
-    seats = λ q v e. ⊎_elim (λ (h : (q ≡ id) × (w ≡ v)). subst (λ (z : ℕ × View N). Shows (state (new ++ run)) z.0 z.1 × (deeds_of z.1.trail ≡ deeds z.0 (new ++ run)) × (z.1.threads ≡ t)) (λ j. (sym h.0 j, h.1 j)) (mine, worked, same_threads ∙ (r.seats id me.0 at).2))
-        (λ (h : (q ≢ id) × (get_elem? s.views q ≡ some v)). let old = r.seats q v h.1 in let o = others_run id q v h.0 new run all ok (old.0, old.1) in (o.0, o.1, old.2)) (at_set s.views id q w v e);
+    seats = λ q v e. ⊎_elim (λ (h : (q ≡ id) × (w ≡ v)). subst (λ (z : ℕ × View N). Shows (state (new ++ run)) z.0 z.1 ×
+        (deeds_of z.1.trail ≡ deeds z.0 (new ++ run)) × (z.1.threads ≡ t)) (λ j. (sym h.0 j, h.1 j)) (mine, worked, same_threads ∙ (r.seats id me.0 at).2))
+        (λ (h : (q ≢ id) × (get_elem? s.views q ≡ some v)). let old = r.seats q v h.1 in let o = others_run id q v h.0 new run all ok (old.0, old.1) in
+        (o.0, o.1, old.2)) (at_set s.views id q w v e);
     lays = lays;
-    beyond = λ q le. nobody_run id q (λ e. let lt = lt_of_at s.views id me.0 at in let same = length-set s.views id w in absurd (omega arith)) new run all ok (r.beyond q (let same = length-set s.views id w in omega arith));
+    beyond = λ q le. nobody_run id q (λ e. let lt = lt_of_at s.views id me.0 at in let same = length-set s.views id w in
+        absurd (omega arith)) new run all ok (r.beyond q (let same = length-set s.views id w in omega arith));
   }
     where
       lt_of_at : (l : List (View N)) (j : ℕ) (v : View N) → get_elem? l j ≡ some v → j < length l
@@ -151,13 +170,16 @@ module _ {X N : Type 0} (D : Discipline X N) (t : ℕ) where
       lt_of_at (y ∷ ys) (suc j) v e = let h = lt_of_at ys j v e in omega arith
 
   -- what the leader has stored stays: at a step on the first two words, or in a published round
-  pub still_laid : (run : List Event) (s : table.State X (View N)) (r : Rule run s) (i x id : ℕ) (me : SeatOf) (w : View N) (new : List Event) → get_elem? s.views id ≡ some me.0
+  pub still_laid : (run : List Event) (s : table.State X (View N)) (r : Rule run s) (i x id : ℕ) (me : SeatOf) (w : View N) (new : List Event)
+      → get_elem? s.views id ≡ some me.0
       → ((w.known.stored ≡ []) ⊎ (w.known.stored ≡ me.0.known.stored)) → w.laid ≡ me.0.laid → (state (new ++ run)).published ≡ (state run).published
       → ((state run).published ≢ None → (state (new ++ run)).round ≡ (state run).round)
-      → ((i < finished_at) × ((q : ℕ) → ((state (new ++ run)).rounds q).jobs ≡ ((state run).rounds q).jobs) × ((q k : ℕ) → times k ((state (new ++ run)).rounds q).begun ≡ times k ((state run).rounds q).begun)) ⊎ ((state run).published ≢ None)
+      → ((i < finished_at) × ((q : ℕ) → ((state (new ++ run)).rounds q).jobs ≡ ((state run).rounds q).jobs) ×
+      ((q k : ℕ) → times k ((state (new ++ run)).rounds q).begun ≡ times k ((state run).rounds q).begun)) ⊎ ((state run).published ≢ None)
       → (v : View N) → get_elem? (set s.views id w) 0 ≡ some v → Laid t (state (new ++ run)) (set s.words i x) v
   still_laid run s r i x id me w new at stored laid published round where_it_is v e = ⊎_elim
-      (λ (h : (0 ≡ id) × (w ≡ v)). let l = r.lays me.0 (subst (λ (z : ℕ). get_elem? s.views z ≡ some me.0) (sym h.0) at) in subst (Laid t (state (new ++ run)) (set s.words i x)) h.1 (on me.0 w l stored laid))
+      (λ (h : (0 ≡ id) × (w ≡ v)). let l = r.lays me.0 (subst (λ (z : ℕ). get_elem? s.views z ≡ some me.0) (sym h.0) at) in
+      subst (Laid t (state (new ++ run)) (set s.words i x)) h.1 (on me.0 w l stored laid))
       (λ (h : (0 ≢ id) × (get_elem? s.views 0 ≡ some v)). on v v (r.lays v h.1) (inr refl) refl) (at_set s.views id 0 w v e)
     where
       S : State
@@ -166,35 +188,49 @@ module _ {X N : Type 0} (D : Discipline X N) (t : ℕ) where
       S' : State
       S' = state (new ++ run)
 
-      on : (u u' : View N) → Laid t S s.words u → (u'.known.stored ≡ []) ⊎ (u'.known.stored ≡ u.known.stored) → u'.laid ≡ u.laid → Laid t S' (set s.words i x) u'
+      on : (u u' : View N) → Laid t S s.words u → (u'.known.stored ≡ []) ⊎ (u'.known.stored ≡ u.known.stored) → u'.laid ≡ u.laid → Laid t S'
+          (set s.words i x) u'
       on u u' l st la = record {
-        stored = λ j y e. ⊎_elim (λ (z : u'.known.stored ≡ []). let n = ap (λ (a : List (ℕ × ℕ)). stored_at a j) z in absurd cc) (λ (z : u'.known.stored ≡ u.known.stored). ⊎_elim
-            (λ (low : (i < finished_at) × ((q : ℕ) → (S'.rounds q).jobs ≡ (S.rounds q).jobs) × ((q k : ℕ) → times k (S'.rounds q).begun ≡ times k (S.rounds q).begun)).
-            let old = l.stored j y (sym (ap (λ (a : List (ℕ × ℕ)). stored_at a j) z) ∙ e) in let lt = low.0 in let le = old.0 in (old.0, get_or-set_other s.words i j x 0 (λ b. omega arith) ∙ old.1))
+        stored = λ j y e. ⊎_elim (λ (z : u'.known.stored ≡ []). let n = ap (λ (a : List (ℕ × ℕ)). stored_at a j) z in
+            absurd cc) (λ (z : u'.known.stored ≡ u.known.stored). ⊎_elim
+            (λ (low : (i < finished_at) × ((q : ℕ) → (S'.rounds q).jobs ≡ (S.rounds q).jobs) ×
+            ((q k : ℕ) → times k (S'.rounds q).begun ≡ times k (S.rounds q).begun)).
+            let old = l.stored j y (sym (ap (λ (a : List (ℕ × ℕ)). stored_at a j) z) ∙ e) in let lt = low.0 in let le = old.0 in
+            (old.0, get_or-set_other s.words i j x 0 (λ b. omega arith) ∙ old.1))
             (λ is. let none_stored = z ∙ l.unstored is in let n = ap (λ (a : List (ℕ × ℕ)). stored_at a j) none_stored in absurd cc) where_it_is) st;
         unstored = λ is. ⊎_elim (λ z. z) (λ z. z ∙ l.unstored (λ n. is (published ∙ n))) st;
         current = λ is. la ∙ (l.current (λ n. is (published ∙ n)) ∙ ap (λ (z : ℕ). Some z) (sym (round (λ n. is (published ∙ n)))));
         left = λ q e hid. ⊎_elim
-            (λ (low : (i < finished_at) × ((q : ℕ) → (S'.rounds q).jobs ≡ (S.rounds q).jobs) × ((q k : ℕ) → times k (S'.rounds q).begun ≡ times k (S.rounds q).begun)). let lt = low.0 in stands_on t (S.rounds q) (S'.rounds q) s.words (set s.words i x) (low.1 q) (low.2 q) (λ j le. get_or-set_other s.words i j x 0 (λ z. omega arith)) (l.left q (sym la ∙ e) (sym published ∙ hid)))
+            (λ (low : (i < finished_at) × ((q : ℕ) → (S'.rounds q).jobs ≡ (S.rounds q).jobs) ×
+            ((q k : ℕ) → times k (S'.rounds q).begun ≡ times k (S.rounds q).begun)). let lt = low.0 in
+            stands_on t (S.rounds q) (S'.rounds q) s.words (set s.words i x) (low.1 q) (low.2 q)
+            (λ j le. get_or-set_other s.words i j x 0 (λ z. omega arith)) (l.left q (sym la ∙ e) (sym published ∙ hid)))
             (λ is. absurd (is (sym published ∙ hid))) where_it_is;
       }
 
 module _ {X N : Type 0} (D : Discipline X N) (law : Lawful D) (t : ℕ) where
   -- a step at which no number begins, finishes or is published, and nothing is cleared
-  pub moves : (run : List Event) (s : table.State X (View N)) (r : Rule D t run s) (i x id : ℕ) (me : SeatOf D t) (w : View N) (new : List Event) → get_elem? s.views id ≡ some me.0 → AllBy id new → AllQuiet new → SameSlots me.0 w → IsRun (new ++ run)
+  pub moves : (run : List Event) (s : table.State X (View N)) (r : Rule D t run s) (i x id : ℕ) (me : SeatOf D t) (w : View N) (new : List Event)
+      → get_elem? s.views id ≡ some me.0 → AllBy id new → AllQuiet new → SameSlots me.0 w → IsRun (new ++ run)
       → Words t (state (new ++ run)) (set s.words i x) → Shows (state (new ++ run)) id w → deeds_of w.trail ≡ deeds id (new ++ run) → w.threads ≡ me.0.threads
-      → ((w.known.stored ≡ []) ⊎ (w.known.stored ≡ me.0.known.stored)) → w.laid ≡ me.0.laid → (state (new ++ run)).published ≡ (state run).published → (i < finished_at) ⊎ ((state run).published ≢ None) → Rule D t (new ++ run) (stepped s i x id me.1 w keeps)
+      → ((w.known.stored ≡ []) ⊎ (w.known.stored ≡ me.0.known.stored)) → w.laid ≡ me.0.laid → (state (new ++ run)).published ≡ (state run).published →
+      (i < finished_at) ⊎ ((state run).published ≢ None) → Rule D t (new ++ run) (stepped s i x id me.1 w keeps)
   moves run s r i x id me w new at all quiets slots ok words mine worked same_threads stored laid published where_it_is = let q = quiet_run new run quiets ok in
       moves_with D t run s r i x id me w keeps new at all ok words mine worked same_threads
-      (still_laid D t run s r i x id me w new at stored laid published (λ is. let z = some_of (state run).published is in (q.published z.0 (published ∙ z.1)).1) (⊎_elim (λ (low : i < finished_at). inl (low, q.jobs, q.begun)) inr where_it_is))
+      (still_laid D t run s r i x id me w new at stored laid published (λ is. let z = some_of (state run).published is in
+      (q.published z.0 (published ∙ z.1)).1) (⊎_elim (λ (low : i < finished_at). inl (low, q.jobs, q.begun)) inr where_it_is))
       (law.stays (state run) (state (new ++ run)) s.homes s.views id me.0 w r.slots q at slots)
 
   -- a step that leaves the word, and no event
-  pub stays : (run : List Event) (s : table.State X (View N)) (r : Rule D t run s) (i id : ℕ) (me : SeatOf D t) (w : View N) → get_elem? s.views id ≡ some me.0 → SameSlots me.0 w → Shows (state run) id w → deeds_of w.trail ≡ deeds_of me.0.trail → w.threads ≡ me.0.threads
+  pub stays : (run : List Event) (s : table.State X (View N)) (r : Rule D t run s) (i id : ℕ) (me : SeatOf D t) (w : View N) → get_elem? s.views id ≡ some me.0
+      → SameSlots me.0 w → Shows (state run) id w → deeds_of w.trail ≡ deeds_of me.0.trail → w.threads ≡ me.0.threads
       → ((w.known.stored ≡ []) ⊎ (w.known.stored ≡ me.0.known.stored)) → w.laid ≡ me.0.laid → Rule D t run (stepped s i (get_or s.words i 0) id me.1 w keeps)
   stays run s r i id me w at slots mine same same_threads stored laid = let here = set-get_or s.words i 0 in
-      subst (λ (ws : List ℕ). Rule D t run record { words = ws; homes = s.homes; views = set s.views id w }) (sym here) (subst (λ (ws : List ℕ). Rule D t run record { words = ws; homes = s.homes; views = set s.views id w }) (set-get_or s.words barrier_at 0)
-      (moves run s r 0 (get_or s.words barrier_at 0) id me w [] at tt tt slots r.is_run (subst (Words t (state run)) (sym (set-get_or s.words barrier_at 0)) r.words) mine (same ∙ (r.seats id me.0 at).1) same_threads stored laid refl (inl (omega arith))))
+      subst (λ (ws : List ℕ). Rule D t run record { words = ws; homes = s.homes; views = set s.views id w }) (sym here)
+      (subst (λ (ws : List ℕ). Rule D t run record { words = ws; homes = s.homes; views = set s.views id w }) (set-get_or s.words barrier_at 0)
+      (moves run s r 0 (get_or s.words barrier_at 0) id me w [] at tt tt slots r.is_run
+      (subst (Words t (state run)) (sym (set-get_or s.words barrier_at 0)) r.words) mine (same ∙ (r.seats id me.0 at).1) same_threads stored laid refl
+      (inl (omega arith))))
 
 -- one step more in the trail
 pub noted_shows : {N : Type 0} (s : State) (p : ℕ) (v : View N) (x : Trace Kind) → Shows s p v → Shows s p (noted x v)
@@ -209,36 +245,62 @@ module _ {X N : Type 0} (D : Discipline X N) (law : Lawful D) (t slots id : ℕ)
     pub small : get_or s.words i 0 < 18446744073709551616
 
   -- a load, or a change of any word whatever it holds
-  pub turns : (g : ℕ → ℕ) (new : List Event) (f : ℕ → View N → View N) (st : Step X) → ((run : List Event) (s : table.State X (View N)) → Before run s → Rule D t (new ++ run) (stepped s i (g (get_or s.words i 0)) id me.1 (f (get_or s.words i 0) me.0) keeps))
+  pub turns : (g : ℕ → ℕ) (new : List Event) (f : ℕ → View N → View N) (st : Step X) →
+      ((run : List Event) (s : table.State X (View N)) → Before run s → Rule D t (new ++ run)
+      (stepped s i (g (get_or s.words i 0)) id me.1 (f (get_or s.words i 0) me.0) keeps))
       → Adds D t slots id me i g (λ _. new) (Turns f st me)
-  turns g new f st owed = record { shows = λ run s r _ at small. (f (get_or s.words i 0) me.0, keeps, tt, owed run s record { rule = r; at = at; small = small }, (refl, refl)) }
+  turns g new f st owed = record {
+    shows = λ run s r _ at small. (
+      f (get_or s.words i 0) me.0,
+      keeps,
+      tt,
+      owed run s record { rule = r; at = at; small = small },
+      (refl, refl),
+    );
+  }
 
-  pub stores : (x : ℕ) (new : List Event) (f : ℕ → View N → View N) (st : Step X) → ((run : List Event) (s : table.State X (View N)) → Before run s → Rule D t (new ++ run) (stepped s i x id me.1 (f x me.0) keeps))
+  pub stores : (x : ℕ) (new : List Event) (f : ℕ → View N → View N) (st : Step X) →
+      ((run : List Event) (s : table.State X (View N)) → Before run s → Rule D t (new ++ run) (stepped s i x id me.1 (f x me.0) keeps))
       → Adds D t slots id me i (λ _. x) (λ _. new) (λ _. Turns f st me x)
   stores x new f st owed = record { shows = λ run s r _ at small. (f x me.0, keeps, tt, owed run s record { rule = r; at = at; small = small }, (refl, refl)) }
 
   -- an exchange that finds another value
-  pub misses : (run : List Event) (s : table.State X (View N)) (r : Rule D t run s) → get_elem? s.views id ≡ some me.0 → (old to : ℕ) (new : List Event) → get_or s.words i 0 ≢ old
-      → let x : ℕ = get_or s.words i 0 in Rule D t ((if x == old then new else []) ++ run) (stepped s i (either (x == old) to x) id me.1 (missing i x me.0) keeps)
-  misses run s r at old to new miss = let x : ℕ = get_or s.words i 0 in subst (λ b. Rule D t ((if b then new else []) ++ run) (stepped s i (either b to x) id me.1 (missing i x me.0) keeps)) (sym (ne_eqb x old miss))
-      (stays D law t run s r i id me (missing i x me.0) at (refl, refl, refl) (noted_shows (state run) id me.0 _ (r.seats id me.0 at).0) refl refl (inr refl) refl)
+  pub misses : (run : List Event) (s : table.State X (View N)) (r : Rule D t run s) → get_elem? s.views id ≡ some me.0 → (old to : ℕ) (new : List Event)
+      → get_or s.words i 0 ≢ old
+      → let x : ℕ = get_or s.words i 0 in Rule D t ((if x == old then new else []) ++ run)
+      (stepped s i (either (x == old) to x) id me.1 (missing i x me.0) keeps)
+  misses run s r at old to new miss = let x : ℕ = get_or s.words i 0 in
+      subst (λ b. Rule D t ((if b then new else []) ++ run) (stepped s i (either b to x) id me.1 (missing i x me.0) keeps)) (sym (ne_eqb x old miss))
+      (stays D law t run s r i id me (missing i x me.0) at (refl, refl, refl) (noted_shows (state run) id me.0 _ (r.seats id me.0 at).0) refl refl
+      (inr refl) refl)
 
   -- an exchange that finds what it expects
-  pub hits : (run : List Event) (s : table.State X (View N)) (old to : ℕ) (new : List Event) (w : View N) (a : Act X) → get_or s.words i 0 ≡ old → Rule D t (new ++ run) (stepped s i to id me.1 w a)
+  pub hits : (run : List Event) (s : table.State X (View N)) (old to : ℕ) (new : List Event) (w : View N) (a : Act X) → get_or s.words i 0 ≡ old → Rule D t
+      (new ++ run) (stepped s i to id me.1 w a)
       → let x : ℕ = get_or s.words i 0 in Rule D t ((if x == old then new else []) ++ run) (stepped s i (either (x == old) to x) id me.1 w a)
-  hits run s old to new w a hit r = let x : ℕ = get_or s.words i 0 in subst (λ b. Rule D t ((if b then new else []) ++ run) (stepped s i (either b to x) id me.1 w a)) (sym (eq-eqb x old hit)) r
+  hits run s old to new w a hit r = let x : ℕ = get_or s.words i 0 in
+      subst (λ b. Rule D t ((if b then new else []) ++ run) (stepped s i (either b to x) id me.1 w a)) (sym (eq-eqb x old hit)) r
 
-  pub exchanges : (old to : ℕ) (new : List Event) (f : ℕ → View N → View N) → ((run : List Event) (s : table.State X (View N)) → Before run s → get_or s.words i 0 ≡ old → Rule D t (new ++ run) (stepped s i to id me.1 (f (get_or s.words i 0) me.0) keeps))
+  pub exchanges : (old to : ℕ) (new : List Event) (f : ℕ → View N → View N) →
+      ((run : List Event) (s : table.State X (View N)) → Before run s → get_or s.words i 0 ≡ old → Rule D t (new ++ run)
+      (stepped s i to id me.1 (f (get_or s.words i 0) me.0) keeps))
       → Exchange D t slots id me i old to new (Exchanges f)
   exchanges old to new f owed = record {
     shows = λ run s r _ at small. let x : ℕ = get_or s.words i 0 in dite (ℕ_discrete x old)
-        (λ hit. (f x me.0, keeps, tt, hits run s old to new (f x me.0) keeps hit (owed run s record { rule = r; at = at; small = small } hit), (refl, (λ _. refl), λ not. absurd (not hit))))
+        (λ hit. (
+          f x me.0,
+          keeps,
+          tt,
+          hits run s old to new (f x me.0) keeps hit (owed run s record { rule = r; at = at; small = small } hit),
+          (refl, (λ _. refl), λ not. absurd (not hit)),
+        ))
         (λ miss. (missing i x me.0, keeps, tt, misses run s r at old to new miss, (refl, (λ hit. absurd (miss hit)), λ _. refl)));
   }
 
   -- an exchange with which a number begins
   pub begins_by : (old to : ℕ) (new : List Event) (number : ℕ → ℕ) (f : ℕ → Option N → View N → View N)
-      → ((run : List Event) (s : table.State X (View N)) → Before run s → get_or s.words i 0 ≡ old → (x : Option N) × (a : Act X) × Valid s.homes me.1 a × Rule D t (new ++ run) (stepped s i to id me.1 (f old x me.0) a) × D.took (number old) me.1 x (carried_after me.1 a))
+      → ((run : List Event) (s : table.State X (View N)) → Before run s → get_or s.words i 0 ≡ old → (x : Option N) × (a : Act X) × Valid s.homes me.1 a
+      × Rule D t (new ++ run) (stepped s i to id me.1 (f old x me.0) a) × D.took (number old) me.1 x (carried_after me.1 a))
       → Exchange D t slots id me i old to new (Begun D number f)
   begins_by old to new number f owed = record {
     shows = λ run s r _ at small. let x : ℕ = get_or s.words i 0 in dite (ℕ_discrete x old)
@@ -247,14 +309,21 @@ module _ {X N : Type 0} (D : Discipline X N) (law : Lawful D) (t slots id : ℕ)
           o.1,
           o.2,
           hits run s old to new (f old o.0 me.0) o.1 hit o.3,
-          ((λ _. (o.0, (λ j. f (sym hit j) o.0 me.0), subst (λ (z : ℕ). D.took (number z) me.1 o.0 (carried_after me.1 o.1)) (sym hit) o.4)), λ not. absurd (not hit)),
+          (
+            (λ _. (o.0, (λ j. f (sym hit j) o.0 me.0), subst (λ (z : ℕ). D.took (number z) me.1 o.0 (carried_after me.1 o.1)) (sym hit) o.4)),
+            λ not. absurd
+                (not hit),
+          ),
         ))
         (λ miss. (missing i x me.0, keeps, tt, misses run s r at old to new miss, ((λ hit. absurd (miss hit)), λ _. (refl, refl))));
   }
 
 -- so the rule stands after the step
-pub kept : {X N : Type 0} {D : Discipline X N} {t slots id : ℕ} {me : Me X (View N)} {i : ℕ} {f : ℕ → ℕ} {new : ℕ → List Event} {says : ℕ → Me X (View N) → Type 0} → Adds D t slots id me i f new says → Allows (Shown D t) slots id me i f says
-kept {i = i} {new = new} a s r wide at small = let o = a.shows r.run s r.by_run wide at small in (o.0, o.1, o.2, record { run = new (get_or s.words i 0) ++ r.run; by_run = o.3 }, o.4)
+pub kept : {X N : Type 0} {D : Discipline X N} {t slots id : ℕ} {me : Me X (View N)} {i : ℕ} {f : ℕ → ℕ} {new : ℕ → List Event} {says : ℕ → Me X (View N)
+    → Type 0} → Adds D t slots id me i f new says → Allows (Shown D t) slots id me i f says
+kept {i = i} {new = new} a s r wide at small = let o = a.shows r.run s r.by_run wide at small in
+    (o.0, o.1, o.2, record { run = new (get_or s.words i 0) ++ r.run; by_run = o.3 }, o.4)
 
-pub kept_split : {X N : Type 0} {D : Discipline X N} {t id : ℕ} {v left right : View N} → ((run : List Event) → Splits (ShownBy D t run) id v left right) → Splits (Shown D t) id v left right
+pub kept_split : {X N : Type 0} {D : Discipline X N} {t id : ℕ} {v left right : View N} → ((run : List Event) → Splits (ShownBy D t run) id v left right)
+    → Splits (Shown D t) id v left right
 kept_split a s r at = record { run = r.run; by_run = a r.run s r.by_run at }

@@ -44,10 +44,12 @@ module _ (S : State) (id k : ℕ) (some : ℕ → Bool) (mine : some k ≡ true)
   first_party = look_here S.parties id with_some
 
   pub last_party : party then_begun id ≡ record (party S id) { running = Some k; taken = put with_some.taken k false }
-  last_party = look_here taken_first.parties id (record (party taken_first id) { running = Some k; taken = put (party taken_first id).taken k false }) ∙ ap (λ (z : Party). let y : Party = record z { running = Some k; taken = put z.taken k false } in y) first_party
+  last_party = look_here taken_first.parties id (record (party taken_first id) { running = Some k; taken = put (party taken_first id).taken k false }) ∙ ap
+      (λ (z : Party). let y : Party = record z { running = Some k; taken = put z.taken k false } in y) first_party
 
   pub last_other : (a : ℕ) → a ≢ id → party then_begun a ≡ party S a
-  last_other a n = look_else taken_first.parties id (record (party taken_first id) { running = Some k; taken = put (party taken_first id).taken k false }) a n ∙ look_else S.parties id with_some a n
+  last_other a n = look_else taken_first.parties id (record (party taken_first id) { running = Some k; taken = put (party taken_first id).taken k false }) a n
+      ∙ look_else S.parties id with_some a n
 
   pub last_round : now then_begun ≡ record (now S) { begun = (now S).begun ++ k ∷ [] }
   last_round = put_here S.rounds S.round (record (now S) { begun = (now S).begun ++ k ∷ [] })
@@ -57,41 +59,60 @@ module _ (S : State) (id k : ℕ) (some : ℕ → Bool) (mine : some k ≡ true)
 
   pub last_taken : (j a : ℕ) → some j ≡ false → (party then_begun a).taken j ≡ (party S a).taken j
   last_taken j a n = dite (ℕ_discrete a id)
-      (λ e. subst (λ (z : ℕ). (party then_begun z).taken j ≡ (party S z).taken j) (sym e) (ap (λ (z : Party). z.taken j) last_party ∙ (put_else with_some.taken k false j (not_k j n) ∙ or_false ((party S id).taken j) (some j) n)))
+      (λ e. subst (λ (z : ℕ). (party then_begun z).taken j ≡ (party S z).taken j) (sym e)
+      (ap (λ (z : Party). z.taken j) last_party ∙ (put_else with_some.taken k false j (not_k j n) ∙ or_false ((party S id).taken j) (some j) n)))
       (λ m. ap (λ (z : Party). z.taken j) (last_other a m))
 
   pub still_free : (j : ℕ) → some j ≡ false → Free S j → Free then_begun j
-  still_free j n f = (subst (λ (z : Round). j < z.jobs) (sym last_round) f.0, ap (λ (z : Round). times j z.begun) last_round ∙ (times_else j (now S).begun k (not_k j n) ∙ f.1), λ a. last_taken j a n ∙ f.2 a)
+  still_free j n f = (
+    subst (λ (z : Round). j < z.jobs) (sym last_round) f.0,
+    ap (λ (z : Round). times j z.begun) last_round ∙
+        (times_else j (now S).begun k (not_k j n) ∙ f.1),
+    λ a. last_taken j a n ∙ f.2 a,
+  )
 
   pub was_free : (j : ℕ) → Free then_begun j → (some j ≡ false) × Free S j
-  was_free j f = let c = ap (λ (z : Round). times j z.begun) last_round in let fresh : j ≢ k = (λ e. let a = times_same k (now S).begun in let b = ap (λ (z : ℕ). times z ((now S).begun ++ k ∷ [])) e in let d = f.1 in absurd (omega arith)) in
-      let out : some j ≡ false = (both_false ((party S id).taken j) (some j) (sym (put_else with_some.taken k false j fresh) ∙ (sym (ap (λ (z : Party). z.taken j) last_party) ∙ f.2 id))).1 in
+  was_free j f = let c = ap (λ (z : Round). times j z.begun) last_round in
+      let fresh : j ≢ k = (λ e. let a = times_same k (now S).begun in let b = ap (λ (z : ℕ). times z ((now S).begun ++ k ∷ [])) e in let d = f.1 in
+      absurd (omega arith)) in
+      let out : some j ≡ false = (both_false ((party S id).taken j) (some j)
+      (sym (put_else with_some.taken k false j fresh) ∙ (sym (ap (λ (z : Party). z.taken j) last_party) ∙ f.2 id))).1 in
       (out, (subst (λ (z : Round). j < z.jobs) last_round f.0, sym (times_else j (now S).begun k fresh) ∙ (sym c ∙ f.1), λ a. sym (last_taken j a out) ∙ f.2 a))
 
   -- its status stays, and so do both counts
   pub same_word : word S ≡ word then_begun
   same_word = word_stays S then_begun refl
-      (counts_stay weight_in refl (λ x y e. ap is_in e) taken_first.parties id (record (party taken_first id) { running = Some k; taken = put (party taken_first id).taken k false }) refl ∙ counts_stay weight_in refl (λ x y e. ap is_in e) S.parties id with_some refl)
-      (counts_stay weight_member refl (λ x y e. ap is_member e) taken_first.parties id (record (party taken_first id) { running = Some k; taken = put (party taken_first id).taken k false }) refl ∙ counts_stay weight_member refl (λ x y e. ap is_member e) S.parties id with_some refl)
+      (counts_stay weight_in refl (λ x y e. ap is_in e) taken_first.parties id
+      (record (party taken_first id) { running = Some k; taken = put (party taken_first id).taken k false }) refl ∙ counts_stay weight_in refl
+      (λ x y e. ap is_in e) S.parties id with_some refl)
+      (counts_stay weight_member refl (λ x y e. ap is_member e) taken_first.parties id
+      (record (party taken_first id) { running = Some k; taken = put (party taken_first id).taken k false }) refl ∙ counts_stay weight_member refl
+      (λ x y e. ap is_member e) S.parties id with_some refl)
 
   -- the word i of the counters becomes x
-  pub last_words : (t : ℕ) (ws : List ℕ) (i x : ℕ) → remainder_at ≤ i → Words t S ws → ((n : ℕ) → S.published ≡ Some n → Counters t then_begun (set ws i x) n) → Words t then_begun (set ws i x)
-  last_words t ws i x high w counters = let other : (j : ℕ) → j < remainder_at → get_or (set ws i x) j 0 ≡ get_or ws j 0 = (λ j lt. get_or-set_other ws i j x 0 (λ e. omega arith)) in record {
-    wide = length-set ws i x ∙ w.wide;
-    barrier = other barrier_at (omega arith) ∙ (w.barrier ∙ same_word);
-    published = other published_at (omega arith) ∙ (w.published ∙ sym (ap (λ (z : Round). number_of S.published z.stoppable) last_round));
-    finished = λ some. other finished_at (omega arith) ∙ (w.finished some ∙ sym (ap (λ (z : Round). length z.finished) last_round));
-    stopped = λ some. let e = ap (λ (z : Round). z.stopped) last_round in ((λ on. other stopped_at (omega arith) ∙ (w.stopped some).0 (sym e ∙ on)), (λ on. other stopped_at (omega arith) ∙ (w.stopped some).1 (sym e ∙ on)));
-    counters = counters;
-    barren = w.barren;
-  }
+  pub last_words : (t : ℕ) (ws : List ℕ) (i x : ℕ) → remainder_at ≤ i → Words t S ws → ((n : ℕ) → S.published ≡ Some n → Counters t then_begun (set ws i x) n)
+      → Words t then_begun (set ws i x)
+  last_words t ws i x high w counters = let other : (j : ℕ) → j < remainder_at → get_or (set ws i x) j 0 ≡ get_or ws j 0 =
+      (λ j lt. get_or-set_other ws i j x 0 (λ e. omega arith)) in record {
+        wide = length-set ws i x ∙ w.wide;
+        barrier = other barrier_at (omega arith) ∙ (w.barrier ∙ same_word);
+        published = other published_at (omega arith) ∙ (w.published ∙ sym (ap (λ (z : Round). number_of S.published z.stoppable) last_round));
+        finished = λ some. other finished_at (omega arith) ∙ (w.finished some ∙ sym (ap (λ (z : Round). length z.finished) last_round));
+        stopped = λ some. let e = ap (λ (z : Round). z.stopped) last_round in
+            ((λ on. other stopped_at (omega arith) ∙ (w.stopped some).0 (sym e ∙ on)), (λ on. other stopped_at (omega arith) ∙ (w.stopped some).1 (sym e ∙ on)));
+        counters = counters;
+        barren = w.barren;
+      }
 
   -- the counters lose exactly the numbers taken
-  pub taken_counters : (t n : ℕ) (ws ws' : List ℕ) → Counters t S ws n → ((i j : ℕ) → i < t → InRange ws' i j → InRange ws i j × (some j ≡ false)) → ((j : ℕ) → InRemainder ws' n j → InRemainder ws n j × (some j ≡ false))
-      → ((i j : ℕ) → i < t → some j ≡ false → InRange ws i j → InRange ws' i j) → ((j : ℕ) → some j ≡ false → InRemainder ws n j → InRemainder ws' n j) → get_or ws' remainder_at 0 ≤ get_or ws remainder_at 0
+  pub taken_counters : (t n : ℕ) (ws ws' : List ℕ) → Counters t S ws n → ((i j : ℕ) → i < t → InRange ws' i j → InRange ws i j × (some j ≡ false)) →
+      ((j : ℕ) → InRemainder ws' n j → InRemainder ws n j × (some j ≡ false))
+      → ((i j : ℕ) → i < t → some j ≡ false → InRange ws i j → InRange ws' i j) → ((j : ℕ) → some j ≡ false → InRemainder ws n j → InRemainder ws' n j)
+      → get_or ws' remainder_at 0 ≤ get_or ws remainder_at 0
       → ((i : ℕ) → i < t → start_of (get_or ws' (range_at i) 0) ≤ end_of (get_or ws' (range_at i) 0)) → Counters t then_begun ws' n
   taken_counters t n ws ws' c shrinks rest_shrinks grows rest_grows few ordered = record {
-    free = λ j f. let b = was_free j f in ⊎_elim (λ (z : (i : ℕ) × (i < t) × InRange ws i j). inl (z.0, z.1, grows z.0 j z.1 b.0 z.2)) (λ (z : InRemainder ws n j). inr (rest_grows j b.0 z)) (c.free j b.1);
+    free = λ j f. let b = was_free j f in ⊎_elim (λ (z : (i : ℕ) × (i < t) × InRange ws i j). inl (z.0, z.1, grows z.0 j z.1 b.0 z.2))
+        (λ (z : InRemainder ws n j). inr (rest_grows j b.0 z)) (c.free j b.1);
     ranges = λ i j lt z. let b = shrinks i j lt z in still_free j b.1 (c.ranges i j lt b.0);
     remainder = λ j z. let b = rest_shrinks j z in still_free j b.1 (c.remainder j b.0);
     few = let a = c.few in omega arith;
@@ -102,33 +123,44 @@ module _ (S : State) (id k : ℕ) (some : ℕ → Bool) (mine : some k ≡ true)
   }
 
   -- a range loses them
-  pub range_taken : (t n i old new : ℕ) (ws : List ℕ) → Counters t S ws n → i < t → range_at i < length ws → get_or ws (range_at i) 0 ≡ old → ((j : ℕ) → some j ≡ true → IsWithin old j) → ((j : ℕ) → IsWithin new j → IsWithin old j × (some j ≡ false)) → ((j : ℕ) → some j ≡ false → IsWithin old j → IsWithin new j)
+  pub range_taken : (t n i old new : ℕ) (ws : List ℕ) → Counters t S ws n → i < t → range_at i < length ws → get_or ws (range_at i) 0 ≡ old →
+      ((j : ℕ) → some j ≡ true → IsWithin old j) → ((j : ℕ) → IsWithin new j → IsWithin old j × (some j ≡ false)) →
+      ((j : ℕ) → some j ≡ false → IsWithin old j → IsWithin new j)
       → start_of new ≤ end_of new → Counters t then_begun (set ws (range_at i) new) n
-  range_taken t n i old new ws c low deep is all less more tidy = let ws' : List ℕ = set ws (range_at i) new in let rest_same : get_or ws' remainder_at 0 ≡ get_or ws remainder_at 0 = get_or-set_other ws (range_at i) remainder_at new 0 (λ e. omega arith) in
+  range_taken t n i old new ws c low deep is all less more tidy = let ws' : List ℕ = set ws (range_at i) new in
+      let rest_same : get_or ws' remainder_at 0 ≡ get_or ws remainder_at 0 = get_or-set_other ws (range_at i) remainder_at new 0 (λ e. omega arith) in
       let none : (j : ℕ) → (some j ≡ true → ⊥) → some j ≡ false = (λ j n. ⊎_elim (λ e. absurd (n e)) (λ e. e) (true_or (some j))) in
       taken_counters t n ws ws' c
       (λ a j lt z. dite (ℕ_discrete a i)
-      (λ e. let now_is = ap (λ (b : ℕ). get_or ws' (range_at b) 0) e ∙ get_or-set_same ws (range_at i) new 0 deep in let b = less j (subst (λ (w : ℕ). IsWithin w j) now_is z) in (subst (λ (w : ℕ). IsWithin w j) (sym (ap (λ (b : ℕ). get_or ws (range_at b) 0) e ∙ is)) b.0, b.1))
+      (λ e. let now_is = ap (λ (b : ℕ). get_or ws' (range_at b) 0) e ∙ get_or-set_same ws (range_at i) new 0 deep in
+      let b = less j (subst (λ (w : ℕ). IsWithin w j) now_is z) in
+      (subst (λ (w : ℕ). IsWithin w j) (sym (ap (λ (b : ℕ). get_or ws (range_at b) 0) e ∙ is)) b.0, b.1))
       (λ other. let z' : InRange ws a j = subst (λ (w : ℕ). IsWithin w j) (get_or-set_other ws (range_at i) (range_at a) new 0 (λ e. other (omega arith))) z in
       (z', none j (λ e. other (c.apart a i j lt low z' (subst (λ (w : ℕ). IsWithin w j) (sym is) (all j e)))))))
-      (λ j z. let z₀ = z.0 in let z' : InRemainder ws n j = (omega arith, z.1) in (z', none j (λ e. c.remainder_apart i j low (subst (λ (w : ℕ). IsWithin w j) (sym is) (all j e)) z')))
+      (λ j z. let z₀ = z.0 in let z' : InRemainder ws n j = (omega arith, z.1) in
+      (z', none j (λ e. c.remainder_apart i j low (subst (λ (w : ℕ). IsWithin w j) (sym is) (all j e)) z')))
       (λ a j lt out z. dite (ℕ_discrete a i)
-      (λ e. subst (λ (w : ℕ). IsWithin w j) (sym (ap (λ (b : ℕ). get_or ws' (range_at b) 0) e ∙ get_or-set_same ws (range_at i) new 0 deep)) (more j out (subst (λ (w : ℕ). IsWithin w j) (ap (λ (b : ℕ). get_or ws (range_at b) 0) e ∙ is) z)))
+      (λ e. subst (λ (w : ℕ). IsWithin w j) (sym (ap (λ (b : ℕ). get_or ws' (range_at b) 0) e ∙ get_or-set_same ws (range_at i) new 0 deep))
+      (more j out (subst (λ (w : ℕ). IsWithin w j) (ap (λ (b : ℕ). get_or ws (range_at b) 0) e ∙ is) z)))
       (λ other. subst (λ (w : ℕ). IsWithin w j) (sym (get_or-set_other ws (range_at i) (range_at a) new 0 (λ e. other (omega arith)))) z))
       (λ j out z. let z₀ = z.0 in (omega arith, z.1)) (omega arith)
       (λ a lt. dite (ℕ_discrete a i)
       (λ e. subst (λ (w : ℕ). start_of w ≤ end_of w) (sym (ap (λ (b : ℕ). get_or ws' (range_at b) 0) e ∙ get_or-set_same ws (range_at i) new 0 deep)) tidy)
-      (λ other. subst (λ (w : ℕ). start_of w ≤ end_of w) (sym (get_or-set_other ws (range_at i) (range_at a) new 0 (λ e. other (omega arith)))) (c.ordered a lt)))
+      (λ other. subst (λ (w : ℕ). start_of w ≤ end_of w) (sym (get_or-set_other ws (range_at i) (range_at a) new 0 (λ e. other (omega arith))))
+      (c.ordered a lt)))
 
   -- to the slots, k begins
   pub begun_here : (run : List Event) → S ≡ state run → IsRun run → (n : ℕ) → Free S k → S.published ≡ Some n → Begins S then_begun k
-  begun_here run is ok n free shown = let R : Round = record (now S) { begun = (now S).begun ++ k ∷ [] } in let once = subst IsOnce (sym is) (run_once run ok) in let h = subst Sound (sym is) (sound run ok) in let at_most = (once S.round k).1 in let none_begun = free.1 in record {
-    round = refl;
-    published = refl;
-    begun = λ q j o. put_all (λ a y. (a ≢ S.round) ⊎ (j ≢ k) → times j y.begun ≡ times j (S.rounds a).begun) S.rounds S.round R (λ o. ⊎_elim (λ (z : S.round ≢ S.round). absurd (z refl)) (λ (z : j ≢ k). times_else j (now S).begun k z) o) (λ a z o. refl) q o;
-    finished = λ q j. put_all (λ a y. times j y.finished ≡ times j (S.rounds a).finished) S.rounds S.round R refl (λ a z. refl) q;
-    before = free.1;
-    after = (let a = ap (λ (z : Round). times k z.begun) last_round in let b = times_same k (now S).begun in omega arith);
-    unfinished = omega arith;
-    shown = (n, shown, (let a = (h.gate.shown n shown).0 in let b = free.0 in omega arith));
-  }
+  begun_here run is ok n free shown = let R : Round = record (now S) { begun = (now S).begun ++ k ∷ [] } in
+      let once = subst IsOnce (sym is) (run_once run ok) in let h = subst Sound (sym is) (sound run ok) in let at_most = (once S.round k).1 in
+      let none_begun = free.1 in record {
+        round = refl;
+        published = refl;
+        begun = λ q j o. put_all (λ a y. (a ≢ S.round) ⊎ (j ≢ k) → times j y.begun ≡ times j (S.rounds a).begun) S.rounds S.round R
+            (λ o. ⊎_elim (λ (z : S.round ≢ S.round). absurd (z refl)) (λ (z : j ≢ k). times_else j (now S).begun k z) o) (λ a z o. refl) q o;
+        finished = λ q j. put_all (λ a y. times j y.finished ≡ times j (S.rounds a).finished) S.rounds S.round R refl (λ a z. refl) q;
+        before = free.1;
+        after = (let a = ap (λ (z : Round). times k z.begun) last_round in let b = times_same k (now S).begun in omega arith);
+        unfinished = omega arith;
+        shown = (n, shown, (let a = (h.gate.shown n shown).0 in let b = free.0 in omega arith));
+      }

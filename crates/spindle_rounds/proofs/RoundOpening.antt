@@ -26,7 +26,8 @@ module _ {N : Type 0} where
   some_there (x ∷ xs) i v e = omega arith
 
   -- who has done nothing shows as an outsider
-  blank_shows : (s : State) (t p : ℕ) (leads : Bool) → (leads ≡ true → p ≡ 0) × (leads ≡ false → p ≢ 0) → party s p ≡ absent → s.closer ≢ Some p → let v : View N = outsider t leads in Shows s p v
+  blank_shows : (s : State) (t p : ℕ) (leads : Bool) → (leads ≡ true → p ≡ 0) × (leads ≡ false → p ≢ 0) → party s p ≡ absent → s.closer ≢ Some p
+      → let v : View N = outsider t leads in Shows s p v
   blank_shows s t p leads first is c = record {
     stands = (ap (λ (x : Party). x.status) is, c);
     leads = first;
@@ -43,7 +44,15 @@ module _ {X N : Type 0} (D : Discipline X N) (law : Lawful D) (t : ℕ) where
   pub opens : (ws : List ℕ) (xs : List X) → length ws ≡ words_of t → ((i : ℕ) → get_or ws i 0 ≡ 0) → D.starts xs → Rule D t [] (opening ws xs (outsider t true))
   opens ws xs wide zeros starts = record {
     is_run = tt;
-    words = record { wide = wide; barrier = zeros 0; published = zeros 8; finished = λ n. absurd (n refl); stopped = λ n. absurd (n refl); counters = λ n e. absurd cc; barren = λ _. refl };
+    words = record {
+      wide = wide;
+      barrier = zeros 0;
+      published = zeros 8;
+      finished = λ n. absurd (n refl);
+      stopped = λ n. absurd (n refl);
+      counters = λ n e. absurd cc;
+      barren = λ _. refl;
+    };
     seats = go;
     lays = λ v e. subst (Laid t fresh ws) (some-injective (outsider t true) v e) (blank_laid t fresh ws true refl);
     beyond = λ p le. (refl, (λ e. cc), refl);
@@ -51,16 +60,22 @@ module _ {X N : Type 0} (D : Discipline X N) (law : Lawful D) (t : ℕ) where
   }
     where
       go : (p : ℕ) (v : View N) → get_elem? (outsider t true ∷ []) p ≡ some v → Shows fresh p v × (deeds_of v.trail ≡ deeds p []) × (v.threads ≡ t)
-      go zero v e = subst (λ (z : View N). Shows fresh 0 z × (deeds_of z.trail ≡ deeds 0 []) × (z.threads ≡ t)) (some-injective (outsider t true) v e) (blank_shows fresh t 0 true ((λ _. refl), (λ e. absurd cc)) refl (λ c. cc), refl, refl)
+      go zero v e = subst (λ (z : View N). Shows fresh 0 z × (deeds_of z.trail ≡ deeds 0 []) × (z.threads ≡ t)) (some-injective (outsider t true) v e)
+          (blank_shows fresh t 0 true ((λ _. refl), (λ e. absurd cc)) refl (λ c. cc), refl, refl)
       go (suc p) v e = absurd (some-ne-none v (sym e))
 
   pub splits : (id : ℕ) (v : View N) (run : List Event) → Splits (Rule D t run) id v v (outsider v.threads false)
-  splits id v run s r at = let same = set_again s.views id v at in let new : View N = outsider v.threads false in subst (λ (l : List (View N)). Rule D t run record { words = s.words; homes = s.homes; views = l ++ new ∷ [] }) (sym same) record {
-    is_run = r.is_run;
-    words = r.words;
-    seats = λ p u e. ⊎_elim (r.seats p u) (λ (z : (p ≡ length s.views) × (new ≡ u)). let b = r.beyond p (let z₀ = z.0 in omega arith) in let some_seat = some_there s.views id v at in let z₀ = z.0 in
-        subst (λ (y : View N). Shows (state run) p y × (deeds_of y.trail ≡ deeds p run) × (y.threads ≡ t)) z.1 (blank_shows (state run) v.threads p false ((λ e. absurd cc), (λ _ e. omega arith)) b.0 b.1, sym b.2, (r.seats id v at).2)) (at_end s.views new u p e);
-    lays = λ u e. ⊎_elim (r.lays u) (λ (z : (0 ≡ length s.views) × (new ≡ u)). let some_seat = some_there s.views id v at in let z₀ = z.0 in absurd (omega arith)) (at_end s.views new u 0 e);
-    beyond = λ p le. r.beyond p (let n = length-append s.views (new ∷ []) in omega arith);
-    slots = law.splits (state run) s.homes s.views new r.slots (refl, refl, refl);
-  }
+  splits id v run s r at = let same = set_again s.views id v at in let new : View N = outsider v.threads false in
+      subst (λ (l : List (View N)). Rule D t run record { words = s.words; homes = s.homes; views = l ++ new ∷ [] }) (sym same) record {
+        is_run = r.is_run;
+        words = r.words;
+        seats = λ p u e. ⊎_elim (r.seats p u) (λ (z : (p ≡ length s.views) × (new ≡ u)). let b = r.beyond p (let z₀ = z.0 in omega arith) in
+            let some_seat = some_there s.views id v at in let z₀ = z.0 in
+            subst (λ (y : View N). Shows (state run) p y × (deeds_of y.trail ≡ deeds p run) × (y.threads ≡ t)) z.1
+            (blank_shows (state run) v.threads p false ((λ e. absurd cc), (λ _ e. omega arith)) b.0 b.1, sym b.2, (r.seats id v at).2))
+            (at_end s.views new u p e);
+        lays = λ u e. ⊎_elim (r.lays u) (λ (z : (0 ≡ length s.views) × (new ≡ u)). let some_seat = some_there s.views id v at in let z₀ = z.0 in
+            absurd (omega arith)) (at_end s.views new u 0 e);
+        beyond = λ p le. r.beyond p (let n = length-append s.views (new ∷ []) in omega arith);
+        slots = law.splits (state run) s.homes s.views new r.slots (refl, refl, refl);
+      }

@@ -33,10 +33,17 @@ runs_in s h k b f none = let a = h.work.begun k in let c = h.work.finished k in 
 
 -- the round's jobs stay
 same : (s s' : State) → s'.rounds ≡ s.rounds → s'.round ≡ s.round → ((n : ℕ) → s'.published ≡ Some n → s.published ≡ Some n) → Quiet s s'
-same s s' e r p = record { begun = λ q k. ap (λ (f : ℕ → Round). times k (f q).begun) e; finished = λ q k. ap (λ (f : ℕ → Round). times k (f q).finished) e; jobs = λ q. ap (λ (f : ℕ → Round). (f q).jobs) e; published = λ n z. (p n z, r); running = λ _ _ _. r }
+same s s' e r p = record {
+  begun = λ q k. ap (λ (f : ℕ → Round). times k (f q).begun) e;
+  finished = λ q k. ap (λ (f : ℕ → Round). times k (f q).finished) e;
+  jobs = λ q. ap (λ (f : ℕ → Round). (f q).jobs) e;
+  published = λ n z. (p n z, r);
+  running = λ _ _ _. r;
+}
 
 -- the round's record becomes r, with the same numbers
-changed : (s : State) (r : Round) → ((k : ℕ) → times k r.begun ≡ times k (now s).begun) → ((k : ℕ) → times k r.finished ≡ times k (now s).finished) → r.jobs ≡ (now s).jobs → Quiet s (change_round s r)
+changed : (s : State) (r : Round) → ((k : ℕ) → times k r.begun ≡ times k (now s).begun) → ((k : ℕ) → times k r.finished ≡ times k (now s).finished) → r.jobs ≡
+    (now s).jobs → Quiet s (change_round s r)
 changed s r b f j = record {
   begun = λ q k. put_all (λ i x. times k x.begun ≡ times k (s.rounds i).begun) s.rounds s.round r (b k) (λ i n. refl) q;
   finished = λ q k. put_all (λ i x. times k x.finished ≡ times k (s.rounds i).finished) s.rounds s.round r (f k) (λ i n. refl) q;
@@ -57,12 +64,35 @@ quiet s h (See p) q ok = changed s (record (now s) { seen = put (now s).seen p t
 quiet s h (PutBack p) q ok = same s (after s (PutBack p)) refl refl (λ n z. z)
 quiet s h (Arrive p) q ok = same s (after s (Arrive p)) refl refl (λ n z. z)
 quiet s h (Leave p) q ok = same s (after s (Leave p)) refl refl (λ n z. z)
-quiet s h (Exit p) q ok = let ps : List Party = put_party s.parties p (with_status Out (party s p)) in let none_closes = no_closer s h p ok.0 in dite (ℕ_discrete (members ps) 0)
-    (λ e. let hid = alone_hidden s h p ok.0 ok.2 e in subst (λ (b : Bool). Quiet s (if b then record { round = s.round + 1; parties = ps; closer = s.closer; published = s.published; rounds = s.rounds } else arrived s p ps)) (sym (eq-eqb (members ps) 0 e))
-    record { begun = λ _ _. refl; finished = λ _ _. refl; jobs = λ _. refl; published = λ n z. absurd cc; running = λ k b f. let o = none_begun h.fate (now s) s.parties h.work (h.gate.hidden hid none_closes) k in let a = h.work.begun k in let z = ap started o in absurd (omega arith) })
-    (λ n. subst (λ (b : Bool). Quiet s (if b then record { round = s.round + 1; parties = ps; closer = s.closer; published = s.published; rounds = s.rounds } else arrived s p ps)) (sym (ne_eqb (members ps) 0 n)) (same s (arrived s p ps) refl refl (λ n z. z)))
+quiet s h (Exit p) q ok = let ps : List Party = put_party s.parties p (with_status Out (party s p)) in let none_closes = no_closer s h p ok.0 in
+    dite (ℕ_discrete (members ps) 0)
+    (λ e. let hid = alone_hidden s h p ok.0 ok.2 e in subst (λ (b : Bool). Quiet s
+    (if b then record { round = s.round + 1; parties = ps; closer = s.closer; published = s.published; rounds = s.rounds } else arrived s p ps))
+    (sym (eq-eqb (members ps) 0 e))
+    record {
+      begun = λ _ _. refl;
+      finished = λ _ _. refl;
+      jobs = λ _. refl;
+      published = λ n z. absurd cc;
+      running = λ k b f. let o = none_begun h.fate
+          (now s) s.parties h.work (h.gate.hidden hid none_closes) k in let a = h.work.begun k in let z = ap started o in absurd (omega arith);
+    })
+    (λ n. subst (λ (b : Bool). Quiet s (if b then record {
+      round = s.round + 1;
+      parties = ps;
+      closer = s.closer;
+      published = s.published;
+      rounds = s.rounds;
+    } else arrived s p ps)) (sym (ne_eqb (members ps) 0 n)) (same s (arrived s p ps) refl refl (λ n z. z)))
 quiet s h (Clear p) q ok = same s (after s (Clear p)) refl refl (λ n z. absurd cc)
-quiet s h (End p) q ok = record { begun = λ _ _. refl; finished = λ _ _. refl; jobs = λ _. refl; published = λ n z. (let a = ok.1 in absurd cc); running = λ k b f. absurd (runs_in s h k b f (h.gate.closing p ok.0).0) }
+quiet s h (End p) q ok = record {
+  begun = λ _ _. refl;
+  finished = λ _ _. refl;
+  jobs = λ _. refl;
+  published = λ n z. (let a = ok.1 in
+      absurd cc);
+  running = λ k b f. absurd (runs_in s h k b f (h.gate.closing p ok.0).0);
+}
 
 chains : (a b c : State) → Quiet a b → Quiet b c → Quiet a c
 chains a b c f g = record {
@@ -70,9 +100,12 @@ chains a b c f g = record {
   finished = λ r k. g.finished r k ∙ f.finished r k;
   jobs = λ r. g.jobs r ∙ f.jobs r;
   published = λ n e. let x = g.published n e in let y = f.published n x.0 in (y.0, x.1 ∙ y.1);
-  running = λ k x y. let r = f.running k x y in let e₀ = f.begun a.round k in let e₁ = f.finished a.round k in g.running k (subst (λ (z : ℕ). 0 < times k (b.rounds z).begun) (sym r) (subst (λ (z : ℕ). 0 < z) (sym e₀) x)) (ap (λ (z : ℕ). times k (b.rounds z).finished) r ∙ (e₁ ∙ y)) ∙ r;
+  running = λ k x y. let r = f.running k x y in let e₀ = f.begun a.round k in let e₁ = f.finished a.round k in
+      g.running k (subst (λ (z : ℕ). 0 < times k (b.rounds z).begun) (sym r) (subst (λ (z : ℕ). 0 < z) (sym e₀) x))
+      (ap (λ (z : ℕ). times k (b.rounds z).finished) r ∙ (e₁ ∙ y)) ∙ r;
 }
 
 pub quiet_run : (new run : List Event) → AllQuiet new → IsRun (new ++ run) → Quiet (state run) (state (new ++ run))
 quiet_run [] run all ok = same (state run) (state run) refl refl (λ n z. z)
-quiet_run (e ∷ es) run all ok = chains (state run) (state (es ++ run)) (state (e ∷ (es ++ run))) (quiet_run es run all.1 ok.1) (quiet (state (es ++ run)) (sound (es ++ run) ok.1) e all.0 ok.0)
+quiet_run (e ∷ es) run all ok = chains (state run) (state (es ++ run)) (state (e ∷ (es ++ run))) (quiet_run es run all.1 ok.1)
+    (quiet (state (es ++ run)) (sound (es ++ run) ok.1) e all.0 ok.0)

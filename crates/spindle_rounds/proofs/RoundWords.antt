@@ -29,13 +29,20 @@ fields n a b c e x y z = record { count = omega arith; most = omega arith; sense
 
 -- what a state's word says
 pub word_fields : (s : State) → Sound s → (n : ℕ) → n ≡ word s → Fields n (inside s.parties) (members s.parties) (s.round % 2)
-word_fields s h n e = let few = h.gate.few in let le = inside_le_members s.parties in let p : ℕ = s.round % 2 in let two : p ≤ 1 = omega arith in fields n (inside s.parties) (members s.parties) p e (omega arith) few two
+word_fields s h n e = let few = h.gate.few in let le = inside_le_members s.parties in let p : ℕ = s.round % 2 in let two : p ≤ 1 = omega arith in
+    fields n (inside s.parties) (members s.parties) p e (omega arith) few two
 
 -- a step that leaves the counters' words, and what is free
-pub counters_stay : (t : ℕ) (s s' : State) (ws ws' : List ℕ) (n : ℕ) → get_or ws' remainder_at 0 ≡ get_or ws remainder_at 0 → ((i : ℕ) → i < t → get_or ws' (range_at i) 0 ≡ get_or ws (range_at i) 0) → ((k : ℕ) → Free s k → Free s' k) → ((k : ℕ) → Free s' k → Free s k) → ((now s').stopped ≡ false → (now s).stopped ≡ false)
+pub counters_stay : (t : ℕ) (s s' : State) (ws ws' : List ℕ) (n : ℕ) → get_or ws' remainder_at 0 ≡ get_or ws remainder_at 0 →
+    ((i : ℕ) → i < t → get_or ws' (range_at i) 0 ≡ get_or ws (range_at i) 0) → ((k : ℕ) → Free s k → Free s' k) → ((k : ℕ) → Free s' k → Free s k) →
+    ((now s').stopped ≡ false → (now s).stopped ≡ false)
     → Counters t s ws n → Counters t s' ws' n
 counters_stay t s s' ws ws' n rest same on back stopped c = let e₄ = rest in record {
-  free = λ k f. ⊎_elim (λ (z : (i : ℕ) × (i < t) × InRange ws i k). inl (z.0, z.1, fore z.0 k z.1 z.2)) (λ (z : InRemainder ws n k). inr ((let a = z.0 in omega arith), z.1)) (c.free k (back k f));
+  free = λ k f. ⊎_elim (λ (z : (i : ℕ) × (i < t) × InRange ws i k). inl (z.0, z.1, fore z.0 k z.1 z.2)) (λ (z : InRemainder ws n k). inr (
+    (let a = z.0 in
+        omega arith),
+    z.1,
+  )) (c.free k (back k f));
   ranges = λ i k lt z. on k (c.ranges i k lt (aft i k lt z));
   remainder = λ k z. on k (c.remainder k (rest_aft k z));
   few = let a = c.few in omega arith;
@@ -56,31 +63,45 @@ counters_stay t s s' ws ws' n rest same on back stopped c = let e₄ = rest in r
 
 module _ (t : ℕ) where
   -- a step on the barrier word alone, which leaves the round and what the parties have taken
-  pub barrier_words : (s s' : State) (ws : List ℕ) (x : ℕ) → Words t s ws → now s' ≡ now s → s'.published ≡ s.published → ((a k : ℕ) → (party s' a).taken k ≡ (party s a).taken k) → x ≡ word s' → Words t s' (set ws barrier_at x)
-  barrier_words s s' ws x w round shown taken is = let wide = w.wide in let other : (i : ℕ) → i ≢ 0 → get_or (set ws barrier_at x) i 0 ≡ get_or ws i 0 = (λ i n. get_or-set_other ws barrier_at i x 0 n) in record {
-    wide = length-set ws barrier_at x ∙ w.wide;
-    barrier = get_or-set_same ws barrier_at x 0 (omega arith) ∙ is;
-    published = other published_at (λ e. omega arith) ∙ (w.published ∙ (λ i. number_of (sym shown i) (sym round i).stoppable));
-    finished = λ some. other finished_at (λ e. omega arith) ∙ (w.finished (λ e. some (shown ∙ e)) ∙ ap (λ (r : Round). length r.finished) (sym round));
-    stopped = λ some. let old = w.stopped (λ e. some (shown ∙ e)) in let same = ap (λ (r : Round). r.stopped) (sym round) in ((λ e. other stopped_at (λ e. omega arith) ∙ old.0 (same ∙ e)), (λ e. other stopped_at (λ e. omega arith) ∙ old.1 (same ∙ e)));
-    counters = λ n e. counters_stay t s s' ws (set ws barrier_at x) n (other remainder_at (λ z. omega arith)) (λ i lt. other (range_at i) (λ z. omega arith)) (λ k f. freed s s' (sym round) taken k f) (λ k f. freed s' s round (λ a k. sym (taken a k)) k f)
-        (λ e. sym (ap (λ (r : Round). r.stopped) round) ∙ e) (w.counters n (sym shown ∙ e));
-    barren = λ z. shown ∙ w.barren z;
-  }
+  pub barrier_words : (s s' : State) (ws : List ℕ) (x : ℕ) → Words t s ws → now s' ≡ now s → s'.published ≡ s.published →
+      ((a k : ℕ) → (party s' a).taken k ≡ (party s a).taken k) → x ≡ word s' → Words t s' (set ws barrier_at x)
+  barrier_words s s' ws x w round shown taken is = let wide = w.wide in
+      let other : (i : ℕ) → i ≢ 0 → get_or (set ws barrier_at x) i 0 ≡ get_or ws i 0 = (λ i n. get_or-set_other ws barrier_at i x 0 n) in record {
+        wide = length-set ws barrier_at x ∙ w.wide;
+        barrier = get_or-set_same ws barrier_at x 0 (omega arith) ∙ is;
+        published = other published_at (λ e. omega arith) ∙ (w.published ∙ (λ i. number_of (sym shown i) (sym round i).stoppable));
+        finished = λ some. other finished_at (λ e. omega arith) ∙ (w.finished (λ e. some (shown ∙ e)) ∙ ap (λ (r : Round). length r.finished) (sym round));
+        stopped = λ some. let old = w.stopped (λ e. some (shown ∙ e)) in let same = ap (λ (r : Round). r.stopped) (sym round) in
+            ((λ e. other stopped_at (λ e. omega arith) ∙ old.0 (same ∙ e)), (λ e. other stopped_at (λ e. omega arith) ∙ old.1 (same ∙ e)));
+        counters = λ n e. counters_stay t s s' ws (set ws barrier_at x) n (other remainder_at (λ z. omega arith)) (λ i lt. other (range_at i) (λ z. omega arith))
+            (λ k f. freed s s' (sym round) taken k f) (λ k f. freed s' s round (λ a k. sym (taken a k)) k f)
+            (λ e. sym (ap (λ (r : Round). r.stopped) round) ∙ e) (w.counters n (sym shown ∙ e));
+        barren = λ z. shown ∙ w.barren z;
+      }
     where
       freed : (a b : State) → now a ≡ now b → ((q k : ℕ) → (party b q).taken k ≡ (party a q).taken k) → (k : ℕ) → Free a k → Free b k
       freed a b e same k f = (subst (λ (r : Round). k < r.jobs) e f.0, sym (ap (λ (r : Round). times k r.begun) e) ∙ f.1, λ q. same q k ∙ f.2 q)
 
   -- a change of one party's status
-  pub status_words : (s : State) (ws : List ℕ) (p x : ℕ) (st : Status) (c : Option ℕ) → Words t s ws → let s' : State = record { round = s.round; parties = put_party s.parties p (with_status st (party s p)); closer = c; published = s.published; rounds = s.rounds } in x ≡ word s' → Words t s' (set ws barrier_at x)
-  status_words s ws p x st c w is = let s' : State = record { round = s.round; parties = put_party s.parties p (with_status st (party s p)); closer = c; published = s.published; rounds = s.rounds } in barrier_words s s' ws x w refl refl same is
+  pub status_words : (s : State) (ws : List ℕ) (p x : ℕ) (st : Status) (c : Option ℕ) → Words t s ws → let s' : State =
+      record { round = s.round; parties = put_party s.parties p (with_status st (party s p)); closer = c; published = s.published; rounds = s.rounds } in
+      x ≡ word s' → Words t s' (set ws barrier_at x)
+  status_words s ws p x st c w is = let s' : State = record {
+    round = s.round;
+    parties = put_party s.parties p (with_status st (party s p));
+    closer = c;
+    published = s.published;
+    rounds = s.rounds;
+  } in barrier_words s s' ws x w refl refl same is
     where
       same : (a k : ℕ) → (party_of (put_party s.parties p (with_status st (party s p))) a).taken k ≡ (party s a).taken k
-      same a k = dite (ℕ_discrete a p) (λ e. subst (λ (z : ℕ). (party_of (put_party s.parties p (with_status st (party s p))) z).taken k ≡ (party s z).taken k) (sym e) (ap (λ (z : Party). z.taken k) (look_here s.parties p (with_status st (party s p)))))
+      same a k = dite (ℕ_discrete a p) (λ e. subst (λ (z : ℕ). (party_of (put_party s.parties p (with_status st (party s p))) z).taken k ≡ (party s z).taken k)
+          (sym e) (ap (λ (z : Party). z.taken k) (look_here s.parties p (with_status st (party s p)))))
           (λ n. ap (λ (z : Party). z.taken k) (look_else s.parties p (with_status st (party s p)) a n))
 
 -- who keeps its status leaves both counts
-pub counts_stay : (w : Party → ℕ) → w absent ≡ 0 → ((x y : Party) → x.status ≡ y.status → w x ≡ w y) → (l : List Party) (p : ℕ) (y : Party) → y.status ≡ (party_of l p).status → total w (put_party l p y) ≡ total w l
+pub counts_stay : (w : Party → ℕ) → w absent ≡ 0 → ((x y : Party) → x.status ≡ y.status → w x ≡ w y) → (l : List Party) (p : ℕ) (y : Party) → y.status ≡
+    (party_of l p).status → total w (put_party l p y) ≡ total w l
 counts_stay w z by_status l p y e = let a = total_put w z l p y in let b = by_status y (party_of l p) e in omega arith
 
 -- the barrier word is of the round and the two counts

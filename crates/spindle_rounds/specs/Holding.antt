@@ -71,7 +71,8 @@ module _ {T S N : Type 0} where
 
   -- it made one turn for each answer of the closure f, and no other step
   abbrev pub WaitTold : {F : Type 0} → (F → ℕ → F → Type 0) → F → ℕ → Me S (View N) → ExitStatus T S N → Type 0
-  WaitTold {F = F} answers f sense m status = (ns : List ℕ) × (n : ℕ) × (g h : F) × (u : Me S (View N)) × Turned answers sense ns f g m u × answers g n h × TurnsLast sense n u status
+  WaitTold {F = F} answers f sense m status = (ns : List ℕ) × (n : ℕ) × (g h : F) × (u : Me S (View N)) × Turned answers sense ns f g m u × answers g n h
+      × TurnsLast sense n u status
 
   -- the party remains
   abbrev pub Remains : ExitStatus T S N → Type 0
@@ -80,5 +81,6 @@ module _ {T S N : Type 0} where
 
   -- a party arrived and made its turns, or it was the closer, which remains
   abbrev pub TurnsTold : {F : Type 0} → (F → ℕ → F → Type 0) → F → Barrier T S N → ExitStatus T S N → Type 0
-  TurnsTold answers f b status = ((a : Me S (View N)) × (sense : ℕ) × HasSense a.0.standing sense × ArrivedBy arrival.Arrived b.seat.me a × WaitTold answers f sense a status)
+  TurnsTold answers f b status = ((a : Me S (View N)) × (sense : ℕ) × HasSense a.0.standing sense × ArrivedBy arrival.Arrived b.seat.me a
+      × WaitTold answers f sense a status)
       ⊎ ((a : Me S (View N)) × ArrivedBy arrival.Closer b.seat.me a × Remains status)

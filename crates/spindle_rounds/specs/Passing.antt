@@ -48,7 +48,8 @@ module _ {S N : Type 0} where
 
   -- one turn of a party that waits, and goes on waiting: where the answer n is more than 0 it tries to leave, and else it looks
   abbrev pub TurnsOn : ℕ → ℕ → Me S (View N) → Me S (View N) → Type 0
-  TurnsOn sense n m w = ((0 < n) × (LeftBy sense leave.Closing m w ⊎ LeftBy sense leave.Again m w)) ⊎ ((n ≡ 0) × (LookedBy sense look.Running m w ⊎ LookedBy sense look.Closing m w))
+  TurnsOn sense n m w = ((0 < n) × (LeftBy sense leave.Closing m w ⊎ LeftBy sense leave.Again m w)) ⊎
+      ((n ≡ 0) × (LookedBy sense look.Running m w ⊎ LookedBy sense look.Closing m w))
 
   -- a turn at which it finds that its round has ended
   abbrev pub TurnsOver : ℕ → ℕ → Me S (View N) → Me S (View N) → Type 0

@@ -56,12 +56,14 @@ searching_all i (x ∷ xs) v = searching_all (i + 1) xs (searching i x v)
 
 -- the longest range that was found, the first among equals
 abbrev pub IsLongest : List ℕ → ℕ → Type 0
-IsLongest found i = (i < length found) × (0 < length_of (slice_index found i)) × ((j : ℕ) → j < length found → length_of (slice_index found j) ≤ length_of (slice_index found i))
+IsLongest found i = (i < length found) × (0 < length_of (slice_index found i)) ×
+    ((j : ℕ) → j < length found → length_of (slice_index found j) ≤ length_of (slice_index found i))
     × ((j : ℕ) → j < i → length_of (slice_index found j) < length_of (slice_index found i))
 
 -- of the ranges that were found, which is the longest and its value, where one isn't empty
 abbrev pub IsBest : List ℕ → ℕ → ℕ → Type 0
-IsBest found i range = (0 < length_of range → IsLongest found i × (slice_index found i ≡ range)) × (length_of range ≡ 0 → (j : ℕ) → j < length found → length_of (slice_index found j) ≡ 0)
+IsBest found i range = (0 < length_of range → IsLongest found i × (slice_index found i ≡ range)) ×
+    (length_of range ≡ 0 → (j : ℕ) → j < length found → length_of (slice_index found j) ≡ 0)
 
 -- with this barrier word a party may join: the members aren't at their most, and if there are any one of them is in
 abbrev pub LetsJoin : ℕ → Type 0
@@ -76,7 +78,8 @@ module _ {S N : Type 0} where
   abbrev pub JoinedBy : JoinStep → Me S (View N) → Me S (View N) → Type 0
   JoinedBy Full m w = (n : ℕ) × (w ≡ (loading barrier_at n m.0, m.1)) × (most_of n ≡ most_parties)
   JoinedBy Closing m w = (n : ℕ) × (w ≡ (loading barrier_at n m.0, m.1)) × (most_of n ≢ most_parties) × (count_of n ≡ 0) × (0 < most_of n)
-  JoinedBy (Joined sense) m w = (n q : ℕ) × (seen : Bool) × (w ≡ (joining q seen n (loading barrier_at n m.0), m.1)) × (q % 2 ≡ sense) × (sense_of n ≡ sense) × LetsJoin n
+  JoinedBy (Joined sense) m w = (n q : ℕ) × (seen : Bool) × (w ≡ (joining q seen n (loading barrier_at n m.0), m.1)) × (q % 2 ≡ sense) × (sense_of n ≡ sense)
+      × LetsJoin n
   JoinedBy Again m w = (n found : ℕ) × (w ≡ (missing barrier_at found (loading barrier_at n m.0), m.1)) × (found ≢ n) × LetsJoin n
 
   -- a join that was refused, of whose seat the answer speaks
@@ -101,7 +104,8 @@ module _ {S N : Type 0} where
   LeftBy sense leave.Left m w = (n : ℕ) × (w ≡ (leaving n (looking n m.0), m.1)) × (n < high_half) × (sense_of n ≢ sense) × (0 < count_of n)
   LeftBy sense leave.Ended m w = LookedBy sense look.Ended m w
   LeftBy sense leave.Closing m w = LookedBy sense look.Closing m w
-  LeftBy sense leave.Again m w = (n found : ℕ) × (w ≡ (missing barrier_at found (looking n m.0), m.1)) × (n < high_half) × (sense_of n ≢ sense) × (0 < count_of n) × (found ≢ n)
+  LeftBy sense leave.Again m w = (n found : ℕ) × (w ≡ (missing barrier_at found (looking n m.0), m.1)) × (n < high_half) × (sense_of n ≢ sense) ×
+      (0 < count_of n) × (found ≢ n)
 
   -- an exit: who found count 1 beside other members is the closer
   abbrev pub ExitedBy : ExitStep → Me S (View N) → Me S (View N) → Type 0
@@ -115,26 +119,33 @@ module _ {S N : Type 0} where
 
   -- a claim on the range i: the range is read, and where it isn't empty the exchange is tried
   abbrev pub OwnClaimedBy : Discipline S N → ℕ → Claim → Me S (View N) → Me S (View N) → Type 0
-  OwnClaimedBy D i (claim.Job c) m w = (n : ℕ) × (x : Option N) × (w.0 ≡ claiming (range_at i) n x (searching i n m.0)) × D.took c m.1 x w.1 × (c ≡ start_of n) × (start_of n < end_of n)
+  OwnClaimedBy D i (claim.Job c) m w = (n : ℕ) × (x : Option N) × (w.0 ≡ claiming (range_at i) n x (searching i n m.0)) × D.took c m.1 x w.1 × (c ≡ start_of n)
+      × (start_of n < end_of n)
   OwnClaimedBy D i claim.Nothing m w = (n : ℕ) × (w ≡ (searching i n m.0, m.1)) × (end_of n ≤ start_of n)
   OwnClaimedBy D i claim.Again m w = (n found : ℕ) × (w ≡ (missing (range_at i) found (searching i n m.0), m.1)) × (found ≢ n) × (start_of n < end_of n)
 
   -- a steal: all ranges are read, and where one isn't empty the exchange is tried on the longest
   abbrev pub StolenBy : Discipline S N → ℕ → Steal → Me S (View N) → Me S (View N) → Type 0
-  StolenBy D t (steal.Job c s) m w = (found : List ℕ) × (i : ℕ) × (x : Option N) × (length found ≡ t) × IsLongest found i × (w.0 ≡ stealing (range_at i) (slice_index found i) x (searching_all 0 found m.0))
+  StolenBy D t (steal.Job c s) m w = (found : List ℕ) × (i : ℕ) × (x : Option N) × (length found ≡ t) × IsLongest found i ×
+      (w.0 ≡ stealing (range_at i) (slice_index found i) x (searching_all 0 found m.0))
       × D.took c m.1 x w.1 × (c ≡ stolen_from (slice_index found i)) × (s.from ≡ c + 1) × (s.to ≡ end_of (slice_index found i))
-  StolenBy D t steal.Nothing m w = (found : List ℕ) × (length found ≡ t) × ((i : ℕ) → i < t → end_of (slice_index found i) ≤ start_of (slice_index found i)) × (w ≡ (searching_all 0 found m.0, m.1))
-  StolenBy D t steal.Again m w = (found : List ℕ) × (i other : ℕ) × (length found ≡ t) × IsLongest found i × (w ≡ (missing (range_at i) other (searching_all 0 found m.0), m.1)) × (other ≢ slice_index found i)
+  StolenBy D t steal.Nothing m w = (found : List ℕ) × (length found ≡ t) × ((i : ℕ) → i < t → end_of (slice_index found i) ≤ start_of (slice_index found i)) ×
+      (w ≡ (searching_all 0 found m.0, m.1))
+  StolenBy D t steal.Again m w = (found : List ℕ) × (i other : ℕ) × (length found ≡ t) × IsLongest found i ×
+      (w ≡ (missing (range_at i) other (searching_all 0 found m.0), m.1)) × (other ≢ slice_index found i)
 
   -- a claim on the remainder of n jobs: the remainder is read, and where it isn't 0 the number, and then the exchange is tried
   abbrev pub RemainderClaimedBy : Discipline S N → ℕ → Claim → Me S (View N) → Me S (View N) → Type 0
-  RemainderClaimedBy D n (claim.Job c) m w = (v : ℕ) × (x : Option N) × (w.0 ≡ claiming_remainder n v x (recalling n (reading_remainder v m.0))) × D.took c m.1 x w.1 × (c ≡ n - v) × (0 < v)
+  RemainderClaimedBy D n (claim.Job c) m w = (v : ℕ) × (x : Option N) × (w.0 ≡ claiming_remainder n v x (recalling n (reading_remainder v m.0)))
+      × D.took c m.1 x w.1 × (c ≡ n - v) × (0 < v)
   RemainderClaimedBy D n claim.Nothing m w = (v : ℕ) × (w ≡ (reading_remainder v m.0, m.1)) × (v ≡ 0)
-  RemainderClaimedBy D n claim.Again m w = (v found : ℕ) × (w ≡ (missing remainder_at found (recalling n (reading_remainder v m.0)), m.1)) × (found ≢ v) × (0 < v)
+  RemainderClaimedBy D n claim.Again m w = (v found : ℕ) × (w ≡ (missing remainder_at found (recalling n (reading_remainder v m.0)), m.1)) × (found ≢ v) ×
+      (0 < v)
 
   -- the share's first number begins, where there is one; what is left is stored in the word i of the ranges and shares
   abbrev pub SharedBy : Discipline S N → ℕ → Span → Option ℕ → Span → Me S (View N) → Me S (View N) → Type 0
-  SharedBy D i share (Some k) left m w = (x : Option N) × (w.0 ≡ sharing (range_at i) (range_word (k + 1) share.to) x m.0) × D.took k m.1 x w.1 × (k ≡ share.from) × (share.from < share.to) × (left.from ≡ k + 1) × (left.to ≡ share.to)
+  SharedBy D i share (Some k) left m w = (x : Option N) × (w.0 ≡ sharing (range_at i) (range_word (k + 1) share.to) x m.0) × D.took k m.1 x w.1 ×
+      (k ≡ share.from) × (share.from < share.to) × (left.from ≡ k + 1) × (left.to ≡ share.to)
   SharedBy D i share None left m w = (w ≡ m) × (left ≡ share) × (share.from ≡ share.to)
 
   -- a finish: one more is counted, and the claim's slot goes back
@@ -151,6 +162,8 @@ module _ {S N : Type 0} where
 
   -- a share goes back into the range i
   abbrev pub PutBy : ℕ → PutBack → Span → Span → Me S (View N) → Me S (View N) → Type 0
-  PutBy i back.Put share left m w = (n : ℕ) × (w ≡ (putting_back (range_at i) n (searching i n m.0), m.1)) × (end_of n ≤ start_of n) × (left.from ≡ share.to) × (left.to ≡ share.to)
+  PutBy i back.Put share left m w = (n : ℕ) × (w ≡ (putting_back (range_at i) n (searching i n m.0), m.1)) × (end_of n ≤ start_of n) × (left.from ≡ share.to) ×
+      (left.to ≡ share.to)
   PutBy i back.Occupied share left m w = (n : ℕ) × (w ≡ (searching i n m.0, m.1)) × (start_of n < end_of n) × (left ≡ share)
-  PutBy i back.Again share left m w = (n found : ℕ) × (w ≡ (missing (range_at i) found (searching i n m.0), m.1)) × (found ≢ n) × (left ≡ share) × (end_of n ≤ start_of n)
+  PutBy i back.Again share left m w = (n found : ℕ) × (w ≡ (missing (range_at i) found (searching i n m.0), m.1)) × (found ≢ n) × (left ≡ share) ×
+      (end_of n ≤ start_of n)

@@ -20,7 +20,8 @@ MayClaim v = IsFreeInside v × ((n : ℕ) × (v.known.number ≡ Some n)) × (v.
 
 -- it knows that nothing of the round is left for it
 abbrev pub IsDone : {N : Type 0} → View N → Type 0
-IsDone v = (v.known.unpublished ≡ true) ⊎ ((v.known.seen_stop ≡ true) ⊎ ((v.threads ≡ 0) ⊎ ((n : ℕ) × (v.known.number ≡ Some n) × ((i : ℕ) → i ≤ v.threads → IsListed i v.known.emptied))))
+IsDone v = (v.known.unpublished ≡ true) ⊎ ((v.known.seen_stop ≡ true) ⊎
+    ((v.threads ≡ 0) ⊎ ((n : ℕ) × (v.known.number ≡ Some n) × ((i : ℕ) → i ≤ v.threads → IsListed i v.known.emptied))))
 
 -- the leader, inside a round in which it has published nothing
 abbrev pub MayFill : {N : Type 0} → View N → Type 0

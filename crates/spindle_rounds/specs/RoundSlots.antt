@@ -103,7 +103,8 @@ pub record Lawful {S N : Type 0} (D : Discipline S N) : Type 0 where
       → D.clause s hs vs → Begins s s' k → get_elem? vs id ≡ some v → ((x : Option N) → ((w x).board ≡ v.board) × ((w x).note ≡ x) × ((w x).claim ≡ Some k))
       → (x : Option N) × (a : Act S) × Valid hs c a × D.clause s' (homes_after hs c a) (slice_set vs id (w x)) × D.took k c x (carried_after c a)
   pub finishes : (s s' : State) (hs : List (m.Option S)) (vs : List (View N)) (id : ℕ) (v w : View N) (c : List (ℕ × S)) (k : ℕ)
-      → D.clause s hs vs → Finishes s s' k → get_elem? vs id ≡ some v → v.claim ≡ Some k → ((p : ℕ) (u : View N) → p ≢ id → get_elem? vs p ≡ some u → u.claim ≢ Some k)
+      → D.clause s hs vs → Finishes s s' k → get_elem? vs id ≡ some v → v.claim ≡ Some k →
+      ((p : ℕ) (u : View N) → p ≢ id → get_elem? vs p ≡ some u → u.claim ≢ Some k)
       → (w.board ≡ v.board) × (w.claim ≡ None) → D.may_give k v.note c → Valid hs c D.gives × D.clause s' (homes_after hs c D.gives) (slice_set vs id w)
   pub publishes : (s s' : State) (hs : List (m.Option S)) (vs : List (View N)) (id : ℕ) (v w : View N) (n : ℕ) → D.clause s hs vs → Publishes s s' n
       → get_elem? vs 0 ≡ some v → id ≡ 0 → SameSlots v w → D.may_publish s.round n v.board → D.clause s' hs (slice_set vs id w)

@@ -25,7 +25,19 @@ unknown leads seen = record { number = None; may_stop = false; unpublished = lea
 
 -- a seat that has done nothing
 abbrev pub outsider : {N : Type 0} → ℕ → Bool → View N
-outsider t leads = record { leader = leads; threads = t; standing = Away; known = unknown false false; claim = None; note = None; from = 0; to = 0; laid = None; board = []; trail = [] }
+outsider t leads = record {
+  leader = leads;
+  threads = t;
+  standing = Away;
+  known = unknown false false;
+  claim = None;
+  note = None;
+  from = 0;
+  to = 0;
+  laid = None;
+  board = [];
+  trail = [];
+}
 
 -- the seat that another is split off
 abbrev pub same_view : {N : Type 0} → View N → View N
@@ -64,11 +76,13 @@ joining q seen found v = noted (trace barrier_at kind.Join found (found + one_pa
 -- after an arrival: who found one member in is the closer
 abbrev pub arriving : {N : Type 0} → ℕ → View N → View N
 arriving found v = let q = round_of v.standing in
-    noted (trace barrier_at kind.Arrive found (found - 1)) (outside (if count_of found == 1 then Closing q true false None else Waiting q v.known.unpublished) v)
+    noted (trace barrier_at kind.Arrive found (found - 1))
+    (outside (if count_of found == 1 then Closing q true false None else Waiting q v.known.unpublished) v)
 
 -- after a look of a seat that waits: its round goes on, or has ended
 abbrev pub looking : {N : Type 0} → ℕ → View N → View N
-looking found v = let q = round_of v.standing in let w = loading barrier_at found v in if sense_of found == q % 2 then w else standing (Inside (q + 1)) (unknown v.leader false) w
+looking found v = let q = round_of v.standing in let w = loading barrier_at found v in
+    if sense_of found == q % 2 then w else standing (Inside (q + 1)) (unknown v.leader false) w
 
 -- after a leave
 abbrev pub leaving : {N : Type 0} → ℕ → View N → View N
@@ -80,7 +94,8 @@ exit_word n = if most_of n == 1 then sense_bit * (1 - sense_of n) else n - one_p
 
 -- after an exit: whom all other members wait for is the closer
 abbrev pub exiting : {N : Type 0} → ℕ → View N → View N
-exiting found v = noted (trace barrier_at kind.Exit found (exit_word found)) (outside (if (count_of found == 1) && nat_lt 1 (most_of found) then Closing (round_of v.standing) false false None else Away) v)
+exiting found v = noted (trace barrier_at kind.Exit found (exit_word found))
+    (outside (if (count_of found == 1) && nat_lt 1 (most_of found) then Closing (round_of v.standing) false false None else Away) v)
 
 -- the closer knows the barrier word, which stands
 abbrev pub with_word : ℕ → Standing → Standing
@@ -117,7 +132,11 @@ ending stored v = let x = after_end v.leader v.standing in noted (trace barrier_
 
 -- what is known after the published word was read: 0, a number, or a number of a round that may stop
 abbrev pub known_by : ℕ → Known → Known
-known_by found k = record k { number = if found == 0 then None else Some (found % high_half); may_stop = nat_lt most_jobs found; seen_stop = if nat_lt most_jobs found then k.seen_stop else false }
+known_by found k = record k {
+  number = if found == 0 then None else Some (found % high_half);
+  may_stop = nat_lt most_jobs found;
+  seen_stop = if nat_lt most_jobs found then k.seen_stop else false;
+}
 
 -- after a load of the published word
 abbrev pub learning : {N : Type 0} → ℕ → View N → View N
@@ -135,7 +154,11 @@ publish_word may_stop n = number_of (Some n) may_stop
 abbrev pub publishing : {N : Type 0} → Bool → ℕ → View N → View N
 publishing may_stop n v = let x = publish_word may_stop n in
     noted (trace published_at (kind.Publish (round_of v.standing) n may_stop) x x)
-    (record v { known = record { number = Some n; may_stop = may_stop; unpublished = false; seen_stop = false; emptied = []; stored = [] }; laid = Some (round_of v.standing) })
+    (record v {
+      known = record { number = Some n; may_stop = may_stop; unpublished = false; seen_stop = false; emptied = []; stored = [] };
+      laid = Some
+          (round_of v.standing);
+    })
 
 -- Claims.
 
@@ -178,7 +201,10 @@ stolen_from range = end_of range - half_of (length_of range)
 
 -- after the last half of a range was stolen: its first number begins, and the others are the seat's share
 abbrev pub stealing : {N : Type 0} → ℕ → ℕ → Option N → View N → View N
-stealing i found x v = record (beginning i (stolen_from found) found (range_word (start_of found) (stolen_from found)) x v) { from = stolen_from found + 1; to = end_of found }
+stealing i found x v = record (beginning i (stolen_from found) found (range_word (start_of found) (stolen_from found)) x v) {
+  from = stolen_from found + 1;
+  to = end_of found;
+}
 
 -- after the last number of the remainder was claimed, of n jobs
 abbrev pub claiming_remainder : {N : Type 0} → ℕ → ℕ → Option N → View N → View N

@@ -18,7 +18,8 @@ module _ {S N : Type 0} where
 
   -- an exchange with which a number begins
   abbrev pub Begun : Discipline S N → (ℕ → ℕ) → (ℕ → Option N → View N → View N) → Step S → Me S (View N) → ℕ → Me S (View N) → Type 0
-  Begun D number f st m found m' = (found ≡ st.first → (x : Option N) × (m'.0 ≡ f found x m.0) × D.took (number found) m.1 x m'.1) × (found ≢ st.first → (m'.1 ≡ m.1) × (m'.0 ≡ missing st.word found m.0))
+  Begun D number f st m found m' = (found ≡ st.first → (x : Option N) × (m'.0 ≡ f found x m.0) × D.took (number found) m.1 x m'.1) ×
+      (found ≢ st.first → (m'.1 ≡ m.1) × (m'.0 ≡ missing st.word found m.0))
 
 -- The barrier word.
 
@@ -28,7 +29,8 @@ LoadTells st m found m' = (m'.1 ≡ m.1) × (m'.0 ≡ loading st.word found m.0)
 
 -- a party that joins may have seen the stop of this round before
 abbrev pub JoinTells : {S N : Type 0} → Step S → Me S (View N) → ℕ → Me S (View N) → Type 0
-JoinTells st m found m' = (m'.1 ≡ m.1) × (found ≡ st.first → (q : ℕ) × (seen : Bool) × (q % 2 ≡ sense_of found) × (m'.0 ≡ joining q seen found m.0)) × (found ≢ st.first → m'.0 ≡ missing st.word found m.0)
+JoinTells st m found m' = (m'.1 ≡ m.1) × (found ≡ st.first → (q : ℕ) × (seen : Bool) × (q % 2 ≡ sense_of found) × (m'.0 ≡ joining q seen found m.0)) ×
+    (found ≢ st.first → m'.0 ≡ missing st.word found m.0)
 
 -- an arrival
 abbrev pub ArrivalTells : {S N : Type 0} → Step S → Me S (View N) → ℕ → Me S (View N) → Type 0
@@ -84,11 +86,13 @@ SearchTells st m found m' = (m'.1 ≡ m.1) × ((i : ℕ) → st.word ≡ range_a
 
 -- a load of the remainder: who knows the number finds no more than that
 abbrev pub RemainderReadTells : {S N : Type 0} → Step S → Me S (View N) → ℕ → Me S (View N) → Type 0
-RemainderReadTells st m found m' = (m'.1 ≡ m.1) × (m'.0 ≡ reading_remainder found m.0) × ((q n : ℕ) → m.0.standing ≡ Inside q → m.0.known.number ≡ Some n → found ≤ n)
+RemainderReadTells st m found m' = (m'.1 ≡ m.1) × (m'.0 ≡ reading_remainder found m.0) ×
+    ((q n : ℕ) → m.0.standing ≡ Inside q → m.0.known.number ≡ Some n → found ≤ n)
 
 -- who knows the number finds it again
 abbrev pub RecallTells : {S N : Type 0} → Step S → Me S (View N) → ℕ → Me S (View N) → Type 0
-RecallTells st m found m' = (m'.1 ≡ m.1) × ((q n : ℕ) → m.0.standing ≡ Inside q → m.0.known.number ≡ Some n → (m'.0 ≡ recalling n m.0) × (found % high_half ≡ n))
+RecallTells st m found m' = (m'.1 ≡ m.1) × ((q n : ℕ) → m.0.standing ≡ Inside q → m.0.known.number ≡ Some n → (m'.0 ≡ recalling n m.0) ×
+    (found % high_half ≡ n))
 
 -- a claim of the front of a range
 abbrev pub ClaimTells : {S N : Type 0} → Discipline S N → Step S → Me S (View N) → ℕ → Me S (View N) → Type 0

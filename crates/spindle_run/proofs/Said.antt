@@ -4,7 +4,9 @@ use Rattle.spindle_parts.specs.declared.steps.Step.{Step}
 use Rattle.spindle_run.specs.StepLines.{name_of, party_of, operand_of, Writes, Says, IsLineOf}
 
 -- a step of the name with both numbers is what the text says
-pub said_with : (text name rest party operand : List ℕ) (p n : ℕ) (r : Option Step) → text ≡ name ++ 32 ∷ rest → rest ≡ party ++ 32 ∷ operand → Writes party p → Writes operand n → IfSome r (λ step. name ≡ name_of step) → IfSome r (λ step. party_of step ≡ p) → IfSome r (λ step. operand_of step ≡ Some n) → IfSome r (Says text)
+pub said_with : (text name rest party operand : List ℕ) (p n : ℕ) (r : Option Step) → text ≡ name ++ 32 ∷ rest → rest ≡ party ++ 32 ∷ operand → Writes party p
+    → Writes operand n → IfSome r (λ step. name ≡ name_of step) → IfSome r (λ step. party_of step ≡ p) → IfSome r (λ step. operand_of step ≡ Some n) → IfSome r
+    (Says text)
 said_with text name rest party operand p n None e f wp wn a b c = tt
 said_with text name rest party operand p n (Some step) e f wp wn a b c =
     rw c (party, operand, e ∙ ap (λ t. name ++ 32 ∷ t) f ∙ ap (λ t. t ++ 32 ∷ (party ++ 32 ∷ operand)) a, rw b wp, wn)

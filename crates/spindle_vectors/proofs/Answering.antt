@@ -21,7 +21,8 @@ AllZip-function R f (a ∷ xs) (b ∷ ys) (c ∷ zs) y z =
     λ i. same i ∷ rest i
 
 -- one answer more
-pub AreAllOf-snoc : (answers : List (Result (Vec ℕ Global) AllocError)) (numbers : List ℕ) (list : Vec ℕ Global) → AreAllOf answers numbers → AreAllOf (answers ++ Ok list ∷ []) (numbers ++ list.items)
+pub AreAllOf-snoc : (answers : List (Result (Vec ℕ Global) AllocError)) (numbers : List ℕ) (list : Vec ℕ Global) → AreAllOf answers numbers → AreAllOf
+    (answers ++ Ok list ∷ []) (numbers ++ list.items)
 AreAllOf-snoc answers numbers list all =
     let items : Vec ℕ Global → List ℕ = λ l. l.items in (
       all.0 ++ list ∷ [],
@@ -32,7 +33,9 @@ AreAllOf-snoc answers numbers list all =
     )
 
 -- lists that are the chunks' values, joined
-joined-chunks : (f : ℕ → ℕ) (chunks : List (List ℕ)) (lists : List (Vec ℕ Global)) → AllZip {B = Result (Vec ℕ Global) AllocError} (λ chunk answer. IfOk answer (λ (list : Vec ℕ Global). list.items ≡ map f chunk)) chunks (map Ok lists) → joined (map (λ list. list.items) lists) ≡ map f (joined chunks)
+joined-chunks : (f : ℕ → ℕ) (chunks : List (List ℕ)) (lists : List (Vec ℕ Global)) → AllZip {B = Result (Vec ℕ Global) AllocError}
+    (λ chunk answer. IfOk answer (λ (list : Vec ℕ Global). list.items ≡ map f chunk)) chunks (map Ok lists) → joined (map (λ list. list.items) lists) ≡ map f
+    (joined chunks)
 joined-chunks f [] [] z = refl
 joined-chunks f [] (l ∷ ls) z = absurd z
 joined-chunks f (c ∷ cs) [] z = absurd z
@@ -42,6 +45,8 @@ joined-chunks f (c ∷ cs) (l ∷ ls) z =
     ∙ sym (map-append f c (joined cs))
 
 -- answers that hold the chunks' values hold those of the whole list
-pub AreAllOf-map : (f : ℕ → ℕ) (chunks : List (List ℕ)) (answers : List (Result (Vec ℕ Global) AllocError)) (numbers : List ℕ) → AllZip (λ chunk answer. IfOk answer (λ (list : Vec ℕ Global). list.items ≡ map f chunk)) chunks answers → AreAllOf answers numbers → numbers ≡ map f (joined chunks)
+pub AreAllOf-map : (f : ℕ → ℕ) (chunks : List (List ℕ)) (answers : List (Result (Vec ℕ Global) AllocError)) (numbers : List ℕ) → AllZip
+    (λ chunk answer. IfOk answer (λ (list : Vec ℕ Global). list.items ≡ map f chunk)) chunks answers → AreAllOf answers numbers → numbers ≡ map f
+    (joined chunks)
 AreAllOf-map f chunks answers numbers z all =
     all.2 ∙ joined-chunks f chunks all.0 (subst (AllZip (λ chunk answer. IfOk answer (λ (list : Vec ℕ Global). list.items ≡ map f chunk)) chunks) all.1 z)

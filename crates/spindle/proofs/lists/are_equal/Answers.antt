@@ -16,4 +16,5 @@ loop-i-preserved g c =
     let y : g.row.T.Denot = c.index-b-i.result in
     let l : length (take i xs) ≡ length (take i ys) = length-take-le i xs (omega (arith, h)) ∙ sym (length-take-le i ys (omega (arith, h'))) in
     let e : c.eq-equal.result ≡ g.T.PartialEq.eq (get_or xs i x) (get_or ys i y) = search rules in
-    rw (take_more xs i x h, take_more ys i y h', pointwise_snoc g.T.PartialEq.eq (take i xs) (take i ys) (get_or xs i x) (get_or ys i y) l) (λ j. c.loop-i.invariant j && e j)
+    rw (take_more xs i x h, take_more ys i y h', pointwise_snoc g.T.PartialEq.eq (take i xs) (take i ys) (get_or xs i x) (get_or ys i y) l)
+    (λ j. c.loop-i.invariant j && e j)

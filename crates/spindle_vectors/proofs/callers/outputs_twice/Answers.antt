@@ -6,5 +6,7 @@ use Rattle.spindle_vectors.proofs.callers.outputs_twice.Goals as goal
 
 pub returns : goal.returns
 returns g c =
-    let by_many = subst (λ (items : List g.row.J-In.Denot). AllZip g.J.Job.meets items c.in_ok-by_many.by_many.items) c.requires.equal c.in_ok-by_many.ensures in
-    AllZip-function g.J.Job.meets c.requires.function c.args.items.items c.in_ok-by_one.by_one.items c.in_ok-by_many.by_many.items c.in_ok-by_one.ensures by_many
+    let by_many = subst (λ (items : List g.row.J-In.Denot). AllZip g.J.Job.meets items c.in_ok-by_many.by_many.items) c.requires.equal c.in_ok-by_many.ensures
+    in
+    AllZip-function g.J.Job.meets c.requires.function c.args.items.items c.in_ok-by_one.by_one.items c.in_ok-by_many.by_many.items c.in_ok-by_one.ensures
+    by_many

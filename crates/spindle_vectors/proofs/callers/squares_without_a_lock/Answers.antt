@@ -7,4 +7,5 @@ use Rattle.spindle_vectors.proofs.callers.squares_without_a_lock.Goals as goal
 
 pub returns : goal.returns
 returns g c =
-    IfOk-weaker _ (λ (squares : Vec ℕ Global). AllZip (λ x y. y ≡ x * x) c.args.numbers.items squares.items) _ (λ squares answered. AllZip-map (λ x. x * x) c.args.numbers.items squares.items answered) (search rules)
+    IfOk-weaker _ (λ (squares : Vec ℕ Global). AllZip (λ x y. y ≡ x * x) c.args.numbers.items squares.items) _
+    (λ squares answered. AllZip-map (λ x. x * x) c.args.numbers.items squares.items answered) (search rules)

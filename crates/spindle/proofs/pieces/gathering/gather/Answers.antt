@@ -32,7 +32,8 @@ loop-k-preserved g c =
     let h : k < length pieces = search rules in
     let h' : k < length places = search rules in
     let here = c.holds.ensures.0 (search rules) in
-    all_zip_more HoldsPiece k pieces places c.index-handed-k.result c.index.result.now h h' c.loop-k.invariant (rw (← c.index-handed-k.is, ← c.index.ensures) here)
+    all_zip_more HoldsPiece k pieces places c.index-handed-k.result c.index.result.now h h' c.loop-k.invariant
+    (rw (← c.index-handed-k.is, ← c.index.ensures) here)
 
 pub move_outputs-requires-clause-space : goal.move_outputs-requires-clause-space
 move_outputs-requires-clause-space g c =

@@ -13,7 +13,8 @@ unwrap-requires g c =
     let room = c.loop-k.room.items in
     let h : k < length places = search rules in
     let here = found_there places c.loop-k.places.items k d c.take.result c.loop-k.invariant.emptied h c.index_mut.ensures.value c.take.ensures.value in
-    let more = outputs_more R places k d c.in-Some.finished room c.into_outputs.result.items h (here ∙ c.in-Some.is) c.loop-k.invariant.answers c.into_outputs.ensures.answers in
+    let more = outputs_more R places k d c.in-Some.finished room c.into_outputs.result.items h
+    (here ∙ c.in-Some.is) c.loop-k.invariant.answers c.into_outputs.ensures.answers in
     let fit = outputs_fit R places k room c.into_outputs.result.items more in
     c.append.ensures.succeeds (omega (arith, fit, c.loop-k.invariant.space))
 
@@ -30,7 +31,8 @@ loop-k-preserved g c =
       answers = elim c.match-take.branch [
         | in-Some w ↦
             let e : c.match-take.room.items ≡ room ++ w.into_outputs.result.items = search rules in
-            rw e (outputs_more R places k d w.in-Some.finished room w.into_outputs.result.items h (here ∙ w.in-Some.is) c.loop-k.invariant.answers w.into_outputs.ensures.answers)
+            rw e (outputs_more R places k d w.in-Some.finished room w.into_outputs.result.items h
+            (here ∙ w.in-Some.is) c.loop-k.invariant.answers w.into_outputs.ensures.answers)
         | in_default w ↦ rw w.room-is (nothing_more R places k d room h (here ∙ w.in_default.is) c.loop-k.invariant.answers)
       ];
       emptied = rw (c.take.ensures.after, c.loop-k.invariant.emptied) (set-emptied None k places h);

@@ -5,4 +5,9 @@ use Rattle.spindle_rounds.proofs.KeptBarrier.{arrives}
 use Rattle.spindle_rounds.proofs.barrier.Barrier.arrive.Goals as goal
 
 pub fetch_sub-found-requires : goal.fetch_sub-found-requires
-fetch_sub-found-requires g c = let f = c.requires.free in (search rules, omega arith, kept (arrives g.D.Slots.discipline g.met.D.Slots.lawful _ _ _ _ _ f.1 f.2 f.3 c.requires.done))
+fetch_sub-found-requires g c = let f = c.requires.free in (
+  search rules,
+  omega arith,
+  kept
+      (arrives g.D.Slots.discipline g.met.D.Slots.lawful _ _ _ _ _ f.1 f.2 f.3 c.requires.done),
+)

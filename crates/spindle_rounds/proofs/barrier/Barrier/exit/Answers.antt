@@ -6,7 +6,8 @@ pub returns-in-Gone-clause-out : goal.returns-in-Gone-clause-out
 returns-in-Gone-clause-out g c = went_on _ _ _ c.loop.invariant.1 (exit_gone c.loop.barrier.seat.me c.in-Gone.seat.me c.in-Gone.ensures.1)
 
 pub returns-in-Closer-clause-out : goal.returns-in-Closer-clause-out
-returns-in-Closer-clause-out g c = went_on _ _ _ c.loop.invariant.1 (moved_on _ _ _ _ _ _ _ (exit_closer c.loop.barrier.seat.me c.in-Closer.closer.seat.me c.in-Closer.ensures.1) c.close_out.ensures.out)
+returns-in-Closer-clause-out g c = went_on _ _ _ c.loop.invariant.1 (moved_on _ _ _ _ _ _ _
+    (exit_closer c.loop.barrier.seat.me c.in-Closer.closer.seat.me c.in-Closer.ensures.1) c.close_out.ensures.out)
 
 pub loop-preserved : goal.loop-preserved
 loop-preserved g c = let i = c.loop.invariant in let e = c.in-Again.ensures in (

@@ -5,7 +5,10 @@ use Rattle.spindle_rounds.proofs.barrier.Barrier.wait_and_clear_while.Goals as g
 
 pub returns-in-Closer : goal.returns-in-Closer
 returns-in-Closer g c = let e = c.close.ensures in let a = c.in-Closer.ensures.step in record {
-  status = (keeps_on c.args.self c.arrive.new.self c.close.new.self c.arrive.ensures.held e.held, passed_from _ _ c.args.self.seat.me c.arrive.new.self.seat.me _ refl (arrived_closes c.args.self.seat.me c.arrive.new.self.seat.me a) e.next);
+  status = (
+    keeps_on c.args.self c.arrive.new.self c.close.new.self c.arrive.ensures.held e.held,
+    passed_from _ _ c.args.self.seat.me c.arrive.new.self.seat.me _ refl (arrived_closes c.args.self.seat.me c.arrive.new.self.seat.me a) e.next,
+  );
   turns = inr (c.arrive.new.self.seat.me, a, tt);
 }
 

@@ -15,5 +15,11 @@ load-word-requires g c = (search rules, search rules, kept (loads g.D.Slots.disc
 pub compare_exchange-requires : goal.compare_exchange-requires
 compare_exchange-requires g c = let n = c.load-word.result in let is : c.if-most-eq1.less ≡ exit_word n = elim c.if-most-eq1.branch [
   | then-most-eq1 w ↦ w.less-is ∙ sym (ap (λ b. if b then sense_bit * (1 - sense_of n) else n - one_party) (eq-eqb (most_of n) 1 w.if-most-eq1.true))
-  | else-most-eq1 w ↦ w.less-is ∙ (w.saturating_sub-less.ensures ∙ sym (ap (λ b. if b then sense_bit * (1 - sense_of n) else n - one_party) (ne_eqb (most_of n) 1 w.if-most-eq1.false)))
-] in (search rules, search rules, kept (exits_to g.D.Slots.discipline g.met.D.Slots.lawful _ _ _ _ _ _ (subst MayExit (sym c.load-word.ensures.2.1) c.requires.free) is))
+  | else-most-eq1 w ↦ w.less-is ∙ (w.saturating_sub-less.ensures ∙ sym
+      (ap (λ b. if b then sense_bit * (1 - sense_of n) else n - one_party) (ne_eqb (most_of n) 1 w.if-most-eq1.false)))
+] in (
+  search rules,
+  search rules,
+  kept (exits_to g.D.Slots.discipline g.met.D.Slots.lawful _ _ _ _ _ _
+      (subst MayExit (sym c.load-word.ensures.2.1) c.requires.free) is),
+)

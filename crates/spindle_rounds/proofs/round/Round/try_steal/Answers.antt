@@ -7,5 +7,10 @@ use Rattle.spindle_rounds.proofs.RoundSearch.{may_still}
 use Rattle.spindle_rounds.proofs.round.Round.try_steal.Goals as goal
 
 pub compare_exchange-requires : goal.compare_exchange-requires
-compare_exchange-requires g c = let r = c.longest-thread.ensures.read in let b = r.3.0 (omega arith) in let len = r.1 in let in_list = b.0.0 in let w = ap (λ m. m.0) r.2 in
-    (search rules, omega arith, kept (steals g.D.Slots.discipline g.met.D.Slots.lawful _ _ _ _ _ _ _ (omega arith) (subst MayClaim (sym w) (may_still 0 r.0 c.args.seat.now.me.0 c.requires.free)) (omega arith) (omega arith) c.last_half-first.ensures))
+compare_exchange-requires g c = let r = c.longest-thread.ensures.read in let b = r.3.0 (omega arith) in let len = r.1 in let in_list = b.0.0 in
+    let w = ap (λ m. m.0) r.2 in (
+      search rules,
+      omega arith,
+      kept (steals g.D.Slots.discipline g.met.D.Slots.lawful _ _ _ _ _ _ _ (omega arith)
+          (subst MayClaim (sym w) (may_still 0 r.0 c.args.seat.now.me.0 c.requires.free)) (omega arith) (omega arith) c.last_half-first.ensures),
+    )

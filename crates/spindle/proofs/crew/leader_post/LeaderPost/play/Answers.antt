@@ -4,4 +4,5 @@ use Rattle.spindle.proofs.crew.leader_post.LeaderPost.play.Goals as goal
 
 pub returns-clause-played : goal.returns-clause-played
 returns-clause-played g c = let w = c.work-work.ensures in
-    played_after c.args.jobs c.args.self.now.post.barrier.seat.me.0 c.publish.new.barrier.seat.me.0 c.work-work.new.seat.me c.end_round.new.barrier.seat.me c.publish.ensures.published w.went.on w.idle c.end_round.ensures.next
+    played_after c.args.jobs c.args.self.now.post.barrier.seat.me.0 c.publish.new.barrier.seat.me.0 c.work-work.new.seat.me c.end_round.new.barrier.seat.me
+    c.publish.ensures.published w.went.on w.idle c.end_round.ensures.next

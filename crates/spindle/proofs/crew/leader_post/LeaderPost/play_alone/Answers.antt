@@ -5,4 +5,5 @@ use Rattle.spindle.proofs.crew.leader_post.LeaderPost.play_alone.Goals as goal
 
 pub returns-clause-played : goal.returns-clause-played
 returns-clause-played g c = let w = c.work-work.ensures in
-    played_after (length c.args.pieces.now) c.args.self.now.post.barrier.seat.me.0 c.publish.new.barrier.seat.me.0 c.work-work.new.seat.me c.end_round.new.barrier.seat.me c.publish.ensures.published w.went.on w.idle c.end_round.ensures.next
+    played_after (length c.args.pieces.now) c.args.self.now.post.barrier.seat.me.0 c.publish.new.barrier.seat.me.0 c.work-work.new.seat.me
+    c.end_round.new.barrier.seat.me c.publish.ensures.published w.went.on w.idle c.end_round.ensures.next

@@ -12,7 +12,14 @@ overflow_sub-len g c =
 
 pub run-requires-clause-in_run : goal.run-requires-clause-in_run
 run-requires-clause-in_run g c =
-    omega (arith, c.min.ensures, c.loop-length.invariant.from, c.loop-length.invariant.len, c.requires.whole, total_part c.loop-length.length-index c.args.lengths.now)
+    omega (
+      arith,
+      c.min.ensures,
+      c.loop-length.invariant.from,
+      c.loop-length.invariant.len,
+      c.requires.whole,
+      total_part c.loop-length.length-index c.args.lengths.now,
+    )
 
 pub loop-length-preserved : goal.loop-length-preserved
 loop-length-preserved g c =
@@ -28,7 +35,8 @@ loop-length-preserved g c =
     let e : c.push_reserved.new.self.items ≡ c.loop-length.runs.items ++ slice_range xs from (from + n) ∷ [] = search rules in
     let k : from + n - from ≡ n = omega arith in
     let s : slice_range xs from (from + n) ≡ take n (drop from xs) = ap (λ z. take z (drop from xs)) k in
-    let l : length (take n (drop from xs)) ≡ n = length-take-le n (drop from xs) (omega (arith, length-drop from xs, t, u, m, c.loop-length.invariant.from, c.requires.whole)) in
+    let l : length (take n (drop from xs)) ≡ n = length-take-le n (drop from xs)
+    (omega (arith, length-drop from xs, t, u, m, c.loop-length.invariant.from, c.requires.whole)) in
     record {
       from = omega (arith, t, m, c.loop-length.invariant.from);
       joined = rw (e, joined_snoc, s, take-add from n xs) (ap (λ z. z ++ take n (drop from xs)) c.loop-length.invariant.joined);

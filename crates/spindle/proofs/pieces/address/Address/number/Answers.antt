@@ -12,13 +12,15 @@ overflow_add-result-else-self-each c =
 
 pub returns-then-self-each-clause-number : goal.returns-then-self-each-clause-number
 returns-then-self-each-clause-number c =
-    dealt_own c.args.pieces c.args.threads c.args.self.thread c.args.self.place c.if-self-each.true (run_ends c.args.pieces c.args.threads c.args.self.thread (omega (arith, c.requires.thread)) c.requires.thread)
+    dealt_own c.args.pieces c.args.threads c.args.self.thread c.args.self.place c.if-self-each.true
+    (run_ends c.args.pieces c.args.threads c.args.self.thread (omega (arith, c.requires.thread)) c.requires.thread)
 
 pub returns-else-self-each-clause-number : goal.returns-else-self-each-clause-number
 returns-else-self-each-clause-number c =
     let last = behind c.args.pieces c.args.threads c.args.self.thread c.args.self.place c.requires.thread c.requires.place c.if-self-each.false in
     ap (slice_get (dealt (counted 0 c.args.pieces) c.args.threads c.args.self.thread)) last.0
-    ∙ dealt_rest c.args.pieces c.args.threads c.args.self.thread (run_ends c.args.pieces c.args.threads c.args.self.thread (omega (arith, c.requires.thread)) c.requires.thread) last.1
+    ∙ dealt_rest c.args.pieces c.args.threads c.args.self.thread (run_ends c.args.pieces c.args.threads c.args.self.thread
+    (omega (arith, c.requires.thread)) c.requires.thread) last.1
 
 pub returns-else-self-each-clause-below : goal.returns-else-self-each-clause-below
 returns-else-self-each-clause-below c =

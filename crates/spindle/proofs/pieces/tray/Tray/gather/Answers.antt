@@ -29,10 +29,13 @@ loop-at-preserved g c =
     let at = c.args.from + c.loop-at.at in
     let before = c.args.self.now.places.items in
     let next : c.args.number + (c.loop-at.at + 1) ≡ number + 1 = omega arith in
-    let more = AllZip-AddsAnswers g.J.Job.meets (items_before items pieces.count number) c.piece-items.result.now c.loop-at.outputs.items c.hand_over.new.outputs.items c.loop-at.invariant.before (c.hand_over.ensures.answers c.if-not-hand_over.false) in
+    let more = AllZip-AddsAnswers g.J.Job.meets
+    (items_before items pieces.count number) c.piece-items.result.now c.loop-at.outputs.items c.hand_over.new.outputs.items c.loop-at.invariant.before
+    (c.hand_over.ensures.answers c.if-not-hand_over.false) in
     let same = ap (option_and_then (λ place. place.finished)) (c.loop-at.invariant.others at (omega arith)) in
     let here : IsDoneAt items pieces.count number at before =
-    subst (λ xs. IsDoneOf number xs (finished_at before at)) c.piece-items.ensures.run (subst (λ done. IsDoneOf number c.piece-items.result.now done) same (c.hand_over.ensures.held.0 c.if-not-hand_over.false)) in
+    subst (λ xs. IsDoneOf number xs (finished_at before at)) c.piece-items.ensures.run
+    (subst (λ done. IsDoneOf number c.piece-items.result.now done) same (c.hand_over.ensures.held.0 c.if-not-hand_over.false)) in
     record {
       before = rw (next, items_more items pieces.count number, ← c.piece-items.ensures.run) more;
       room = omega (arith, c.hand_over.ensures.room, c.loop-at.invariant.room);
@@ -40,7 +43,8 @@ loop-at-preserved g c =
       others = λ k le. c.hand_over.ensures.others k (λ e. omega (arith, le, e)) ∙ c.loop-at.invariant.others k (omega (arith, le));
     }
 
-not_here : (g : Over) (c : goal.Then-not-hand_over g) → IsDoneAt c.args.pieces.now.items c.args.pieces.now.count (c.args.number + c.loop-at.at) (c.args.from + c.loop-at.at) c.args.self.now.places.items → ⊥
+not_here : (g : Over) (c : goal.Then-not-hand_over g) → IsDoneAt c.args.pieces.now.items c.args.pieces.now.count (c.args.number + c.loop-at.at)
+    (c.args.from + c.loop-at.at) c.args.self.now.places.items → ⊥
 not_here g c held =
     let at = c.args.from + c.loop-at.at in
     let number = c.args.number + c.loop-at.at in
@@ -48,7 +52,8 @@ not_here g c held =
     let same = ap (option_and_then (λ place. place.finished)) (c.loop-at.invariant.others at (omega arith)) in
     let run = c.piece-items.ensures.run in
     let found = finished_at c.loop-at.self.places.items at in
-    let here = subst (λ xs. IsDoneOf number xs found) (sym run) (subst (λ done. IsDoneOf number (piece_at items c.args.pieces.now.count number) done) (sym same) held) in
+    let here = subst (λ xs. IsDoneOf number xs found) (sym run) (subst (λ done. IsDoneOf number (piece_at items c.args.pieces.now.count number) done)
+    (sym same) held) in
     false≢true (sym c.if-not-hand_over.true ∙ c.hand_over.ensures.held.1 here)
 
 pub returns-then-not-hand_over-clause-complete : goal.returns-then-not-hand_over-clause-complete

@@ -10,7 +10,12 @@ invariant_of-self g c =
     let tray = c.args.self.now in
     let xs = tray.places.items in
     let d = c.index_mut-place.result.now in
-    record { named = c.args.self.now.named; dealt = numbers_stay (λ place. place.number) xs (dealt (counted 0 tray.pieces) tray.threads tray.thread) c.args.at c.put.new.self d (c.put.ensures.number ∙ ap (λ place. place.number) c.index_mut-place.ensures.value) tray.dealt }
+    record {
+      named = c.args.self.now.named;
+      dealt = numbers_stay (λ place. place.number) xs
+          (dealt (counted 0 tray.pieces) tray.threads tray.thread) c.args.at c.put.new.self d
+          (c.put.ensures.number ∙ ap (λ place. place.number) c.index_mut-place.ensures.value) tray.dealt;
+    }
 
 pub returns-clause-free : goal.returns-clause-free
 returns-clause-free g c =

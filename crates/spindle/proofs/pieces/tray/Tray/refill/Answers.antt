@@ -22,7 +22,9 @@ loop-place-preserved g c =
     let at : slice_get own k ≡ Some number = rw (← count) c.number-number.ensures.number in
     record {
       enough = c.loop-place.invariant.enough;
-      waits = one_more_waits (λ n slot. Awaits (piece_at pieces.items pieces.count n) n slot) own places k number c.refill.new.self at h h' c.loop-place.invariant.waits (rw (← c.in_ok-run.ensures) c.in_ok-refill.ensures);
+      waits = one_more_waits (λ n slot. Awaits
+          (piece_at pieces.items pieces.count n) n slot) own places k number c.refill.new.self at h h' c.loop-place.invariant.waits
+          (rw (← c.in_ok-run.ensures) c.in_ok-refill.ensures);
     }
 
 pub invariant_of-self-2 : goal.invariant_of-self-2

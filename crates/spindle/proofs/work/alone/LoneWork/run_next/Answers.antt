@@ -15,7 +15,10 @@ returns-clause-answered g c =
     let rest = items_of-drop pieces i piece.result c.requires.left piece.is in
     let left : length (items_of (drop i pieces)) ≡ length c.as_slice-items.result.now + length (items_of (drop (i + 1) pieces)) =
     rw items (ap (λ t. length t) rest ∙ length-append piece.result.items.items (items_of (drop (i + 1) pieces))) in
-    let answered = AllZip-AddsAnswers g.J.Job.meets (items_of (take i pieces)) c.as_slice-items.result.now c.args.self.now.outputs.items c.run.new.outputs.items c.requires.answered.0 c.run.ensures.answered in (
-      rw (items_of-take pieces i piece.result c.requires.left piece.is) (subst (λ t. AllZip g.J.Job.meets (items_of (take i pieces) ++ t) c.run.new.outputs.items) items answered),
+    let answered = AllZip-AddsAnswers g.J.Job.meets
+    (items_of (take i pieces)) c.as_slice-items.result.now c.args.self.now.outputs.items c.run.new.outputs.items c.requires.answered.0
+    c.run.ensures.answered in (
+      rw (items_of-take pieces i piece.result c.requires.left piece.is)
+          (subst (λ t. AllZip g.J.Job.meets (items_of (take i pieces) ++ t) c.run.new.outputs.items) items answered),
       omega (arith, left, c.run.ensures.len, c.run.ensures.room, c.requires.answered.1),
     )

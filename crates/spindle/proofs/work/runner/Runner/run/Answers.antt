@@ -6,7 +6,9 @@ use Rattle.spindle.proofs.work.runner.Runner.run.Goals as goal
 pub loop-item-preserved : goal.loop-item-preserved
 loop-item-preserved g c =
     record {
-      answered = rw c.push_reserved.ensures.items (AddsAnswers-next g.J.Job.meets c.args.items.now c.loop-item.item-index c.item-item.result c.run.result c.args.outputs.now.items c.loop-item.outputs.items (omega arith) c.item-item.is c.loop-item.invariant.answered c.run.ensures);
+      answered = rw c.push_reserved.ensures.items
+          (AddsAnswers-next g.J.Job.meets c.args.items.now c.loop-item.item-index c.item-item.result c.run.result c.args.outputs.now.items
+          c.loop-item.outputs.items (omega arith) c.item-item.is c.loop-item.invariant.answered c.run.ensures);
       len = search rules;
       room = search rules;
     }

@@ -4,20 +4,27 @@ use Rattle.spindle_rounds.proofs.PartyWork.{went_first, went_then, went_more, st
 use Rattle.spindle_rounds.proofs.round.party.Party.run_from.Goals as goal
 
 pub loop-init : goal.loop-init
-loop-init g c = record { went = went_first _ _ c.args.seat.now c.requires.at; idle = c.requires.idle; holds = c.requires.holds; keeps = g.met.W.Work.keeps_same _ }
+loop-init g c = record {
+  went = went_first _ _ c.args.seat.now c.requires.at;
+  idle = c.requires.idle;
+  holds = c.requires.holds;
+  keeps = g.met.W.Work.keeps_same _;
+}
 
 pub returns-then-sees_stop-clause-went : goal.returns-then-sees_stop-clause-went
 returns-then-sees_stop-clause-went g c = went_then _ _ _ _ _ c.loop.invariant.went c.sees_stop.ensures.went
 
 pub returns-then-sees_stop-clause-idle : goal.returns-then-sees_stop-clause-idle
-returns-then-sees_stop-clause-idle g c = let i = c.loop.invariant in let e = c.sees_stop.ensures in still_idle c.loop.seat.me.0 c.sees_stop.new.seat.me.0 i.idle e.same.0 (e.same.1 ∙ i.idle.0)
+returns-then-sees_stop-clause-idle g c = let i = c.loop.invariant in let e = c.sees_stop.ensures in
+    still_idle c.loop.seat.me.0 c.sees_stop.new.seat.me.0 i.idle e.same.0 (e.same.1 ∙ i.idle.0)
 
 pub returns-then-sees_stop-clause-holds : goal.returns-then-sees_stop-clause-holds
 returns-then-sees_stop-clause-holds g c = rw c.sees_stop.ensures.hands c.loop.invariant.holds
 
 pub try_claim-requires-clause-free : goal.try_claim-requires-clause-free
 try_claim-requires-clause-free g c = let i = c.loop.invariant in let e = c.sees_stop.ensures in
-    claims_at _ _ c.sees_stop.new.seat e.went.at (still_idle c.loop.seat.me.0 c.sees_stop.new.seat.me.0 i.idle e.same.0 (e.same.1 ∙ i.idle.0)) (e.seen ∙ c.if-sees_stop.false)
+    claims_at _ _ c.sees_stop.new.seat e.went.at (still_idle c.loop.seat.me.0 c.sees_stop.new.seat.me.0 i.idle e.same.0 (e.same.1 ∙ i.idle.0))
+    (e.seen ∙ c.if-sees_stop.false)
 
 pub run-requires-clause-at : goal.run-requires-clause-at
 run-requires-clause-at g c κs within = let e = c.sees_stop.ensures in let a = c.in-Job.ensures.taken in
@@ -28,7 +35,8 @@ run-requires-clause-taken g c κs within = (c.sees_stop.new.seat.me.1, rw c.sees
 
 pub loop-preserved-in-Job : goal.loop-preserved-in-Job
 loop-preserved-in-Job g c = let i = c.loop.invariant in let e = c.sees_stop.ensures in let a = c.in-Job.ensures.taken in let f = c.run.ensures in record {
-  went = went_then _ _ _ _ _ (went_more _ _ _ c.sees_stop.new.seat c.try_claim.new.seat (went_then _ _ _ _ _ i.went e.went) c.try_claim.ensures.seat a.0 (λ _. a.1)) f.went;
+  went = went_then _ _ _ _ _ (went_more _ _ _ c.sees_stop.new.seat c.try_claim.new.seat (went_then _ _ _ _ _ i.went e.went) c.try_claim.ensures.seat a.0
+      (λ _. a.1)) f.went;
   idle = f.idle;
   holds = f.holds;
   keeps = g.met.W.Work.keeps_then _ _ _ i.keeps f.keeps;
@@ -36,7 +44,8 @@ loop-preserved-in-Job g c = let i = c.loop.invariant in let e = c.sees_stop.ensu
 
 pub returns-in-Nothing-clause-went : goal.returns-in-Nothing-clause-went
 returns-in-Nothing-clause-went g c = let a = c.in-Nothing.ensures.taken in
-    went_more _ _ _ c.sees_stop.new.seat c.try_claim.new.seat (went_then _ _ _ _ _ c.loop.invariant.went c.sees_stop.ensures.went) c.try_claim.ensures.seat a.0 (λ _. a.1)
+    went_more _ _ _ c.sees_stop.new.seat c.try_claim.new.seat (went_then _ _ _ _ _ c.loop.invariant.went c.sees_stop.ensures.went) c.try_claim.ensures.seat a.0
+    (λ _. a.1)
 
 pub returns-in-Nothing-clause-idle : goal.returns-in-Nothing-clause-idle
 returns-in-Nothing-clause-idle g c = let a = c.in-Nothing.ensures.taken in (a.2.0.2, a.2.0.3)
@@ -45,7 +54,8 @@ pub returns-in-Nothing-clause-left : goal.returns-in-Nothing-clause-left
 returns-in-Nothing-clause-left g c = c.in-Nothing.ensures.taken.4
 
 pub returns-in-Nothing-clause-holds : goal.returns-in-Nothing-clause-holds
-returns-in-Nothing-clause-holds g c = subst (λ h. g.W.Work.holds c.loop.work h) (sym (c.in-Nothing.ensures.taken.3 ∙ c.sees_stop.ensures.hands)) c.loop.invariant.holds
+returns-in-Nothing-clause-holds g c = subst (λ h. g.W.Work.holds c.loop.work h)
+    (sym (c.in-Nothing.ensures.taken.3 ∙ c.sees_stop.ensures.hands)) c.loop.invariant.holds
 
 pub loop-preserved : goal.loop-preserved
 loop-preserved g c = let i = c.loop.invariant in let e = c.sees_stop.ensures in let a = c.in-Again.ensures.taken in record {

@@ -6,7 +6,13 @@ use Rattle.spindle_rounds.proofs.PartyWork.{went_first, went_then, went_more, we
 use Rattle.spindle_rounds.proofs.round.party.Party.run_share.Goals as goal
 
 pub loop-init : goal.loop-init
-loop-init g c = record { went = went_first _ _ c.args.seat.now c.requires.at; idle = c.requires.idle; own = c.requires.share; holds = c.requires.holds; keeps = g.met.W.Work.keeps_same _ }
+loop-init g c = record {
+  went = went_first _ _ c.args.seat.now c.requires.at;
+  idle = c.requires.idle;
+  own = c.requires.share;
+  holds = c.requires.holds;
+  keeps = g.met.W.Work.keeps_same _;
+}
 
 pub returns-then-sees_stop-clause-went : goal.returns-then-sees_stop-clause-went
 returns-then-sees_stop-clause-went g c = went_then _ _ _ _ _ (went_then _ _ _ _ _ c.loop.invariant.went c.sees_stop.ensures.went) c.put_back.ensures.went
@@ -16,16 +22,23 @@ returns-then-sees_stop-clause-holds g c = rw (c.put_back.ensures.hands, c.sees_s
 
 pub run-requires-clause-at : goal.run-requires-clause-at
 run-requires-clause-at g c = let i = c.loop.invariant in let e = c.sees_stop.ensures in let a = c.sees_stop.new.seat in let b = c.next_of_share.new.seat in
-    let n = share_next g.D.Slots.discipline a.me b.me _ _ c.loop.share c.next_of_share.new.share (e.went.at.on.0.inside, e.same.1 ∙ i.idle, e.seen ∙ c.if-sees_stop.false) (i.own.0 ∙ sym e.same.0.0, i.own.1 ∙ sym e.same.0.1) c.in-Some-next_of_share.ensures.step in
+    let n = share_next g.D.Slots.discipline a.me b.me _ _ c.loop.share c.next_of_share.new.share
+    (e.went.at.on.0.inside, e.same.1 ∙ i.idle, e.seen ∙ c.if-sees_stop.false)
+    (i.own.0 ∙ sym e.same.0.0, i.own.1 ∙ sym e.same.0.1) c.in-Some-next_of_share.ensures.step in
     (went_more _ _ _ a b (went_then _ _ _ _ _ i.went e.went) c.next_of_share.ensures.seat n.0 (λ _. n.1)).at
 
 pub run-requires-clause-taken : goal.run-requires-clause-taken
 run-requires-clause-taken g c =
-    share_taken g.D.Slots.discipline (λ h. g.W.Work.holds c.loop.work h) c.sees_stop.new.seat.me c.next_of_share.new.seat.me _ _ c.loop.share c.next_of_share.new.share c.in-Some-next_of_share.ensures.step (rw c.sees_stop.ensures.hands c.loop.invariant.holds)
+    share_taken g.D.Slots.discipline (λ h.
+    g.W.Work.holds c.loop.work h) c.sees_stop.new.seat.me c.next_of_share.new.seat.me _ _ c.loop.share c.next_of_share.new.share
+    c.in-Some-next_of_share.ensures.step (rw c.sees_stop.ensures.hands c.loop.invariant.holds)
 
 pub loop-preserved : goal.loop-preserved
-loop-preserved g c = let i = c.loop.invariant in let e = c.sees_stop.ensures in let f = c.run.ensures in let a = c.sees_stop.new.seat in let b = c.next_of_share.new.seat in
-    let n = share_next g.D.Slots.discipline a.me b.me _ _ c.loop.share c.next_of_share.new.share (e.went.at.on.0.inside, e.same.1 ∙ i.idle, e.seen ∙ c.if-sees_stop.false) (i.own.0 ∙ sym e.same.0.0, i.own.1 ∙ sym e.same.0.1) c.in-Some-next_of_share.ensures.step in
+loop-preserved g c = let i = c.loop.invariant in let e = c.sees_stop.ensures in let f = c.run.ensures in let a = c.sees_stop.new.seat in
+    let b = c.next_of_share.new.seat in
+    let n = share_next g.D.Slots.discipline a.me b.me _ _ c.loop.share c.next_of_share.new.share
+    (e.went.at.on.0.inside, e.same.1 ∙ i.idle, e.seen ∙ c.if-sees_stop.false)
+    (i.own.0 ∙ sym e.same.0.0, i.own.1 ∙ sym e.same.0.1) c.in-Some-next_of_share.ensures.step in
     let claimed = went_more _ _ _ a b (went_then _ _ _ _ _ i.went e.went) c.next_of_share.ensures.seat n.0 (λ _. n.1) in record {
       went = went_more _ _ _ b c.run.new.seat claimed f.seat f.finished.0 f.finished.1;
       idle = f.finished.3;
@@ -35,11 +48,15 @@ loop-preserved g c = let i = c.loop.invariant in let e = c.sees_stop.ensures in 
     }
 
 pub returns-in-None-next_of_share-clause-went : goal.returns-in-None-next_of_share-clause-went
-returns-in-None-next_of_share-clause-went g c = went_still _ _ _ c.sees_stop.new.seat c.next_of_share.new.seat (went_then _ _ _ _ _ c.loop.invariant.went c.sees_stop.ensures.went) c.next_of_share.ensures.seat c.in-None-next_of_share.ensures.step.0
+returns-in-None-next_of_share-clause-went g c = went_still _ _ _ c.sees_stop.new.seat c.next_of_share.new.seat
+    (went_then _ _ _ _ _ c.loop.invariant.went c.sees_stop.ensures.went) c.next_of_share.ensures.seat c.in-None-next_of_share.ensures.step.0
 
 pub returns-in-None-next_of_share-clause-idle : goal.returns-in-None-next_of_share-clause-idle
-returns-in-None-next_of_share-clause-idle g c = let i = c.loop.invariant in let e = c.sees_stop.ensures in let step = c.in-None-next_of_share.ensures.step in let own = i.own in let same = e.same.0 in let empty = step.2 in
-    let idle : IsIdle c.sees_stop.new.seat.me.0 = (e.same.1 ∙ i.idle, (let x = own.0 in let y = own.1 in let p = same.0 in let q = same.1 in omega arith)) in subst (λ m. IsIdle m.0) (sym step.0) idle
+returns-in-None-next_of_share-clause-idle g c = let i = c.loop.invariant in let e = c.sees_stop.ensures in let step = c.in-None-next_of_share.ensures.step in
+    let own = i.own in let same = e.same.0 in let empty = step.2 in
+    let idle : IsIdle c.sees_stop.new.seat.me.0 = (e.same.1 ∙ i.idle, (let x = own.0 in let y = own.1 in let p = same.0 in let q = same.1 in omega arith)) in
+    subst (λ m. IsIdle m.0) (sym step.0) idle
 
 pub returns-in-None-next_of_share-clause-holds : goal.returns-in-None-next_of_share-clause-holds
-returns-in-None-next_of_share-clause-holds g c = subst (λ h. g.W.Work.holds c.loop.work h) (sym (ap (λ m. m.1) c.in-None-next_of_share.ensures.step.0 ∙ c.sees_stop.ensures.hands)) c.loop.invariant.holds
+returns-in-None-next_of_share-clause-holds g c = subst (λ h. g.W.Work.holds c.loop.work h)
+    (sym (ap (λ m. m.1) c.in-None-next_of_share.ensures.step.0 ∙ c.sees_stop.ensures.hands)) c.loop.invariant.holds

@@ -12,7 +12,9 @@ pub returns-clause-went : goal.returns-clause-went
 returns-clause-went g c = went_then _ _ _ _ _ (went_then _ _ _ _ _ c.run_from.ensures.went c.run_from-2.ensures.went) c.run_from-3.ensures.went
 
 pub returns-clause-done : goal.returns-clause-done
-returns-clause-done g c = done_at _ _ c.run_from-2.new.seat c.run_from-3.new.seat c.run_from-3.ensures.went (rw c.if-run_from.false at c.run_from-2.ensures.left) c.run_from-3.result c.run_from-3.ensures.left
+returns-clause-done g c = done_at _ _ c.run_from-2.new.seat c.run_from-3.new.seat c.run_from-3.ensures.went
+    (rw c.if-run_from.false at c.run_from-2.ensures.left) c.run_from-3.result c.run_from-3.ensures.left
 
 pub returns-clause-keeps : goal.returns-clause-keeps
-returns-clause-keeps g c = g.met.W.Work.keeps_then _ _ _ (g.met.W.Work.keeps_then _ _ _ c.run_from.ensures.keeps c.run_from-2.ensures.keeps) c.run_from-3.ensures.keeps
+returns-clause-keeps g c = g.met.W.Work.keeps_then _ _ _
+    (g.met.W.Work.keeps_then _ _ _ c.run_from.ensures.keeps c.run_from-2.ensures.keeps) c.run_from-3.ensures.keeps

@@ -7,9 +7,11 @@ use Rattle.spindle_rounds.proofs.round.tests.play.spend.Goals as goal
 use Rattle.spindle_rounds.proofs.round.tests.play.spend.Goals.{in-Some, in-None}
 
 pub loop-i-preserved : goal.loop-i-preserved
-loop-i-preserved c = let f = c.loop-i.invariant in let v = c.args.seat.now.me.0 in let a = c.loop-i.seat.me in let b = c.next_of_share.new.seat.me in let free = c.requires.free in let here = f.from in let end_is = f.to in
+loop-i-preserved c = let f = c.loop-i.invariant in let v = c.args.seat.now.me.0 in let a = c.loop-i.seat.me in let b = c.next_of_share.new.seat.me in
+    let free = c.requires.free in let here = f.from in let end_is = f.to in
     elim c.match-next_of_share.branch [
-      | in-Some w ↦ (let step = w.in-Some.ensures.step in let n = share_next bare a b _ _ c.loop-i.share c.next_of_share.new.share ((free.0.0, f.on.standing ∙ free.0.1), f.idle, f.sees ∙ free.2) f.own step in let z = w.finish.new.seat.me.0 in let e = w.finish.ensures in
+      | in-Some w ↦ (let step = w.in-Some.ensures.step in let n = share_next bare a b _ _ c.loop-i.share c.next_of_share.new.share
+          ((free.0.0, f.on.standing ∙ free.0.1), f.idle, f.sees ∙ free.2) f.own step in let z = w.finish.new.seat.me.0 in let e = w.finish.ensures in
           let k_is = step.3 in let next = step.5 in record {
             table = ap (λ s. s.table_id) w.seat-is ∙ (e.seat.0 ∙ (c.next_of_share.ensures.seat.0 ∙ f.table));
             id = ap (λ s. s.id) w.seat-is ∙ (e.seat.1 ∙ (c.next_of_share.ensures.seat.1 ∙ f.id));

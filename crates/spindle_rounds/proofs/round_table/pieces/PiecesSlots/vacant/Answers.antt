@@ -5,7 +5,8 @@ use lib.ListN.{get_elem?}
 use Rattle.spindle_rounds.specs.declared.round_table.pieces.Stand.TheVariants.{Empty}
 use Rattle.spindle_rounds.proofs.round_table.pieces.PiecesSlots.vacant.Goals as goal
 
-one_more : {A : Type 0} (l : List A) (a : A) → ((k : ℕ) → k < length l → get_elem? l k ≡ some a) → (k : ℕ) → k < length (l ++ a ∷ []) → get_elem? (l ++ a ∷ []) k ≡ some a
+one_more : {A : Type 0} (l : List A) (a : A) → ((k : ℕ) → k < length l → get_elem? l k ≡ some a) → (k : ℕ) → k < length (l ++ a ∷ []) → get_elem?
+    (l ++ a ∷ []) k ≡ some a
 one_more [] a all zero lt = refl
 one_more [] a all (suc k) lt = absurd (omega arith)
 one_more (x ∷ xs) a all zero lt = all 0 (omega arith)

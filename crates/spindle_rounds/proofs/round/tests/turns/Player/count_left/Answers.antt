@@ -4,7 +4,8 @@ use Rattle.spindle_rounds.proofs.RoundClients.{onward_then, left_seen}
 use Rattle.spindle_rounds.proofs.round.tests.turns.Player.count_left.Goals as goal
 
 pub loop-i-preserved : goal.loop-i-preserved
-loop-i-preserved c = let i = c.loop-i.invariant in let e = c.left-range.ensures in let m = c.loop-i.seat.me in let w = c.left-range.new.seat.me in let t = c.args.self.now.round.now.init.threads in let same = ap (λ z. z.threads) c.init.ensures in let lt = c.loop-i-test.true in
+loop-i-preserved c = let i = c.loop-i.invariant in let e = c.left-range.ensures in let m = c.loop-i.seat.me in let w = c.left-range.new.seat.me in
+    let t = c.args.self.now.round.now.init.threads in let same = ap (λ z. z.threads) c.init.ensures in let lt = c.loop-i-test.true in
     let le : c.loop-i.i ≤ t = omega arith in let s = left_seen m w t c.loop-i.i c.left-range.result le e.step in record {
       table = e.seat.0 ∙ i.table;
       id = e.seat.1 ∙ i.id;
@@ -13,5 +14,7 @@ loop-i-preserved c = let i = c.loop-i.invariant in let e = c.left-range.ensures 
     }
 
 pub returns-clause-goes_on : goal.returns-clause-goes_on
-returns-clause-goes_on c = let m = c.loop-i.seat.me in let w = c.left-rest.new.seat.me in let t = c.args.self.now.round.now.init.threads in let same = ap (λ z. z.threads) c.init.ensures in
-    let le : c.init.result.now.threads ≤ t = omega arith in onward_then c.args.seat.now.me.0 m.0 w.0 c.loop-i.invariant.on (left_seen m w t c.init.result.now.threads c.left-rest.result le c.left-rest.ensures.step).0
+returns-clause-goes_on c = let m = c.loop-i.seat.me in let w = c.left-rest.new.seat.me in let t = c.args.self.now.round.now.init.threads in
+    let same = ap (λ z. z.threads) c.init.ensures in
+    let le : c.init.result.now.threads ≤ t = omega arith in onward_then c.args.seat.now.me.0 m.0 w.0 c.loop-i.invariant.on
+    (left_seen m w t c.init.result.now.threads c.left-rest.result le c.left-rest.ensures.step).0
