@@ -5,6 +5,10 @@
 pub mod callers;
 pub mod chunks;
 #[cfg(test)]
+mod gate_rows;
+#[cfg(test)]
+mod gates;
+#[cfg(test)]
 mod gathering_rows;
 #[cfg(test)]
 mod jobs;
@@ -13,4 +17,8 @@ mod leader_rows;
 #[cfg(test)]
 mod refusals;
 #[cfg(test)]
+mod refused_lists;
+#[cfg(test)]
 mod thread_rows;
+#[cfg(test)]
+mod tray_rows;
