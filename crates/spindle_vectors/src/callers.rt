@@ -5,7 +5,6 @@ ghost use Rattle.std.proofs.Common.{rules};
 ghost use Rattle.spindle.specs.Rounds.{job_count};
 ghost use Rattle.spindle_parts.specs.Pieces.{joined};
 ghost use Rattle.spindle_vectors.specs.Callers.{AreAllOf, IsFunction, PublishedTwice, JobsDiffer};
-ghost use denote.Param.Send.{IsSync};
 
 use crate::chunks::AddOne;
 use spindle::cut::piece_lengths;
@@ -58,8 +57,7 @@ pub fn squares<G: Gate + Sync, H: Threads + Wait + Sync>(
         pool,
         pool.max_num_threads(),
         |leader|
-            requires sync { IsSync H.row }
-            requires jobs { 0 < jobs }
+            requires { 0 < jobs }
         { leader.for_each(rt, alloc, jobs, numbers) },
     )?
 }
@@ -86,8 +84,7 @@ where
         pool,
         pool.max_num_threads(),
         |leader|
-            requires sync { IsSync H.row }
-            requires jobs { 0 < jobs }
+            requires { 0 < jobs }
         { leader.for_each(rt, alloc, jobs, items) },
     )?
 }

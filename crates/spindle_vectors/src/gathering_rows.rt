@@ -19,7 +19,7 @@ fn only<T: Drop>(alloc: Global, item: T) -> Result<Vec<T>, AllocError>
 }
 
 /// A piece of one number, squared.
-fn squared(alloc: Global, number: usize, input: u32) -> Result<Finished<Square>, Fail> {
+pub fn squared(alloc: Global, number: usize, input: u32) -> Result<Finished<Square>, Fail> {
     let square = u64::from(input) * u64::from(input);
     let inputs = SharedList::from_vec(alloc, only(alloc, input)?)?.run(0, 1)?;
     let outputs = only(alloc, square)?;

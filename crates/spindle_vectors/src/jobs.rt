@@ -2,6 +2,7 @@
 ghost use Rattle.std.specs.Prelude.{◌≡◌};
 ghost use Rattle.std.proofs.Common.{rules};
 
+use spindle::SharedList;
 use spindle::lock::{End, Gate, Job, JobCx, Under};
 use std::alloc::Global;
 use std::sync::Wait;
@@ -81,6 +82,32 @@ impl Job for Nothing {
         _input: &(),
         _cx: &mut JobCx<Under<Zero>>,
     ) {}
+
+    ghost equal_is_same = { Prim.search rules };
+}
+
+/// Answers how long a list is.
+pub struct Length;
+
+impl Job for Length {
+    type In = SharedList<usize>;
+
+    type Out = usize;
+
+    type Inner = End;
+
+    ghost use Rattle.std.specs.Prelude.{length};
+
+    ghost meets = { λ list n. n ≡ length list };
+
+    fn run<H: Threads + Wait + Sync>(
+        _rt: &H,
+        _alloc: Global,
+        input: &SharedList<usize>,
+        _cx: &mut JobCx<End>,
+    ) -> usize {
+        input.len()
+    }
 
     ghost equal_is_same = { Prim.search rules };
 }

@@ -7,6 +7,10 @@ pub mod chunks;
 #[cfg(test)]
 mod free_rows;
 #[cfg(test)]
+mod gate_rows;
+#[cfg(test)]
+mod gates;
+#[cfg(test)]
 mod gathering_rows;
 #[cfg(test)]
 mod jobs;
@@ -15,4 +19,8 @@ mod leader_rows;
 #[cfg(test)]
 mod refusals;
 #[cfg(test)]
+mod refused_lists;
+#[cfg(test)]
 mod thread_rows;
+#[cfg(test)]
+mod tray_rows;

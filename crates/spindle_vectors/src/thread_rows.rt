@@ -2,44 +2,16 @@
 //! some of whose threads can't be started.
 
 use crate::callers;
+use crate::gates::Meeting;
 use crate::jobs::{Calls, Counting, Place, Square};
-use spindle::lock::{Gate, Limits, NoGate, Pool};
+use spindle::lock::{Limits, NoGate, Pool};
 use spindle::{DEFAULT_PAUSE_LIMIT, DEFAULT_SPIN_LIMIT, Fault, with_lock};
-use std::hint::spin_loop;
 use std::sync::atomic::{AtomicUsize, Ordering};
 
 const LIMITS: Limits = Limits {
     spin: DEFAULT_SPIN_LIMIT,
     pause: DEFAULT_PAUSE_LIMIT,
 };
-
-/// A thread waits for the others for at most so many turns.
-const MOST_TURNS: usize = 10000000;
-
-/// A gate at which the jobs of a round wait until all of them have begun.
-#[derive(Drop)]
-struct Meeting<'a> {
-    jobs: usize,
-    begun: &'a AtomicUsize,
-    missed: &'a AtomicUsize,
-}
-
-impl<'a> Gate for Meeting<'a> {
-    fn begun(&self, _number: usize) {
-        let jobs = self.jobs.max(1);
-        let before = self.begun.fetch_add(1, Ordering::SeqCst);
-        let all = (before / jobs).wrapping_add(1).wrapping_mul(jobs);
-        for _ in 0..MOST_TURNS {
-            if self.begun.load(Ordering::SeqCst) >= all {
-                return;
-            }
-            spin_loop();
-        }
-        self.missed.fetch_add(1, Ordering::SeqCst);
-    }
-
-    fn done(&self, _number: usize) {}
-}
 
 #[test]
 fn threads_that_sleep_at_once_miss_no_round(rt: HostRuntime) -> Result<(), Fault> {
@@ -53,6 +25,22 @@ fn threads_that_sleep_at_once_miss_no_round(rt: HostRuntime) -> Result<(), Fault
         }
         Ok::<(), Fault>(())
     })?
+}
+
+// More threads than cores, none of which makes a turn before it sleeps: a wake that passes the mutex by would come between
+// a thread's last look and its sleep in some round.
+#[test]
+fn many_threads_that_sleep_at_once_miss_no_round(rt: HostRuntime) -> Result<(), Fault> {
+    let alloc = rt.alloc();
+    let pool = Pool::new(12, Limits { spin: 0, pause: 0 }, NoGate);
+    with_lock::<Square, _, _, _, _, _>(&rt, alloc, &pool, 12, |leader| {
+        for _ in 0..3000 {
+            let squares = leader.for_each_raw(&rt, alloc, 12)?;
+            assert_eq!(rt; squares[11], 121);
+        }
+        Ok::<(), Fault>(())
+    })??;
+    Ok(())
 }
 
 #[test]
