@@ -27,3 +27,4 @@ pub mod BarrierClients
 pub mod Workers
 pub mod PartyWork
 pub mod PieceRounds
+pub mod SlotLoops

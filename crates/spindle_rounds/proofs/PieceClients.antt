@@ -41,7 +41,7 @@ module _ {X : Type 0} where
   numbered_at (z ∷ ys) i (suc k) c y e = let at : i + 1 + k ≡ i + suc k = omega arith in
       numbered_at ys (i + 1) k c y e ∙ ap (λ (j : ℕ). let z : ℕ × X = (j, y) in some z) at
 
-  there : (ys : List X) (k : ℕ) → k < length ys → (y : X) × (get_elem? ys k ≡ some y)
+  pub there : (ys : List X) (k : ℕ) → k < length ys → (y : X) × (get_elem? ys k ≡ some y)
   there [] k lt = absurd (omega arith)
   there (y ∷ ys) zero lt = (y, refl)
   there (y ∷ ys) (suc k) lt = there ys k (omega arith)
@@ -111,7 +111,7 @@ module _ {P A : Type 0} (answers : P → A → Type 0) where
   )
 
   -- what stands before them is as it was
-  back_before : (q i j : ℕ) (ys : List Slot) (b : Board) → j < i → spot_at (back q i ys b) j ≡ spot_at b j
+  pub back_before : (q i j : ℕ) (ys : List Slot) (b : Board) → j < i → spot_at (back q i ys b) j ≡ spot_at b j
   back_before q i j [] b lt = refl
   back_before q i j (y ∷ ys) b lt = back_before q (i + 1) j ys ((i, spot_with answers q y) ∷ b) (omega arith) ∙ spot_else b i j (spot_with answers q y)
       (λ e. omega arith)

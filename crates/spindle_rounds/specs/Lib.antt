@@ -23,3 +23,4 @@ pub mod Sources
 pub mod PartyWork
 pub mod Parties
 pub mod PieceRounds
+pub mod SlotLoops

@@ -4,8 +4,9 @@
 //! is inside a later round. So no answer is looked for at run time, and none is missing.
 ghost use Rattle.std.specs.Prelude.{◌≡◌, ◌≤◌, ◌<◌, ◌∷◌, ◌++◌, ℕ, []};
 ghost use Rattle.atomic_table.specs.Table.{rest};
-ghost use Rattle.spindle_rounds.specs.RoundPieces.{pieces, AreFilled, AreAnswered, IsAtHand};
-ghost use Rattle.spindle_rounds.specs.RoundConditions.{MayTakeOut};
+ghost use Rattle.spindle_rounds.specs.RoundPieces.{pieces, AreFilled, AreAnswered, IsAtHand, IsUnrun};
+ghost use Rattle.spindle_rounds.specs.RoundConditions.{MayFill, MayTakeOut};
+ghost use Rattle.spindle_rounds.specs.SlotLoops.{IsAny, IsEmpty, IsPiece, HoldsEach, Turning};
 ghost use Rattle.spindle_rounds.specs.SlotSteps.{HasPublished, TakenOut};
 ghost use Rattle.spindle_rounds.specs.PieceRounds.{HoldsPieces, PublishedPieces, AwaitsAnswers};
 ghost use Rattle.spindle_rounds.specs.Holding.{IsHeld, Keeps};
@@ -13,7 +14,7 @@ ghost use Rattle.spindle_rounds.specs.Passing.{InNext};
 ghost use Rattle.spindle_rounds.specs.Seating.{IsSeatAt, IsSameSeat, slots_of};
 ghost use Rattle.spindle_rounds.specs.RoundSlots.{spot_at};
 ghost use Rattle.spindle_rounds.specs.declared.round_table.pieces.Stand.TheVariants.{Empty, Done};
-ghost use Rattle.spindle_rounds.specs.declared.round_table.view.Spot.TheVariants.{Filled};
+ghost use Rattle.spindle_rounds.specs.declared.round_table.view.Spot.TheVariants.{Filled, Out};
 
 use crate::barrier::Barrier;
 use crate::round::Round;
@@ -66,6 +67,34 @@ impl<A: Answers> Round<Pieces<A>> {
         self.give_slots(seat);
         self.fill(seat, jobs);
         self.publish(seat, jobs);
+    }
+
+    /// The same where the leader holds all slots: the first ones with the pieces of so many jobs, and in the others nothing
+    /// that was run, as a loop over the first ones leaves them.
+    pub fn publish_held(&self, seat: &mut Seat<Pieces<A>>, jobs: u64)
+        requires seated { IsSeatAt self.now.init seat.old }
+        requires leads { MayFill seat.old.me.0 }
+        requires held { Turning (λ k y. IsUnrun A.answers y) IsPiece (slots_of self.now.init) jobs
+            seat.old.me.1 }
+        requires out { (k : ℕ) → k < slots_of self.now.init → spot_at seat.old.me.0.board k ≡ Out }
+        requires counted { (2 ≤ jobs) × (jobs ≤ 4294967295) }
+        requires ranges { 0 < self.now.init.threads }
+        ensures seat { IsSameSeat seat.old seat.new }
+        ensures published { PublishedPieces A.answers jobs seat.old.me seat.new.me }
+    {
+        self.publish_pieces(seat, jobs);
+    }
+
+    /// Empties the slots at the leader's hand, of which there are so many.
+    pub fn empty_slots(&self, seat: &mut Seat<Pieces<A>>, slots: usize)
+        requires seated { IsSeatAt self.now.init seat.old }
+        requires held { HoldsEach IsAny slots seat.old.me.1 }
+        ensures seat { IsSameSeat seat.old seat.new × (seat.new.me.0 ≡ seat.old.me.0) }
+        ensures held { HoldsEach IsEmpty slots seat.new.me.1 }
+    {
+        for slot in 0..slots {
+            let _ = self.swap_slot(seat, slot, Stand::Empty);
+        }
     }
 
     /// Waits until the round has ended, and takes every slot out: those of the pieces hold their answers.
