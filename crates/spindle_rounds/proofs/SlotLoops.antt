@@ -92,7 +92,8 @@ module _ {P A : Type 0} (answers : P → A → Type 0) (q : ℕ) where
 
   -- some slots may go back, and then others
   put_on : (i : ℕ) (ys : List Slot) (c : List (ℕ × Slot)) (b : Board) → ((k : ℕ) → i ≤ k → k < i + length ys → spot_at b k ≡ Out)
-      → ((k : ℕ) (y : Slot) → get_elem? ys k ≡ some y → IsUnrun answers y) → MayPutAll (pieces answers) q c (back i ys b) → MayPutAll (pieces answers) q (numbered i ys c) b
+      → ((k : ℕ) (y : Slot) → get_elem? ys k ≡ some y → IsUnrun answers y) → MayPutAll (pieces answers) q c (back i ys b) → MayPutAll (pieces answers) q
+      (numbered i ys c) b
   put_on i [] c b out unrun more = more
   put_on i (y ∷ ys) c b out unrun more = (
     (out i (omega arith) (omega arith), unrun 0 y refl),
@@ -100,7 +101,8 @@ module _ {P A : Type 0} (answers : P → A → Type 0) (q : ℕ) where
         (λ k le lt. spot_else b i k (spot_with answers q y) (λ e. omega arith) ∙ out k (omega arith) (omega arith)) (λ k z e. unrun (suc k) z e) more,
   )
 
-  back_on : (i : ℕ) (ys : List Slot) (c : List (ℕ × Slot)) (b : Board) → board_back (pieces answers) q (numbered i ys c) b ≡ board_back (pieces answers) q c (back i ys b)
+  back_on : (i : ℕ) (ys : List Slot) (c : List (ℕ × Slot)) (b : Board) → board_back (pieces answers) q (numbered i ys c) b ≡ board_back (pieces answers) q c
+      (back i ys b)
   back_on i [] c b = refl
   back_on i (y ∷ ys) c b = back_on (i + 1) ys c ((i, spot_with answers q y) ∷ b)
 
@@ -119,6 +121,7 @@ pieces_held {P} {A} answers slots n m may t out = let q : ℕ = may.0.0 in let b
       λ k lt. let y = there t.new k (omega arith) in let w = t.new_are k y.0 y.1 in (
         w.0,
         subst (λ (c : List (ℕ × Stand P A)). spot_at (board_back (pieces answers) q c b) k ≡ Filled q w.0) (sym t.hand)
-            (ap (λ (z : List (ℕ × Spot P)). spot_at z k) (back_on answers q n t.old other b) ∙ piece_back answers q k t.new b' w.0 (y.1 ∙ ap (λ (z : Stand P A). some z) w.1)),
+            (ap (λ (z : List (ℕ × Spot P)). spot_at z k) (back_on answers q n t.old other b) ∙ piece_back answers q k t.new b' w.0
+            (y.1 ∙ ap (λ (z : Stand P A). some z) w.1)),
       ),
     )

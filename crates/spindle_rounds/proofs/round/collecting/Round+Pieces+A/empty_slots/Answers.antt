@@ -14,7 +14,8 @@ pub loop-slot-preserved : goal.loop-slot-preserved
 loop-slot-preserved g c = let i = c.loop-slot.invariant in let e = c.swap_slot.ensures in record {
   seat = (e.seat.0 ∙ i.seat.0, e.seat.1 ∙ i.seat.1);
   view = ap (λ m. m.0) e.behind ∙ i.view;
-  hand = subst (λ m. Turning IsAny IsEmpty c.args.slots (c.loop-slot.slot + 1) m.1) (sym e.behind) (turning_next IsAny IsEmpty c.args.slots c.loop-slot.slot _ _ i.hand (omega arith) refl);
+  hand = subst (λ m. Turning IsAny IsEmpty c.args.slots (c.loop-slot.slot + 1) m.1) (sym e.behind)
+      (turning_next IsAny IsEmpty c.args.slots c.loop-slot.slot _ _ i.hand (omega arith) refl);
 }
 
 pub returns-clause-held : goal.returns-clause-held
