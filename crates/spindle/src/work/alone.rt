@@ -56,9 +56,8 @@ impl<'a> LeaderPost<'a> {
     {
         let post = &mut self.post;
         let tables = post.tables;
-        let jobs = pieces.len() as u64;
         let task = Task {
-            jobs,
+            jobs: pieces.len() as u64,
             may_stop: false,
         };
         publish(rt, tables, &mut post.barrier, &mut runner.notices, task);
