@@ -1,16 +1,9 @@
-//! Gates that see how jobs run: one at which the jobs of a round meet, and one that notes each job's calls, beside a job
-//! that notes its items.
-ghost use Rattle.std.specs.Prelude.{◌≡◌};
-ghost use Rattle.std.proofs.Common.{rules};
+//! Gates that see how jobs run: one at which the jobs of a round meet, and one that notes each job's calls.
 
-use spindle::lock::{End, Gate, Job, JobCx};
-use std::alloc::Global;
+use spindle::lock::Gate;
 use std::hint::spin_loop;
-use std::marker::{Model, PhantomData};
-use std::sync::Wait;
 use std::sync::atomic::{AtomicUsize, Ordering};
 use std::thread;
-use std::thread::Threads;
 
 /// A thread waits for the others for at most so many turns.
 const MOST_TURNS: usize = 10000000;
@@ -46,19 +39,12 @@ impl<'a> Gate for Meeting<'a> {
     fn done(&self, _number: usize) {}
 }
 
-/// What was noted of four jobs: whether each runs now, how often it did, and its items; and how often that was wrong.
+/// What was noted of four jobs: whether each runs now, and how often it did; and how often that was wrong.
 #[derive(Drop)]
 pub struct Marks {
     running: [AtomicUsize; 4],
     runs: [AtomicUsize; 4],
-    items: [AtomicUsize; 4],
     faults: AtomicUsize,
-}
-
-impl Model for Marks {
-    ghost Value = { Unit {0} };
-
-    ghost view = { λ _. tt };
 }
 
 impl Marks {
@@ -67,7 +53,6 @@ impl Marks {
         Marks {
             running: zeros(),
             runs: zeros(),
-            items: zeros(),
             faults: AtomicUsize::new(0),
         }
     }
@@ -77,14 +62,10 @@ impl Marks {
         self.faults.load(Ordering::SeqCst)
     }
 
-    /// How often the job of a number was done, and how many of its items were run.
-    pub fn of_job(&self, number: usize) -> (usize, usize) {
-        let (runs, items) = (&self.runs[..], &self.items[..]);
-        let at = number.min(3);
-        (
-            runs[at].load(Ordering::SeqCst),
-            items[at].load(Ordering::SeqCst),
-        )
+    /// How often the job of a number was done.
+    pub fn runs_of(&self, number: usize) -> usize {
+        let runs = &self.runs[..];
+        runs[number.min(3)].load(Ordering::SeqCst)
     }
 
     // The job goes from one state to another: 0 where it doesn't run, 1 where it does.
@@ -92,14 +73,6 @@ impl Marks {
         let running = &self.running[..];
         let found = running[number.min(3)].swap(to, Ordering::SeqCst);
         self.expect(number <= 3 && found == from);
-    }
-
-    // One item of a job is run.
-    fn run_item(&self, number: usize) {
-        let (running, items) = (&self.running[..], &self.items[..]);
-        let found = running[number.min(3)].load(Ordering::SeqCst);
-        items[number.min(3)].fetch_add(1, Ordering::SeqCst);
-        self.expect(number <= 3 && found == 1);
     }
 
     fn expect(&self, right: bool) {
@@ -133,60 +106,4 @@ impl<'a> Gate for Watching<'a> {
         self.marks.turn(number, 1, 0);
         self.marks.runs[..][number.min(3)].fetch_add(1, Ordering::SeqCst);
     }
-}
-
-// Contracts see nothing of marks, so any two are the same.
-impl PartialEq for Marks {
-    ghost use Rattle.std.specs.Prelude.{true};
-    ghost use Rattle.std.proofs.Common.{rules};
-    ghost use Rattle.std.specs.Cmp.Rules.{comparing};
-
-    ghost eq = { λ _ _. true };
-
-    ghost laws = { Prim.search (comparing, rules) };
-
-    fn eq(&self, _other: &Marks) -> bool {
-        true
-    }
-}
-
-impl Eq for Marks {
-    ghost use Rattle.std.proofs.Common.{rules};
-    ghost use Rattle.std.specs.Cmp.Rules.{comparing};
-
-    ghost laws = { Prim.search (comparing, rules) };
-}
-
-/// An item of the job of a number, to be noted there.
-#[derive(Clone, Copy, PartialEq, Eq)]
-pub struct Marked<'a> {
-    pub job: usize,
-    pub marks: &'a Marks,
-}
-
-/// Notes its items, each of which is to run between its job's two calls.
-pub struct Noting<'a> {
-    marks: PhantomData<&'a Marks>,
-}
-
-impl<'a> Job for Noting<'a> {
-    type In = Marked<'a>;
-
-    type Out = usize;
-
-    type Inner = End;
-
-    ghost meets = { λ item job. job ≡ item.job };
-
-    fn run<H: Threads + Wait + Sync>(
-        _rt: &H,
-        _alloc: Global,
-        input: &Marked<'a>,
-        _cx: &mut JobCx<End>,
-    ) -> usize {
-        input.marks.run_item(input.job);
-        input.job
-    }
-
-    ghost equal_is_same = { Prim.search rules };
 }

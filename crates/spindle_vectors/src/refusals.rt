@@ -33,43 +33,17 @@ pub fn are_seven_squares(squares: &[u128]) -> bool {
 
 #[test]
 fn refused_round_has_run_no_job(rt: HostRuntime) -> Result<(), Fault> {
-    rounds_of_seven_items(&rt, rt.alloc(), 4, 4)
-}
-
-#[test]
-fn refused_round_of_a_leader_alone_has_run_no_job(rt: HostRuntime) -> Result<(), Fault> {
-    rounds_of_seven_items(&rt, rt.alloc(), 1, 4)
-}
-
-#[test]
-fn refused_round_has_run_no_job_where_one_thread_starts(rt: HostRuntime) -> Result<(), Fault> {
-    rounds_of_seven_items(&rt, rt.alloc(), 4, 1)
-}
-
-#[test]
-fn refused_round_has_run_no_job_where_no_thread_starts(rt: HostRuntime) -> Result<(), Fault> {
-    rounds_of_seven_items(&rt, rt.alloc(), 4, 0)
-}
-
-// Three rounds in a lock of so many threads, of which so many helpers are started.
-fn rounds_of_seven_items<H: Threads + Wait + Abort + Sync>(
-    rt: &H,
-    alloc: Global,
-    most: usize,
-    starts: usize,
-) -> Result<(), Fault>
-    requires { 0 < most }
-{
+    let alloc = rt.alloc();
     let calls = Calls::new();
     let opened = AtomicUsize::new(0);
-    let pool = Pool::with_starts(4, LIMITS, Counting { calls: &calls }, starts);
-    let answer = with_lock::<Square, _, _, _, _, _>(rt, alloc, &pool, most, |leader| {
+    let pool = Pool::new(4, LIMITS, Counting { calls: &calls });
+    let answer = with_lock::<Square, _, _, _, _, _>(&rt, alloc, &pool, 4, |leader| {
         opened.fetch_add(1, Ordering::SeqCst);
-        square_seven_items(rt, alloc, &calls, leader, 1)?;
-        square_seven_items(rt, alloc, &calls, leader, 3)?;
-        square_seven_items(rt, alloc, &calls, leader, 7)
+        square_seven_items(&rt, alloc, &calls, leader, 1)?;
+        square_seven_items(&rt, alloc, &calls, leader, 3)?;
+        square_seven_items(&rt, alloc, &calls, leader, 7)
     });
-    unopened_or(rt, &opened, answer)
+    unopened_or(&rt, &opened, answer)
 }
 
 // What the rounds of a lock answered; where the lock was refused, its closure wasn't run.
@@ -179,49 +153,22 @@ fn more_numbers_than_memory_holds_are_refused(rt: HostRuntime) -> Result<(), Fau
 // An empty round that took memory would be refused it once.
 #[test]
 fn refused_nothing_where_nothing_is_run(rt: HostRuntime) -> Result<(), Fault> {
-    empty_rounds(&rt, rt.alloc(), 4)
-}
-
-#[test]
-fn refused_nothing_where_a_leader_alone_runs_nothing(rt: HostRuntime) -> Result<(), Fault> {
-    empty_rounds(&rt, rt.alloc(), 1)
-}
-
-// Rounds over no items and over no numbers: in a fresh lock, in one lock within the other, and after a round.
-fn empty_rounds<H: Threads + Wait + Abort + Sync>(
-    rt: &H,
-    alloc: Global,
-    most: usize,
-) -> Result<(), Fault>
-    requires { 0 < most }
-{
+    let alloc = rt.alloc();
     let calls = Calls::new();
     let opened = AtomicUsize::new(0);
     let pool = Pool::new(4, LIMITS, Counting { calls: &calls });
-    let answer = with_lock::<Square, _, _, _, _, _>(rt, alloc, &pool, most, |leader| {
+    let answer = with_lock::<Square, _, _, _, _, _>(&rt, alloc, &pool, 4, |leader| {
         opened.fetch_add(1, Ordering::SeqCst);
-        run_nothing(rt, alloc, leader)?;
-        leader.with_lock(1, |leader| run_nothing(rt, alloc, leader))?;
-        assert_eq!(rt; calls.in_all(), (0, 0));
-        square_seven_items(rt, alloc, &calls, leader, 4)?;
-        run_nothing(rt, alloc, leader)
-    });
-    unopened_or(rt, &opened, answer)
-}
-
-// No items and no numbers, for each number of jobs: Ok without memory.
-fn run_nothing<H: Threads + Wait + Abort + Sync>(
-    rt: &H,
-    alloc: Global,
-    leader: &mut Leader<Square, Counting>,
-) -> Result<(), Fault> {
-    for jobs in [0, 1, 4, usize::MAX] {
-        let outputs = leader.for_each(rt, alloc, jobs, Vec::new(alloc))?;
+        for jobs in [0, 1, 4, usize::MAX] {
+            let outputs = leader.for_each(&rt, alloc, jobs, Vec::new(alloc))?;
+            assert!(rt; outputs.is_empty());
+            assert_eq!(rt; outputs.capacity(), 0);
+        }
+        let outputs = leader.for_each_raw(&rt, alloc, 0)?;
         assert!(rt; outputs.is_empty());
         assert_eq!(rt; outputs.capacity(), 0);
-    }
-    let outputs = leader.for_each_raw(rt, alloc, 0)?;
-    assert!(rt; outputs.is_empty());
-    assert_eq!(rt; outputs.capacity(), 0);
-    Ok(())
+        assert_eq!(rt; calls.in_all(), (0, 0));
+        Ok::<(), Fault>(())
+    });
+    unopened_or(&rt, &opened, answer)
 }
