@@ -19,7 +19,7 @@ const LIMITS: Limits = Limits {
     pause: DEFAULT_PAUSE_LIMIT,
 };
 
-// The items of a round; where memory for them is refused once, it is asked for again.
+/// The items of a round; where memory for them is refused once, it is asked for again.
 pub fn seven_items(alloc: Global) -> Result<Vec<usize>, Fault> {
     match vec![in alloc; 0, 1, 2, 3, 4, 5, 6] {
         Ok(items) => Ok(items),
@@ -27,6 +27,7 @@ pub fn seven_items(alloc: Global) -> Result<Vec<usize>, Fault> {
     }
 }
 
+/// Whether these are the squares of the numbers from 0 to 6.
 pub fn are_seven_squares(squares: &[u128]) -> bool {
     squares == [0, 1, 4, 9, 16, 25, 36].as_slice()
 }

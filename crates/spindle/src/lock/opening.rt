@@ -14,6 +14,7 @@ use crate::job::gate::Gate;
 use crate::job::nest::Nest;
 use crate::lock::helper::Recruit;
 use crate::lock::leader::Leader;
+use crate::lock::pool::Pool;
 use crate::lock::workspace::Opens;
 use crate::work::runner::Runner;
 use std::alloc::Global;
@@ -35,7 +36,7 @@ impl Seats {
     }
 }
 
-// Starts so many helpers, but no more than the lock has threads beside its leader.
+// Starts as many helpers as the pool may start, but no more than the lock has threads beside its leader.
 fn start<
     's,
     E,
@@ -49,9 +50,8 @@ fn start<
     alloc: Global,
     tables: &'s Tables,
     workspace: &'s L,
-    gate: &'s G,
+    pool: &'s Pool<G>,
     seats: &mut Seats,
-    starts: usize,
 )
 where
     J::In: Send + Sync,
@@ -61,7 +61,8 @@ where
     requires { AreSeatsAt tables.now seats.old }
     ensures { AreSeatsAt tables.now seats.new }
 {
-    for _ in 0..starts.min(tables.crew.threads() - 1) {
+    let gate = pool.gate();
+    for _ in 0..pool.starts().min(tables.crew.threads() - 1) {
         let recruit = seats.recruit(tables);
         drop(scope.spawn(move || drop(recruit.help::<J, L, G, H>(rt, alloc, workspace, gate))));
     }
@@ -83,9 +84,8 @@ pub(crate) fn lead<
     alloc: Global,
     tables: &'s Tables,
     workspace: &'s L,
-    gate: &'s G,
+    pool: &'s Pool<G>,
     mut seats: Seats,
-    starts: usize,
     f: F,
 ) -> R
 where
@@ -98,13 +98,11 @@ where
     ensures { (old : _) × (new : _) × (threads_of old ≡ tables.now.crew.threads)
         × FnOnceReturnsAtMut F.FnOnce f old result new }
 {
-    start::<_, J, G, L, H>(
-        scope, rt, alloc, tables, workspace, gate, &mut seats, starts,
-    );
+    start::<_, J, G, L, H>(scope, rt, alloc, tables, workspace, pool, &mut seats);
     let mut notices = Notices::new(&tables.ledger, seats.ledger);
     let post = LeaderPost::new(Post::join(rt, tables, seats.round, 0));
     let worker = Worker { tables, thread: 0 };
-    let runner = Runner::new(J::slots(workspace), gate, worker, notices);
+    let runner = Runner::new(J::slots(workspace), pool.gate(), worker, notices);
     let mut leader = Leader::new(workspace, runner, post);
     let answer = f(&mut leader);
     leader.dismiss(rt);

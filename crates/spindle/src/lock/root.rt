@@ -70,8 +70,6 @@ where
     ensures { (old : _) × (new : _) × (threads_of old ≡ tables.now.crew.threads)
         × FnOnceReturnsAtMut F.FnOnce f old result new }
 {
-    let gate = pool.gate();
-    let starts = pool.starts();
     thread::scope(
         thread::scope_env(),
         rt,
@@ -81,8 +79,6 @@ where
             requires sync { IsSync H.row }
             ensures { (old : _) × (new : _) × (threads_of old ≡ tables.entry.now.crew.threads)
                 × FnOnceReturnsAtMut F.FnOnce f old result new }
-        {
-            lead::<_, J, G, R, F, L, H>(scope, rt, alloc, tables, workspace, gate, seats, starts, f)
-        },
+        { lead::<_, J, G, R, F, L, H>(scope, rt, alloc, tables, workspace, pool, seats, f) },
     )
 }

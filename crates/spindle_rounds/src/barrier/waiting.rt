@@ -246,7 +246,7 @@ impl<'a, D: Slots> Barrier<'a, D> {
         unreachable!()
     }
 
-    // The closer's two stores, by a member.
+    /// The closer's two stores, by a member.
     pub fn close(&mut self)
         requires held { IsHeld self.old }
         requires closer { (q : ℕ) × (was : Bool) × (read : Option ℕ)

@@ -34,6 +34,7 @@ use std::thread::Threads;
 /// A party's place in a published round.
 #[derive(Drop)]
 pub struct Party<'r, D: Slots> {
+    /// The rounds of its table.
     pub round: &'r Round<D>,
     /// Its thread number, which is that of its range.
     pub thread: usize,
