@@ -12,7 +12,11 @@ use Rattle.spindle_rounds.specs.Working.{PlayedRound}
 
 -- the threads of its lock
 abbrev pub threads_of : {J G L I O N S : Type 0} → Leader J G L I O N S → ℕ
-threads_of leader = leader.post.post.tables.now.crew.threads
+threads_of leader = leader.post.post.tables.now.crew.most
+
+-- how many of them may take part in its rounds: 1 where it works alone
+abbrev pub hands_of : {J G L I O N S : Type 0} → Leader J G L I O N S → ℕ
+hands_of leader = leader.post.post.tables.now.crew.threads
 
 -- what its seat at the round table knows, with the trail of its own steps
 abbrev pub view_of : {J G L I O N S : Type 0} → Leader J G L I O N S → View (Unit {0})

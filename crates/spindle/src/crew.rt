@@ -4,10 +4,12 @@ ghost use Rattle.std.specs.Prelude.{◌≡◌, ◌<◌, ◌≤◌};
 
 pub mod leader_post;
 pub mod limits;
+pub mod members;
 pub mod notices;
 pub mod phases;
 pub mod post;
 pub mod seats;
+pub mod site;
 pub mod sleep;
 pub mod tables;
 pub mod worker;
@@ -15,12 +17,16 @@ pub mod worker;
 /// A barrier holds at most so many threads, and so does a lock.
 pub(crate) const MOST_THREADS: usize = 32767;
 
-/// A lock's threads, its leader counted.
+/// A lock's threads, its leader counted, and those of the pool that it was opened from.
 #[derive(Clone, Copy)]
 pub struct Crew {
+    pool: usize,
+    most: usize,
     threads: usize,
+    ghost some: { 0 < pool },
     ghost led: { 0 < threads },
-    ghost few: { threads ≤ 32767 },
+    ghost within: { threads ≤ most },
+    ghost few: { most ≤ 32767 },
 }
 
 impl Crew {
@@ -30,16 +36,31 @@ impl Crew {
     pub(crate) fn new(pool_threads: usize, max_threads: usize) -> Crew
         requires pool { 0 < pool_threads }
         requires some { 0 < max_threads }
-        ensures { result.threads ≡ lock_threads pool_threads max_threads }
+        ensures most { result.most ≡ lock_threads pool_threads max_threads }
+        ensures all { result.threads ≡ result.most }
+        ensures pool { result.pool ≡ pool_threads }
     {
         let threads = pool_threads.min(max_threads).min(MOST_THREADS);
-        Crew { threads }
+        Crew {
+            pool: pool_threads,
+            most: threads,
+            threads,
+        }
     }
 
-    /// How many there are at most.
+    /// The lock's threads.
+    pub(crate) fn most(&self) -> usize
+        ensures number { result ≡ self.now.most }
+        ensures some { 0 < result }
+    {
+        self.most
+    }
+
+    /// How many of them may come: 1 where the leader works alone.
     pub(crate) fn threads(&self) -> usize
         ensures number { result ≡ self.now.threads }
         ensures some { 0 < result }
+        ensures within { result ≤ self.now.most }
         ensures most { result ≤ 32767 }
     {
         self.threads

@@ -1,8 +1,9 @@
 //! What the threads of a lock share, whatever the kind of job: rounds, thread numbers, notices, and a place to sleep.
-ghost use Rattle.std.specs.Prelude.{◌≡◌, ◌<◌, ◌≤◌, IfOk, OnErr, IsErrOf};
+ghost use Rattle.std.specs.Prelude.{◌≡◌, ◌<◌};
 
 use crate::crew::Crew;
-use crate::crew::limits::Limits;
+use crate::crew::members::Members;
+use crate::crew::site::Site;
 use crate::crew::sleep::Sleep;
 use spindle_parts::numbers::Numbers;
 use spindle_parts::requests::Requests;
@@ -22,12 +23,23 @@ pub struct Tables {
 }
 
 impl Tables {
-    /// How many threads are in the lock now, the leader counted.
-    pub(crate) fn current_num_threads(&self) -> usize
-        ensures some { 0 < result }
-        ensures most { result ≤ self.now.crew.threads }
+    ghost use Rattle.std.specs.Option.{ForSome};
+
+    /// Where the number of the threads that take part is read.
+    pub(crate) fn members(&self) -> Members<'_> {
+        Members::Barrier(self.round.init())
+    }
+
+    /// What a job sees that the thread of this number runs.
+    pub(crate) fn site(&self, index: Option<usize>) -> Site<'_>
+        requires index { ForSome index (λ i. i < self.now.crew.most) }
+        ensures crew { result.crew ≡ self.now.crew }
     {
-        let members = self.round.init().current_num_threads();
-        members.max(1).min(self.crew.threads())
+        Site {
+            crew: self.crew,
+            members: self.members(),
+            sleep: &self.sleep,
+            index,
+        }
     }
 }

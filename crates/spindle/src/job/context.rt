@@ -2,6 +2,7 @@
 ghost use Rattle.std.specs.Prelude.{◌≡◌, ◌<◌, ◌≤◌, IfSome};
 
 use crate::crew::notices::Notices;
+use crate::crew::site::Site;
 use crate::job::nest::Nest;
 use std::marker::Model;
 
@@ -10,61 +11,53 @@ use std::marker::Model;
 pub struct JobCx<'a, N: Nest> {
     slots: Option<&'a N::Slots>,
     notices: Notices<'a>,
-    index: Option<usize>,
-    current: usize,
-    threads: usize,
+    site: Site<'a>,
 }
 
 impl<'a, N: Nest> Model for JobCx<'a, N> {
-    ghost use Rattle.spindle.specs.Locks.{ContextView, IsContext};
+    ghost use Rattle.spindle.specs.Locks.{ContextView};
     ghost use Rattle.spindle.specs.Accounts.{account_of};
 
     ghost Value = { ContextView };
 
-    ghost view = { λ c. record { threads = c.threads; account = account_of c.notices } };
-
-    ghost invariant = { λ c. IsContext c.index c.current c.threads };
+    ghost view = { λ c. record { threads = c.site.crew.most; pool = c.site.crew.pool; account = account_of c.notices } };
 }
 
 impl<'a, N: Nest> JobCx<'a, N> {
-    ghost use Rattle.spindle.specs.Locks.{IsContext};
     ghost use Rattle.spindle.specs.Accounts.{account_of};
     ghost use Rattle.spindle.specs.Notices.{AnnouncedRest};
 
-    /// The context of a job that runs in a lock of so many threads, of which so many are there.
+    /// The context of a job that runs at this site.
     pub(crate) fn new(
         slots: Option<&'a N::Slots>,
         notices: Notices<'a>,
-        index: Option<usize>,
-        current: usize,
-        threads: usize,
+        site: Site<'a>,
     ) -> JobCx<'a, N>
-        requires { IsContext index current threads }
-        ensures threads { result.threads ≡ threads }
+        ensures threads { result.threads ≡ site.entry.crew.most }
+        ensures pool { result.pool ≡ site.entry.crew.pool }
         ensures account { result.account ≡ account_of notices.entry }
     {
         JobCx {
             slots,
             notices,
-            index,
-            current,
-            threads,
+            site,
         }
     }
 
-    /// How many threads take part in the lock now, its leader counted.
+    /// How many threads take part in the lock at this moment, its leader counted. In a job that another job runs directly it is
+    /// the number of when the job began.
     pub fn current_num_threads(&self) -> usize
         ensures leader { 0 < result }
         ensures most { result ≤ self.now.threads }
     {
-        self.current
+        self.site.members.current(self.site.crew.most())
     }
 
     /// The lock's threads.
     pub fn max_num_threads(&self) -> usize
         ensures { result ≡ self.now.threads }
     {
-        self.threads
+        self.site.crew.most()
     }
 
     /// The number of the thread that runs the job, the leader's being 0; None in a job that a leader runs
@@ -72,13 +65,14 @@ impl<'a, N: Nest> JobCx<'a, N> {
     pub fn current_thread_index(&self) -> Option<usize>
         ensures { IfSome result (λ index. index < self.now.threads) }
     {
-        self.index
+        self.site.index
     }
 
     /// Tells idle helpers of the lock to sleep at once until its next round. A leader that works alone has none.
     pub fn relieve_workers(&mut self)
         ensures rest { AnnouncedRest self.old.account self.new.account }
         ensures lock { self.new.threads ≡ self.old.threads }
+        ensures pool { self.new.pool ≡ self.old.pool }
     {
         self.notices.announce_rest();
     }

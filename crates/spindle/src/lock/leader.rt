@@ -5,7 +5,7 @@ ghost use Rattle.std.specs.Prelude.{◌≡◌, ◌<◌, ◌≤◌, IfOk, IfErr, 
 ghost use Rattle.std.specs.List.{AllZip};
 ghost use Rattle.std.specs.Fn.{FnOnceReturnsAtMut};
 ghost use Rattle.spindle_parts.specs.Pieces.{counted};
-ghost use Rattle.spindle.specs.Leaders.{threads_of, AnnouncedRest, IsBetweenRounds, MadeNoStep, PlayedOnce, LeftByRefusal};
+ghost use Rattle.spindle.specs.Leaders.{threads_of, hands_of, AnnouncedRest, IsBetweenRounds, MadeNoStep, PlayedOnce, LeftByRefusal};
 ghost use Rattle.spindle.specs.Rounds.{job_count, IsRefusal};
 
 use crate::crew::leader_post::LeaderPost;
@@ -39,7 +39,8 @@ impl<'a, J: Opens<L>, G: Gate, L> Leader<'a, J, G, L> {
         runner: Runner<'a, J, G>,
         post: LeaderPost<'a>,
     ) -> Leader<'a, J, G, L>
-        ensures { threads_of result ≡ post.entry.post.tables.now.crew.threads }
+        ensures threads { threads_of result ≡ post.entry.post.tables.now.crew.most }
+        ensures hands { hands_of result ≡ post.entry.post.tables.now.crew.threads }
     {
         Leader {
             workspace,
@@ -69,7 +70,7 @@ impl<'a, J: Opens<L>, G: Gate, L> Leader<'a, J, G, L> {
         requires jobs { 0 < vec_len items → 0 < n_jobs }
         ensures answer { IfOk result (λ outputs. AllZip J.meets items.items outputs.items) }
         ensures refused { IfErr result
-            (IsRefusal (threads_of self.old) (job_count (vec_len items) n_jobs)) }
+            (IsRefusal (hands_of self.old) (job_count (vec_len items) n_jobs)) }
         ensures empty { vec_len items ≡ 0 → IsOk result }
         ensures played { let jobs = job_count (vec_len items) n_jobs in
             OnOk result (2 ≤ jobs → PlayedOnce jobs self.old self.new) }
@@ -78,12 +79,13 @@ impl<'a, J: Opens<L>, G: Gate, L> Leader<'a, J, G, L> {
             (LeftByRefusal (job_count (vec_len items) n_jobs) self.old self.new) }
         ensures between { IsBetweenRounds self.new }
         ensures lock { threads_of self.new ≡ threads_of self.old }
+        ensures hands { hands_of self.new ≡ hands_of self.old }
     {
         if items.is_empty() {
             return Ok(Vec::new(alloc));
         }
         let jobs = items.len().min(n_jobs.min(MOST_JOBS));
-        if jobs > 1 && self.max_num_threads() > 1 {
+        if jobs > 1 && self.post.post.tables.crew.threads() > 1 {
             return self.play(rt, alloc, jobs, items);
         }
         let mut outputs = Vec::with_capacity(alloc, items.len())?;
@@ -107,13 +109,14 @@ impl<'a, J: Opens<L>, G: Gate, L> Leader<'a, J, G, L> {
         jobs: usize,
         items: Vec<J::In>,
     ) -> Result<Vec<J::Out>, Fault>
-        requires threads { 2 ≤ threads_of self.old }
+        requires threads { 2 ≤ hands_of self.old }
         requires jobs { (2 ≤ jobs) × (jobs ≤ 4294967295) × (jobs ≤ vec_len items) }
         ensures answer { IfOk result (λ outputs. AllZip J.meets items.items outputs.items) }
-        ensures refused { IfErr result (IsRefusal (threads_of self.old) jobs) }
+        ensures refused { IfErr result (IsRefusal (hands_of self.old) jobs) }
         ensures played { OnOk result (PlayedOnce jobs self.old self.new) }
         ensures left { IfErr result (LeftByRefusal jobs self.old self.new) }
         ensures lock { threads_of self.new ≡ threads_of self.old }
+        ensures hands { hands_of self.new ≡ hands_of self.old }
     {
         let mut outputs = Vec::with_capacity(alloc, items.len())?;
         let pieces = Pieces::new(SharedList::from_vec(alloc, items)?, jobs);
@@ -145,14 +148,15 @@ impl<'a, J: Opens<L>, G: Gate, L> Leader<'a, J, G, L> {
         ensures leader { 0 < result }
         ensures most { result ≤ threads_of self.now }
     {
-        self.post.post.tables.current_num_threads()
+        let tables = self.post.post.tables;
+        tables.members().current(tables.crew.most())
     }
 
     /// The lock's threads.
     pub fn max_num_threads(&self) -> usize
         ensures { result ≡ threads_of self.now }
     {
-        self.post.post.tables.crew.threads()
+        self.post.post.tables.crew.most()
     }
 
     /// None: a leader has no number between rounds.
@@ -165,6 +169,7 @@ impl<'a, J: Opens<L>, G: Gate, L> Leader<'a, J, G, L> {
     /// Tells idle helpers to sleep at once until the next round.
     pub fn relieve_workers(&mut self)
         ensures lock { threads_of self.new ≡ threads_of self.old }
+        ensures hands { hands_of self.new ≡ hands_of self.old }
         ensures quiet { MadeNoStep self.old self.new }
         ensures rest { AnnouncedRest self.old self.new }
     {
@@ -182,7 +187,7 @@ impl<'a, J: Opens<L, In = usize>, G: Gate, L> Leader<'a, J, G, L> {
     ) -> Result<Vec<J::Out>, Fault>
         ensures answer { IfOk result (λ outputs. AllZip J.meets (counted 0 n_jobs) outputs.items) }
         ensures refused { IfErr result
-            (IsRefusal (threads_of self.old) (job_count n_jobs n_jobs)) }
+            (IsRefusal (hands_of self.old) (job_count n_jobs n_jobs)) }
         ensures empty { n_jobs ≡ 0 → IsOk result }
         ensures played { let jobs = job_count n_jobs n_jobs in
             OnOk result (2 ≤ jobs → PlayedOnce jobs self.old self.new) }
@@ -190,6 +195,7 @@ impl<'a, J: Opens<L, In = usize>, G: Gate, L> Leader<'a, J, G, L> {
         ensures left { IfErr result (LeftByRefusal (job_count n_jobs n_jobs) self.old self.new) }
         ensures between { IsBetweenRounds self.new }
         ensures lock { threads_of self.new ≡ threads_of self.old }
+        ensures hands { hands_of self.new ≡ hands_of self.old }
     {
         if n_jobs == 0 {
             return Ok(Vec::new(alloc));

@@ -1,7 +1,7 @@
 //! Starting the helpers of a lock, and running its closure beside them.
 ghost use Rattle.std.specs.Prelude.{◌≡◌};
 ghost use Rattle.std.specs.Fn.{FnOnceReturnsAtMut};
-ghost use Rattle.spindle.specs.Leaders.{threads_of};
+ghost use Rattle.spindle.specs.Leaders.{threads_of, hands_of};
 ghost use Rattle.spindle.specs.Opening.{AreSeatsAt};
 
 use crate::crew::leader_post::LeaderPost;
@@ -95,7 +95,8 @@ where
     <J::Inner as Nest>::Slots: Send + Sync,
     requires callable { F.IsAlwaysCallable f }
     requires seats { AreSeatsAt tables.now seats }
-    ensures { (old : _) × (new : _) × (threads_of old ≡ tables.now.crew.threads)
+    ensures { (old : _) × (new : _) × (threads_of old ≡ tables.now.crew.most)
+        × (hands_of old ≡ tables.now.crew.threads)
         × FnOnceReturnsAtMut F.FnOnce f old result new }
 {
     start::<_, J, G, L, H>(scope, rt, alloc, tables, workspace, pool, &mut seats);

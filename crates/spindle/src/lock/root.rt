@@ -2,7 +2,7 @@
 ghost use Rattle.std.specs.Prelude.{◌≡◌, ◌<◌, IfOk, OnErr, IsErrOf};
 ghost use Rattle.std.specs.Fn.{FnOnceReturnsAtMut};
 ghost use denote.Param.Send.{IsSync};
-ghost use Rattle.spindle.specs.Leaders.{threads_of};
+ghost use Rattle.spindle.specs.Leaders.{threads_of, hands_of};
 ghost use Rattle.spindle.specs.Locks.{lock_threads};
 ghost use Rattle.spindle.specs.Opening.{AreSeatsAt};
 
@@ -42,6 +42,7 @@ where
     requires callable { F.IsAlwaysCallable f }
     ensures promise { IfOk result (λ r. (old : _) × (new : _)
         × (threads_of old ≡ lock_threads pool.now.threads max_threads)
+        × (hands_of old ≡ threads_of old)
         × FnOnceReturnsAtMut F.FnOnce f old r new) }
     ensures memory { OnErr result (IsErrOf result Fault.Memory) }
 {
@@ -67,7 +68,8 @@ where
     <J::Inner as Nest>::Slots: Send + Sync,
     requires callable { F.IsAlwaysCallable f }
     requires seats { AreSeatsAt tables.now seats }
-    ensures { (old : _) × (new : _) × (threads_of old ≡ tables.now.crew.threads)
+    ensures { (old : _) × (new : _) × (threads_of old ≡ tables.now.crew.most)
+        × (hands_of old ≡ tables.now.crew.threads)
         × FnOnceReturnsAtMut F.FnOnce f old result new }
 {
     thread::scope(
@@ -77,7 +79,8 @@ where
             requires callable { F.IsAlwaysCallable f }
             requires seats { AreSeatsAt tables.now seats }
             requires sync { IsSync H.row }
-            ensures { (old : _) × (new : _) × (threads_of old ≡ tables.entry.now.crew.threads)
+            ensures { (old : _) × (new : _) × (threads_of old ≡ tables.entry.now.crew.most)
+                × (hands_of old ≡ tables.entry.now.crew.threads)
                 × FnOnceReturnsAtMut F.FnOnce f old result new }
         { lead::<_, J, G, R, F, L, H>(scope, rt, alloc, tables, workspace, pool, seats, f) },
     )

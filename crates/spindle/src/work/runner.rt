@@ -48,22 +48,15 @@ impl<'a, J: Job, G: Gate> Runner<'a, J, G> {
         items: &[J::In],
         outputs: &mut Vec<J::Out>,
     )
-        requires index { ForSome index (λ i. i < self.old.worker.tables.now.crew.threads) }
+        requires index { ForSome index (λ i. i < self.old.worker.tables.now.crew.most) }
         requires room { vec_len outputs.old + length items.now ≤ vec_capacity outputs.old }
         ensures answered { AddsAnswers J.meets items.now outputs.old.items outputs.new.items }
         ensures room { vec_capacity outputs.new ≡ vec_capacity outputs.old }
         ensures len { vec_len outputs.new ≡ vec_len outputs.old + length items.now }
     {
-        let tables = self.worker.tables;
-        let current = tables.current_num_threads();
+        let site = self.worker.tables.site(index);
         let notices = self.notices.another();
-        let mut context = JobCx::new(
-            Some(self.slots),
-            notices,
-            index,
-            current,
-            tables.crew.threads(),
-        );
+        let mut context = JobCx::new(Some(self.slots), notices, site);
         self.gate.begun(number);
         for item in items {
             outputs.push_reserved(J::run(rt, alloc, item, &mut context));

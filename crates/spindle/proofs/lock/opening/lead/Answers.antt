@@ -14,6 +14,7 @@ pub returns : goal.returns
 returns g c = (
   c.new-leader.result,
   _,
-  c.new-leader.ensures ∙ ap (λ p. p.tables.now.crew.threads) c.new-post.ensures ∙ ap (λ t. t.crew.threads) c.join.ensures.tables,
+  c.new-leader.ensures.threads ∙ ap (λ p. p.tables.now.crew.most) c.new-post.ensures ∙ ap (λ t. t.crew.most) c.join.ensures.tables,
+  c.new-leader.ensures.hands ∙ ap (λ p. p.tables.now.crew.threads) c.new-post.ensures ∙ ap (λ t. t.crew.threads) c.join.ensures.tables,
   record { shown = _; shows = refl; left = _; met = c.f-answer.ensures; leaves = refl },
 )
