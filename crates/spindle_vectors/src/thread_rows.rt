@@ -108,6 +108,29 @@ fn four_threads_at_once_have_four_numbers(rt: HostRuntime) -> Result<(), Fault> 
     Ok(())
 }
 
+// The number of threads is read when the job asks for it: at the gate both have come.
+#[test]
+fn two_jobs_that_met_each_count_two_threads(rt: HostRuntime) -> Result<(), Fault> {
+    let alloc = rt.alloc();
+    let begun = AtomicUsize::new(0);
+    let missed = AtomicUsize::new(0);
+    let gate = Meeting {
+        jobs: 2,
+        begun: &begun,
+        missed: &missed,
+    };
+    let pool = Pool::new(2, LIMITS, gate);
+    with_lock::<Place, _, _, _, _, _>(&rt, alloc, &pool, 2, |leader| {
+        for round in 0..50 {
+            let places = leader.for_each(&rt, alloc, 2, vec![in alloc; 0, 1]?)?;
+            assert_eq!(rt; (places[0].1, places[1].1), (2, 2), "round {round}");
+        }
+        Ok::<(), Fault>(())
+    })??;
+    assert_eq!(rt; missed.load(Ordering::SeqCst), 0);
+    Ok(())
+}
+
 #[test]
 fn a_leader_with_helpers_has_no_number_outside_a_published_round(
     rt: HostRuntime,
