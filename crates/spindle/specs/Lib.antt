@@ -13,3 +13,4 @@ pub mod Posts
 pub mod Notices
 pub mod Accounts
 pub mod Helpers
+pub mod Nested

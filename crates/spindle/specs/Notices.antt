@@ -1,7 +1,13 @@
 -- What a thread's account at the ledger gains by the notices that it reads and gives.
-use Rattle.std.specs.Prelude.{◌≡◌, ◌⊎◌, ℕ}
+use Rattle.std.specs.Prelude.{◌≡◌, ◌⊎◌, ℕ, Bool, true, false}
 use Rattle.spindle_parts.specs.declared.requests.plays.Account.{Account}
-use Rattle.spindle_parts.specs.LedgerSteps.{loading, announcing}
+use Rattle.spindle_parts.specs.declared.requests.TakePlace.TheVariants as answer
+use Rattle.spindle_parts.specs.Ledger.{place_word}
+use Rattle.spindle_parts.specs.LedgerSteps.{loading, announcing, subtracting, TookBy}
+
+-- the word that counts what nested locks ask for
+abbrev pub requests_word : ℕ
+requests_word = 0
 
 -- the word that says that the helpers end
 abbrev pub exit_word : ℕ
@@ -26,3 +32,8 @@ AnnouncedRest old new = new ≡ announcing rest_word 1 old
 -- idle threads are to make their turns again: the notice was read as 0, or it was read and then 0 stored
 abbrev pub EndedRest : (old new : Account) → Type 0
 EndedRest old new = Read rest_word 0 old new ⊎ (new ≡ announcing rest_word 0 (loading rest_word 1 old))
+
+-- one try for a place of the slot: where it was had, requests fell by 1 after it, and the credit is as before
+abbrev pub TookPlace : (slot : ℕ) → Bool → (old new : Account) → Type 0
+TookPlace slot true old new = (mid : Account) × (found : ℕ) × TookBy (place_word slot) answer.Taken old mid × (new ≡ subtracting 1 found mid)
+TookPlace slot false old new = TookBy (place_word slot) answer.None old new ⊎ TookBy (place_word slot) answer.Again old new

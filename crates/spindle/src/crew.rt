@@ -2,6 +2,7 @@
 //! the post of each at the barrier.
 ghost use Rattle.std.specs.Prelude.{◌≡◌, ◌<◌, ◌≤◌};
 
+pub mod asking;
 pub mod leader_post;
 pub mod limits;
 pub mod members;
@@ -12,7 +13,6 @@ pub mod seats;
 pub mod site;
 pub mod sleep;
 pub mod tables;
-pub mod worker;
 
 /// A barrier holds at most so many threads, and so does a lock.
 pub(crate) const MOST_THREADS: usize = 32767;
@@ -64,5 +64,28 @@ impl Crew {
         ensures most { result ≤ 32767 }
     {
         self.threads
+    }
+
+    /// The threads of a lock that a job opens in a lock with these.
+    pub(crate) fn nested(&self, max_threads: usize) -> Crew
+        requires some { 0 < max_threads }
+        ensures most { result.most ≡ lock_threads self.now.pool max_threads }
+        ensures all { result.threads ≡ result.most }
+        ensures pool { result.pool ≡ self.now.pool }
+    {
+        Crew::new(self.pool, max_threads)
+    }
+
+    /// The same, where the leader works alone.
+    pub(crate) fn alone(&self) -> Crew
+        ensures most { result.most ≡ self.now.most }
+        ensures alone { result.threads ≡ 1 }
+        ensures pool { result.pool ≡ self.now.pool }
+    {
+        Crew {
+            pool: self.pool,
+            most: self.most,
+            threads: 1,
+        }
     }
 }

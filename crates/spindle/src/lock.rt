@@ -1,10 +1,11 @@
 //! Locks: a caller opens one for a kind of job, and hands lists of items to its rounds.
 //!
 //! `pool` has what a lock is opened with, `root` and `opening` how it opens, `leader` the rounds, and `helper` the life of
-//! its other threads. All that a user names of locks is given out here.
+//! its other threads; `nested` has the locks that jobs open. All that a user names of locks is given out here.
 
 mod helper;
 mod leader;
+pub(crate) mod nested;
 mod opening;
 mod pool;
 mod root;

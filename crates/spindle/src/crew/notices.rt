@@ -1,30 +1,39 @@
-//! What a lock's threads announce to each other: that all rest until the next round, and that the helpers end.
-ghost use Rattle.std.specs.Prelude.{◌≡◌, [], IfOk, OnErr, IsErrOf, if◌then◌else◌};
-ghost use Rattle.spindle_parts.specs.LedgerSeats.{IsSeatOf};
+//! What a lock's threads announce to each other: that all rest until the next round, that the helpers end, and how many
+//! helpers nested locks ask for.
+ghost use Rattle.std.specs.Prelude.{◌≡◌, ◌<◌, [], if◌then◌else◌};
+ghost use Rattle.spindle_parts.specs.LedgerSeats.{IsSeatOf, IsSameSeat, slot_count};
 ghost use Rattle.spindle_parts.specs.LedgerSteps.{blank};
-ghost use Rattle.spindle.specs.Notices.{exit_word, rest_word, Read, AnnouncedExit, AnnouncedRest, EndedRest};
+ghost use Rattle.spindle.specs.Notices.{requests_word, exit_word, rest_word, Read, AnnouncedExit, AnnouncedRest, EndedRest, TookPlace};
 
-use spindle_parts::requests::{Requests, Seat};
+use crate::crew::asking::Asked;
+use spindle_parts::requests::{Requests, Seat, TakePlace};
 
 /// A thread's access to the notices of its lock. It answers for no request between two calls.
 #[derive(Drop)]
-pub(crate) struct Notices<'a> {
+pub struct Notices<'a> {
     ledger: &'a Requests,
     seat: Seat,
+    slots: usize,
     ghost seated: { IsSeatOf ledger.now seat },
+    ghost counted: { slot_count ledger.now ≡ slots },
     ghost no_credit: { seat.me.0.credit ≡ 0 },
 }
 
 impl<'a> Notices<'a> {
-    ghost use Rattle.spindle.specs.Accounts.{account_of};
+    ghost use Rattle.spindle.specs.Accounts.{account_of, IsSameThread};
 
-    /// The notices, by a seat of their ledger.
-    pub(crate) fn new(ledger: &'a Requests, seat: Seat) -> Notices<'a>
+    /// The notices, by a seat of their ledger, which has so many child slots.
+    pub(crate) fn new(ledger: &'a Requests, seat: Seat, slots: usize) -> Notices<'a>
         requires seated { IsSeatOf ledger.now seat }
+        requires counted { slot_count ledger.now ≡ slots }
         requires no_credit { seat.me.0.credit ≡ 0 }
         ensures { result.seat ≡ seat }
     {
-        Notices { ledger, seat }
+        Notices {
+            ledger,
+            seat,
+            slots,
+        }
     }
 
     /// The same for another thread.
@@ -36,7 +45,49 @@ impl<'a> Notices<'a> {
         Notices {
             ledger: self.ledger,
             seat,
+            slots: self.slots,
         }
+    }
+
+    /// How many child slots there are.
+    pub(crate) fn slots(&self) -> usize
+        ensures { result ≡ self.now.slots }
+    {
+        self.slots
+    }
+
+    /// How many helpers nested locks ask for.
+    pub(crate) fn requests(&mut self) -> u64
+        ensures read { Read requests_word result (account_of self.old) (account_of self.new) }
+        ensures same { IsSameThread self.old self.new }
+    {
+        self.ledger.requests(&mut self.seat)
+    }
+
+    /// Tries once to take a place of the slot, and lowers requests by it.
+    pub(crate) fn takes_place(&mut self, slot: usize) -> bool
+        requires slot { slot < self.old.slots }
+        ensures took { TookPlace slot result (account_of self.old) (account_of self.new) }
+        ensures same { IsSameThread self.old self.new }
+    {
+        match self.ledger.try_take_place(&mut self.seat, slot) {
+            TakePlace::Taken => {
+                self.ledger.subtract(&mut self.seat, 1);
+                true
+            }
+            _ => false,
+        }
+    }
+
+    /// Asks for so many helpers, by a seat that answers for them.
+    pub(crate) fn ask(&mut self, helpers: usize) -> Asked<'a>
+        ensures old { self.new.seat.me ≡ self.old.seat.me }
+        ensures same { IsSameThread self.old self.new }
+        ensures slots { result.slots ≡ self.old.slots }
+        ensures helpers { result.helpers ≡ helpers }
+    {
+        let seat = self.ledger.new_seat(&mut self.seat);
+        Asked::new(self.ledger, seat, self.slots, helpers)
     }
 
     /// Whether the helpers are to end.

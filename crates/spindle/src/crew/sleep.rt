@@ -30,6 +30,11 @@ impl Sleep {
         }
     }
 
+    /// How idle threads pause here.
+    pub(crate) fn limits(&self) -> Limits {
+        self.limits
+    }
+
     /// Wakes all who sleep. A word was changed before.
     pub(crate) fn wake<H: Wait>(&self, rt: &H) {
         drop(self.mutex.lock(rt));

@@ -1,5 +1,7 @@
-//! What the threads of a lock share, whatever the kind of job: rounds, thread numbers, notices, and a place to sleep.
+//! What the threads of a lock share, whatever the kind of job: rounds, thread numbers, notices, and a place to sleep. What
+//! the slots of its round table hold is a parameter.
 ghost use Rattle.std.specs.Prelude.{◌≡◌, ◌<◌};
+ghost use Rattle.spindle_parts.specs.LedgerSeats.{slot_count};
 
 use crate::crew::Crew;
 use crate::crew::members::Members;
@@ -8,38 +10,38 @@ use crate::crew::sleep::Sleep;
 use spindle_parts::numbers::Numbers;
 use spindle_parts::requests::Requests;
 use spindle_rounds::round::Round;
-use spindle_rounds::round_table::slots::Bare;
+use spindle_rounds::round_table::slots::{Bare, Slots};
 
 /// The tables of a lock.
 #[derive(Drop)]
-pub struct Tables {
+pub struct Tables<D: Slots> {
     pub(crate) crew: Crew,
-    pub(crate) round: Round<Bare>,
+    pub(crate) round: Round<D>,
     pub(crate) numbers: Numbers,
     pub(crate) ledger: Requests,
+    pub(crate) child_slots: usize,
     pub(crate) sleep: Sleep,
     ghost rounds: { round.init.threads ≡ crew.threads },
     ghost named: { numbers.threads ≡ crew.threads },
+    ghost placed: { slot_count ledger ≡ child_slots },
 }
 
-impl Tables {
-    ghost use Rattle.std.specs.Option.{ForSome};
-
+impl Tables<Bare> {
     /// Where the number of the threads that take part is read.
     pub(crate) fn members(&self) -> Members<'_> {
         Members::Barrier(self.round.init())
     }
 
-    /// What a job sees that the thread of this number runs.
-    pub(crate) fn site(&self, index: Option<usize>) -> Site<'_>
-        requires index { ForSome index (λ i. i < self.now.crew.most) }
+    /// Where the thread of this number runs jobs.
+    pub(crate) fn site(&self, thread: usize) -> Site<'_>
+        requires thread { thread < self.now.crew.threads }
         ensures crew { result.crew ≡ self.now.crew }
     {
         Site {
             crew: self.crew,
             members: self.members(),
             sleep: &self.sleep,
-            index,
+            index: Some(thread),
         }
     }
 }

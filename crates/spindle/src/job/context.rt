@@ -9,9 +9,9 @@ use std::marker::Model;
 /// The context of a job whose kind has the inner nest N.
 #[derive(Drop)]
 pub struct JobCx<'a, N: Nest> {
-    slots: Option<&'a N::Slots>,
-    notices: Notices<'a>,
-    site: Site<'a>,
+    pub(crate) slots: Option<&'a N::Slots>,
+    pub(crate) notices: Notices<'a>,
+    pub(crate) site: Site<'a>,
 }
 
 impl<'a, N: Nest> Model for JobCx<'a, N> {
@@ -50,7 +50,7 @@ impl<'a, N: Nest> JobCx<'a, N> {
         ensures leader { 0 < result }
         ensures most { result ≤ self.now.threads }
     {
-        self.site.members.current(self.site.crew.most())
+        self.site.current()
     }
 
     /// The lock's threads.

@@ -4,13 +4,13 @@ ghost use Rattle.spindle_parts.specs.ThreadNumbers.{IsSeatOf, IsSameSeat as IsSa
 ghost use Rattle.spindle_parts.specs.declared.numbers.plays.Holding.TheVariants.{Nothing, Has};
 ghost use Rattle.spindle.specs.Posts.{IsOut, AreOut, AreSameSeats, party_view};
 ghost use Rattle.spindle.specs.Helpers.{IsNews};
+ghost use denote.Param.Send.{IsSync};
 ghost use Rattle.spindle_rounds.specs.Seating.{IsSameSeat};
 
 use crate::crew::notices::Notices;
-use crate::crew::post::Post;
+use crate::crew::post::{Post, Whereabouts};
 use crate::crew::seats::Seats;
 use crate::crew::tables::Tables;
-use crate::crew::worker::Worker;
 use crate::job::Job;
 use crate::job::gate::Gate;
 use crate::job::nest::Nest;
@@ -21,7 +21,7 @@ use spindle_parts::numbers;
 use spindle_parts::numbers::{Numbers, Take};
 use spindle_rounds::round::task::Task;
 use spindle_rounds::round_table;
-use spindle_rounds::round_table::slots::Bare;
+use spindle_rounds::round_table::slots::{Bare, Slots};
 use std::alloc::Global;
 use std::sync::Wait;
 use std::thread;
@@ -29,13 +29,13 @@ use std::thread::Threads;
 
 /// A thread that isn't in the lock yet: its seats at the lock's tables.
 #[derive(Drop)]
-pub(crate) struct Recruit<'a> {
-    pub(crate) tables: &'a Tables,
-    pub(crate) seats: Seats,
+pub(crate) struct Recruit<'a, D: Slots> {
+    pub(crate) tables: &'a Tables<D>,
+    pub(crate) seats: Seats<D>,
     ghost out: { AreOut tables.now seats },
 }
 
-impl<'a> Recruit<'a> {
+impl<'a> Recruit<'a, Bare> {
     /// The helper's life, from its number to its end. Its seats come back.
     pub(crate) fn help<J: Opens<L> + 'a, L, G: Gate, H: Threads + Wait + Sync>(
         self,
@@ -43,7 +43,8 @@ impl<'a> Recruit<'a> {
         alloc: Global,
         workspace: &'a L,
         gate: &'a G,
-    ) -> Seats
+    ) -> Seats<Bare>
+        requires sync { IsSync H.row }
         ensures out { AreOut self.entry.tables.now result }
         ensures own { AreSameSeats self.entry.seats result }
     {
@@ -55,9 +56,10 @@ impl<'a> Recruit<'a> {
         } = seats;
         let thread = take_number(rt, &tables.numbers, &mut numbers);
         let post = Post::join(rt, tables, round, thread);
-        let notices = Notices::new(&tables.ledger, tables.ledger.new_seat(&mut ledger));
-        let worker = Worker { tables, thread };
-        let runner = Runner::<'a, J, G>::new(J::slots(workspace), gate, worker, notices);
+        let seat = tables.ledger.new_seat(&mut ledger);
+        let notices = Notices::new(&tables.ledger, seat, tables.child_slots);
+        let site = tables.site(thread);
+        let runner = Runner::<'a, J, G>::new(J::slots(workspace), gate, site, notices);
         let round = live(rt, alloc, post, runner, J::trays(workspace));
         tables.numbers.give(&mut numbers, thread);
         Seats {
@@ -92,32 +94,49 @@ enum News {
     Exit,
     // A round is published.
     Round(Task),
+    // Nested locks ask for helpers.
+    Requests,
 }
 
-// Takes part in each round, until exit is announced.
+// Takes part in each round, and goes to the nested locks that ask for helpers, until exit is announced.
 fn live<'a, J: Job, G: Gate, H: Threads + Wait + Sync>(
     rt: &H,
     alloc: Global,
-    mut post: Post<'a>,
+    mut post: Post<'a, Bare>,
     mut runner: Runner<'a, J, G>,
     trays: &Trays<J>,
 ) -> round_table::Seat<Bare>
-    requires { (party_view post.barrier).leader ≡ false }
+    requires helper { (party_view post.barrier).leader ≡ false }
+    requires sync { IsSync H.row }
     ensures out { IsOut post.entry.tables.now result }
     ensures leader { result.me.0.leader ≡ false }
     ensures seat { IsSameSeat post.entry.barrier.seat result }
 {
+    let tables = post.tables;
+    let thread = post.thread;
     for _ in rt.forever() {
-        match await_news(rt, &mut post, &mut runner.notices) {
+        let whereabouts = match await_news(rt, &mut post, &mut runner.notices) {
             News::Exit => return post.leave(rt),
             News::Round(task) => post.take_part(rt, alloc, trays, &mut runner, task),
-        }
+            News::Requests => Whereabouts::Out(post.leave(rt)),
+        };
+        post = match whereabouts {
+            Whereabouts::In(post) => post,
+            Whereabouts::Out(seat) => {
+                <J::Inner as Nest>::serve(rt, alloc, runner.slots, &mut runner.notices);
+                Post::join(rt, tables, seat, thread)
+            }
+        };
     }
     unreachable!()
 }
 
-// Waits for a round, or for the announcement of exit.
-fn await_news<'a, H: Wait>(rt: &H, post: &mut Post<'a>, notices: &mut Notices<'a>) -> News
+// Waits for a round, for requests, or for the announcement of exit.
+fn await_news<'a, D: Slots, H: Wait>(
+    rt: &H,
+    post: &mut Post<'a, D>,
+    notices: &mut Notices<'a>,
+) -> News
     ensures news { IsNews (party_view post.new.barrier) result }
     ensures post { (post.new.tables ≡ post.old.tables) × (post.new.thread ≡ post.old.thread) }
     ensures leader { (party_view post.new.barrier).leader ≡ (party_view post.old.barrier).leader }
@@ -130,6 +149,9 @@ fn await_news<'a, H: Wait>(rt: &H, post: &mut Post<'a>, notices: &mut Notices<'a
         }
         if let Some(task) = post.task() {
             return News::Round(task);
+        }
+        if notices.requests() > 0 {
+            return News::Requests;
         }
         idle.pass(rt, notices.is_rest_announced());
     }

@@ -17,6 +17,7 @@ use crate::pieces::runs::Pieces;
 use crate::work::runner::Runner;
 use spindle_parts::cut::cut;
 use spindle_parts::fault::Fault;
+use spindle_rounds::round_table::slots::Bare;
 use std::alloc::Global;
 use std::sync::Wait;
 use std::thread::Threads;
@@ -29,7 +30,7 @@ const MOST_JOBS: usize = 4294967295;
 pub struct Leader<'a, J: Job, G: Gate, L = Workspace<J>> {
     workspace: &'a L,
     runner: Runner<'a, J, G>,
-    post: LeaderPost<'a>,
+    post: LeaderPost<'a, Bare>,
 }
 
 impl<'a, J: Opens<L>, G: Gate, L> Leader<'a, J, G, L> {
@@ -37,7 +38,7 @@ impl<'a, J: Opens<L>, G: Gate, L> Leader<'a, J, G, L> {
     pub(crate) fn new(
         workspace: &'a L,
         runner: Runner<'a, J, G>,
-        post: LeaderPost<'a>,
+        post: LeaderPost<'a, Bare>,
     ) -> Leader<'a, J, G, L>
         ensures threads { threads_of result ≡ post.entry.post.tables.now.crew.most }
         ensures hands { hands_of result ≡ post.entry.post.tables.now.crew.threads }
@@ -47,6 +48,12 @@ impl<'a, J: Opens<L>, G: Gate, L> Leader<'a, J, G, L> {
             runner,
             post,
         }
+    }
+
+    /// Leaves the lock's barrier.
+    pub(crate) fn leave<H: Wait>(self, rt: &H) {
+        let LeaderPost { post } = self.post;
+        drop(post.leave(rt));
     }
 
     /// Tells the helpers to end.

@@ -7,6 +7,7 @@ ghost use Rattle.std.specs.Prelude.{◌<◌, OnErr, IsErrOf};
 use crate::job::Job;
 use crate::job::nest::Nest;
 use crate::job::sealed::HasWorkspace;
+use crate::lock::nested::Child;
 use crate::pieces::trays::Trays;
 use spindle_parts::fault::Fault;
 use std::alloc::Global;
@@ -31,6 +32,9 @@ pub trait Opens<L>: Job + HasWorkspace<L> {
 
     /// The trays of its pieces.
     fn trays(workspace: &L) -> &Trays<Self>;
+
+    /// The workspace of a lock that a job opened.
+    fn inner(child: &Child<Self>) -> &L;
 }
 
 impl<J: Job> HasWorkspace<Workspace<J>> for J {}
@@ -48,5 +52,9 @@ impl<J: Job> Opens<Workspace<J>> for J {
 
     fn trays(workspace: &Workspace<J>) -> &Trays<J> {
         &workspace.trays
+    }
+
+    fn inner(child: &Child<J>) -> &Workspace<J> {
+        child.workspace()
     }
 }

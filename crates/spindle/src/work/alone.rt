@@ -36,7 +36,7 @@ struct LoneWork<'p, 'r, 'a, J: Job, G: Gate> {
     outputs: Vec<J::Out>,
 }
 
-impl<'a> LeaderPost<'a> {
+impl<'a> LeaderPost<'a, Bare> {
     /// Publishes the pieces, runs each of them in its order, and ends the round.
     pub(crate) fn play_alone<J: Job, G: Gate, H: Threads + Wait + Sync>(
         &mut self,

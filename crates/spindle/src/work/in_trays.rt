@@ -1,16 +1,17 @@
 //! The work of one thread in a published round: it runs the pieces of the numbers that it claims, out of the trays.
 ghost use Rattle.std.specs.Prelude.{◌≡◌, ◌≤◌, false};
-ghost use Rattle.spindle_rounds.specs.Seating.{IsSameSeat};
+ghost use Rattle.spindle.specs.Helpers.{IsHelperAt};
 ghost use Rattle.spindle_rounds.specs.Working.{OnTask, PlayedRound};
 
 use crate::crew::leader_post::LeaderPost;
-use crate::crew::phases::{end_round, publish};
-use crate::crew::post::Post;
+use crate::crew::phases::{end_or_leave, end_round, publish};
+use crate::crew::post::{Post, Whereabouts};
 use crate::job::Job;
 use crate::job::gate::Gate;
 use crate::pieces::finished::Finished;
 use crate::pieces::trays::Trays;
 use crate::work::runner::Runner;
+use spindle_rounds::barrier::ExitStatus;
 use spindle_rounds::round::claim::Claimed;
 use spindle_rounds::round::party::{Party, Work};
 use spindle_rounds::round::task::Task;
@@ -29,26 +30,26 @@ struct TrayWork<'t, 'r, 'a, J: Job, G: Gate> {
     held: Option<Finished<J>>,
 }
 
-impl<'a> Post<'a> {
-    /// Runs the jobs of a published round that are left for the thread, and waits until the round has ended.
+impl<'a> Post<'a, Bare> {
+    /// Runs the jobs of a published round that are left for the thread, and waits until the round has ended, or leaves where nested
+    /// locks ask for helpers.
     pub(crate) fn take_part<J: Job, G: Gate, H: Threads + Wait + Sync>(
-        &mut self,
+        mut self,
         rt: &H,
         alloc: Global,
         trays: &Trays<J>,
         runner: &mut Runner<'_, J, G>,
         task: Task,
-    )
-        requires task { OnTask task.jobs task.may_stop self.old.barrier.seat.me.0 }
-        requires helper { self.old.barrier.seat.me.0.leader ≡ false }
-        ensures post { (self.new.tables ≡ self.old.tables) × (self.new.thread ≡ self.old.thread) }
-        ensures leader { self.new.barrier.seat.me.0.leader ≡ false }
-        ensures seat { IsSameSeat self.old.barrier.seat self.new.barrier.seat }
+    ) -> Whereabouts<'a, Bare>
+        requires task { OnTask task.jobs task.may_stop self.barrier.seat.me.0 }
+        requires helper { self.barrier.seat.me.0.leader ≡ false }
+        ensures { IsHelperAt self.entry.tables self.entry.thread self.entry.barrier.seat result }
     {
         let tables = self.tables;
+        let thread = self.thread;
         let party = Party {
             round: &tables.round,
-            thread: self.thread,
+            thread,
             task,
         };
         let work = TrayWork {
@@ -59,11 +60,14 @@ impl<'a> Post<'a> {
         };
         let work = party.work(rt, &mut self.barrier.seat, work);
         work.bring_back(rt, task);
-        end_round(rt, tables, &mut self.barrier);
+        match end_or_leave(rt, tables, self.barrier, &mut runner.notices) {
+            ExitStatus::Exit(seat) => Whereabouts::Out(seat),
+            ExitStatus::Remain(barrier) => Whereabouts::In(Post::new(tables, barrier, thread)),
+        }
     }
 }
 
-impl<'a> LeaderPost<'a> {
+impl<'a> LeaderPost<'a, Bare> {
     /// Publishes so many jobs, whose pieces stand in the trays, takes part, and waits until the round has ended.
     pub(crate) fn play<J: Job, G: Gate, H: Threads + Wait + Sync>(
         &mut self,
@@ -139,7 +143,7 @@ impl<'t, 'r, 'a, J: Job, G: Gate> TrayWork<'t, 'r, 'a, J, G> {
         let held = self.held.take();
         if let Some(piece) = self.trays.exchange(rt, pieces, held, number) {
             let (inputs, mut outputs) = piece.into_parts();
-            let index = Some(self.runner.worker.thread);
+            let index = self.runner.site.index;
             let items = inputs.as_slice();
             self.runner
                 .run(rt, self.alloc, number, index, items, &mut outputs);

@@ -4,7 +4,7 @@ ghost use Rattle.std.specs.Option.{ForSome};
 ghost use Rattle.spindle.specs.Rounds.{AddsAnswers};
 
 use crate::crew::notices::Notices;
-use crate::crew::worker::Worker;
+use crate::crew::site::Site;
 use crate::job::Job;
 use crate::job::context::JobCx;
 use crate::job::gate::Gate;
@@ -18,7 +18,7 @@ use std::thread::Threads;
 pub(crate) struct Runner<'a, J: Job, G: Gate> {
     pub(crate) slots: &'a <J::Inner as Nest>::Slots,
     pub(crate) gate: &'a G,
-    pub(crate) worker: Worker<'a>,
+    pub(crate) site: Site<'a>,
     pub(crate) notices: Notices<'a>,
 }
 
@@ -27,13 +27,13 @@ impl<'a, J: Job, G: Gate> Runner<'a, J, G> {
     pub(crate) fn new(
         slots: &'a <J::Inner as Nest>::Slots,
         gate: &'a G,
-        worker: Worker<'a>,
+        site: Site<'a>,
         notices: Notices<'a>,
     ) -> Runner<'a, J, G> {
         Runner {
             slots,
             gate,
-            worker,
+            site,
             notices,
         }
     }
@@ -48,13 +48,14 @@ impl<'a, J: Job, G: Gate> Runner<'a, J, G> {
         items: &[J::In],
         outputs: &mut Vec<J::Out>,
     )
-        requires index { ForSome index (λ i. i < self.old.worker.tables.now.crew.most) }
+        requires index { ForSome index (λ i. i < self.old.site.crew.most) }
         requires room { vec_len outputs.old + length items.now ≤ vec_capacity outputs.old }
         ensures answered { AddsAnswers J.meets items.now outputs.old.items outputs.new.items }
         ensures room { vec_capacity outputs.new ≡ vec_capacity outputs.old }
         ensures len { vec_len outputs.new ≡ vec_len outputs.old + length items.now }
+        ensures site { self.new.site ≡ self.old.site }
     {
-        let site = self.worker.tables.site(index);
+        let site = self.site.under(index);
         let notices = self.notices.another();
         let mut context = JobCx::new(Some(self.slots), notices, site);
         self.gate.begun(number);

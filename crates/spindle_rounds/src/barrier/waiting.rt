@@ -204,8 +204,9 @@ impl<'a, D: Slots> Barrier<'a, D> {
         unreachable!()
     }
 
-    // One turn of a member that waits: it leaves where it is asked to, and else looks.
-    fn take_turn(mut self, asked: u64) -> Result<Barrier<'a, D>, ExitStatus<'a, D>>
+    /// One turn of a member that waits: it leaves where the number that it was asked with is above 0, and else looks. It goes on
+    /// waiting where its barrier comes back.
+    pub fn take_turn(mut self, asked: u64) -> Result<Barrier<'a, D>, ExitStatus<'a, D>>
         requires held { IsHeld self }
         requires waiting { MayLeave self.seat.me.0 }
         ensures stays { IfOk result (λ b. Keeps self.entry b

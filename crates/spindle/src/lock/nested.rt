@@ -1,0 +1,10 @@
+//! Nested locks: what a job opens, to which idle helpers of the job's lock move.
+
+mod bench;
+mod child;
+mod opening;
+mod rounds;
+#[cfg(test)]
+mod tests;
+
+pub use self::child::Child;
