@@ -7,3 +7,4 @@ pub mod TrayPlaces
 pub mod PieceRuns
 pub mod FreeLists
 mod Helpers
+mod Leaving

@@ -1,6 +1,5 @@
 -- What a helper that waits is told, and where it is after a round.
 use Rattle.std.specs.Prelude.{◌≡◌, ℕ, false}
-use denote.Param.Ref.{Ref}
 use Rattle.atomic_table.specs.declared.shared.Seat.{Seat}
 use Rattle.spindle.specs.declared.crew.post.Whereabouts.{Whereabouts}
 use Rattle.spindle.specs.declared.crew.post.Whereabouts.TheVariants.{In, Out}
@@ -9,6 +8,11 @@ use Rattle.spindle.specs.declared.lock.helper.News.{News}
 use Rattle.spindle.specs.declared.lock.helper.News.TheVariants.{Exit, Round, Requests}
 use Rattle.spindle.specs.Posts.{IsOut, party_view}
 use Rattle.spindle_rounds.specs.declared.round_table.view.View.{View}
+use Rattle.spindle_rounds.specs.declared.barrier.Barrier.{Barrier}
+use Rattle.spindle_rounds.specs.declared.barrier.waiting.ExitStatus.{ExitStatus}
+use Rattle.spindle_rounds.specs.declared.barrier.waiting.ExitStatus.TheVariants as status
+use Rattle.spindle_rounds.specs.Holding.{IsSeatOf, Keeps}
+use Rattle.spindle_rounds.specs.Passing.{InNext, WentOut}
 use Rattle.spindle_rounds.specs.Seating.{IsSameSeat}
 use Rattle.spindle_rounds.specs.Working.{OnTask}
 
@@ -17,3 +21,14 @@ abbrev pub IsNews : {N : Type 0} → View N → News → Type 0
 IsNews v Exit = Unit {0}
 IsNews v (Round task) = OnTask task.jobs task.may_stop v
 IsNews v Requests = Unit {0}
+
+-- a helper after a round: at its post, under its number, or out of the barrier, by the same seat
+abbrev pub IsHelperAt : {T S N : Type 0} → Tables T S N → (thread : ℕ) → Seat S (View N) → Whereabouts T S N → Type 0
+IsHelperAt tables thread seat (In post) = (post.tables.now ≡ tables) × (post.thread ≡ thread) × ((party_view post.barrier).leader ≡ false)
+    × IsSameSeat seat post.barrier.seat
+IsHelperAt tables thread seat (Out out) = IsOut tables out × (out.me.0.leader ≡ false) × IsSameSeat seat out
+
+-- a member that has waited for its round's end: it is inside the next round, or it is out of the barrier
+abbrev pub EndedOrLeft : {T S N : Type 0} → Barrier T S N → ExitStatus T S N → Type 0
+EndedOrLeft b (status.Exit seat) = IsSeatOf b seat × WentOut b.seat.me seat.me
+EndedOrLeft b (status.Remain c) = Keeps b c × InNext b.seat.me c.seat.me

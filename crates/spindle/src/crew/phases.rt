@@ -5,17 +5,18 @@ ghost use Rattle.spindle_rounds.specs.RoundRule.{Showed};
 ghost use Rattle.spindle_rounds.specs.RoundSteps.{publishing, round_of};
 ghost use Rattle.spindle_rounds.specs.Seating.{IsSeatAt, IsSameSeat};
 ghost use Rattle.spindle_rounds.specs.RoundViews.{published_of};
-ghost use Rattle.spindle_rounds.specs.Holding.{AwaitTold, IsHeld, Keeps, StatusTold};
+ghost use Rattle.spindle_rounds.specs.Holding.{IsHeld, Keeps};
 ghost use Rattle.spindle_rounds.specs.Passing.{InNext};
 ghost use Rattle.spindle_rounds.specs.Working.{OnTask, IsIdle};
 ghost use Rattle.spindle.specs.Accounts.{account_of, IsSameThread};
+ghost use Rattle.spindle.specs.Helpers.{EndedOrLeft};
 ghost use Rattle.spindle.specs.Notices.{EndedRest};
 ghost use Rattle.spindle.specs.Posts.{IsAt, party_view};
 
 use crate::crew::notices::Notices;
 use crate::crew::tables::Tables;
-use spindle_rounds::barrier::{Barrier, ExitStatus};
 use spindle_rounds::barrier::steps::{Arrival, Look};
+use spindle_rounds::barrier::{Barrier, ExitStatus};
 use spindle_rounds::round::Round;
 use spindle_rounds::round::task::Task;
 use spindle_rounds::round_table::Seat;
@@ -117,7 +118,7 @@ pub(crate) fn end_or_leave<'a, D: Slots, H: Wait>(
     requires held { IsHeld barrier }
     requires free { MayExit (party_view barrier) }
     requires done { IsDone (party_view barrier) }
-    ensures status { StatusTold barrier.entry result }
+    ensures status { EndedOrLeft barrier.entry result }
     ensures same { IsSameThread notices.old notices.new }
 {
     match barrier.arrive() {
@@ -134,16 +135,15 @@ pub(crate) fn end_or_leave<'a, D: Slots, H: Wait>(
 fn await_end_or_leave<'a, D: Slots, H: Wait>(
     rt: &H,
     tables: &Tables<D>,
-    barrier: Barrier<'a, D>,
+    mut barrier: Barrier<'a, D>,
     notices: &mut Notices<'_>,
 ) -> ExitStatus<'a, D>
     requires held { IsHeld barrier }
     requires waiting { MayLeave (party_view barrier) }
-    ensures status { AwaitTold barrier.entry result }
+    ensures status { EndedOrLeft barrier.entry result }
     ensures same { IsSameThread notices.old notices.new }
 {
     let mut idle = tables.sleep.idle();
-    let mut barrier = barrier;
     for _ in rt.forever() {
         let asked = notices.requests();
         barrier = match barrier.take_turn(asked) {

@@ -4,7 +4,5 @@ mod bench;
 mod child;
 mod opening;
 mod rounds;
-#[cfg(test)]
-mod tests;
 
 pub use self::child::Child;

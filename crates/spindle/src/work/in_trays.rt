@@ -43,7 +43,7 @@ impl<'a> Post<'a, Bare> {
     ) -> Whereabouts<'a, Bare>
         requires task { OnTask task.jobs task.may_stop self.barrier.seat.me.0 }
         requires helper { self.barrier.seat.me.0.leader ≡ false }
-        ensures { IsHelperAt self.entry.tables self.entry.thread self.entry.barrier.seat result }
+        ensures { IsHelperAt self.entry.tables.now self.entry.thread self.entry.barrier.seat result }
     {
         let tables = self.tables;
         let thread = self.thread;

@@ -48,12 +48,7 @@ impl Bench {
     }
 
     // Lets the seats rest here. Where a seat rests already, the new one is dropped.
-    fn put(
-        &self,
-        round: round_table::Seat<Bare>,
-        numbers: numbers::Seat,
-        ledger: requests::Seat,
-    )
+    fn put(&self, round: round_table::Seat<Bare>, numbers: numbers::Seat, ledger: requests::Seat)
         requires round { (round.table_id ≡ self.now.round.table_id) × (round.me ≡ (self.now.round.view, [])) }
         requires numbers { (numbers.table_id ≡ self.now.numbers.table_id) × (numbers.me ≡ (self.now.numbers.view, [])) }
         requires ledger { (ledger.table_id ≡ self.now.ledger.table_id) × (ledger.me ≡ (self.now.ledger.view, [])) }
@@ -66,7 +61,7 @@ impl Bench {
     /// The seats, if they rest here.
     pub(crate) fn take<'a>(&self, tables: &'a Tables<Bare>) -> Option<Recruit<'a, Bare>>
         requires { IsBenchAt tables.now self.now }
-        ensures { IfSome result (λ recruit. recruit.tables ≡ tables) }
+        ensures { IfSome result (λ recruit. recruit.tables.now ≡ tables.now) }
     {
         let (_, round) = self.round.take(EMPTY);
         let round = round?;

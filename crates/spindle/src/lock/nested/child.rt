@@ -1,5 +1,6 @@
 //! A lock that a job opened, as it stands in a child slot of the outer lock.
 ghost use Rattle.std.specs.Prelude.{◌≡◌, ◌<◌, IfOk, OnErr, IsErrOf, All};
+ghost use Rattle.std.specs.Arc.{arc_value};
 ghost use Rattle.spindle.specs.Nested.{IsBenchAt};
 ghost use Rattle.spindle.specs.Opening.{AreSeatsAt};
 ghost use denote.Param.Send.{IsSync};
@@ -24,7 +25,7 @@ use std::thread::Threads;
 /// What the threads of a nested lock share: its tables, its workspace, and seats for its helpers.
 #[derive(Drop)]
 pub struct Nested<K: Job> {
-    tables: Tables<Bare>,
+    pub(crate) tables: Tables<Bare>,
     workspace: Workspace<K>,
     benches: Vec<Bench>,
     ghost seated: { All (IsBenchAt tables) benches.items },
@@ -33,7 +34,7 @@ pub struct Nested<K: Job> {
 /// A share of a nested lock.
 #[derive(Drop)]
 pub struct Child<K: Job> {
-    shared: Arc<Nested<K>>,
+    pub(crate) shared: Arc<Nested<K>>,
 }
 
 /// Any child may stand in any slot: that it is a lock in order is kept by its type.
@@ -50,8 +51,8 @@ impl<K: Job> Child<K> {
         crew: Crew,
         limits: Limits,
     ) -> Result<(Child<K>, Seats<Bare>), Fault>
-        ensures seats { IfOk result (λ t. AreSeatsAt (tables_of t.0) t.1) }
-        ensures crew { IfOk result (λ t. (tables_of t.0).crew ≡ crew) }
+        ensures seats { IfOk result (λ t. AreSeatsAt (arc_value t.0.shared).tables t.1) }
+        ensures crew { IfOk result (λ t. (arc_value t.0.shared).tables.crew ≡ crew) }
         ensures memory { OnErr result (IsErrOf result Fault.Memory) }
     {
         let workspace = <K as Opens<Workspace<K>>>::open(alloc, crew.threads())?;
@@ -86,7 +87,7 @@ impl<K: Job> Child<K> {
     }
 
     pub(crate) fn tables(&self) -> &Tables<Bare>
-        ensures { result.now ≡ tables_of self.now }
+        ensures { result.now ≡ (arc_value self.now.shared).tables }
     {
         &self.shared.tables
     }

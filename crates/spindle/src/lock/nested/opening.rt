@@ -4,6 +4,7 @@
 //! once no guard is out. A helper's guard is out for its whole life in the lock, which ends once it sees the announcement.
 ghost use Rattle.std.specs.Prelude.{◌≡◌, ◌<◌, ◌≤◌, IfSome, IfOk, OnErr, IsErrOf, vec_len};
 ghost use Rattle.std.specs.Fn.{FnOnceReturnsAtMut};
+ghost use Rattle.std.specs.Arc.{arc_value};
 ghost use Rattle.spindle.specs.Leaders.{threads_of};
 ghost use Rattle.spindle.specs.Locks.{lock_threads};
 ghost use Rattle.spindle.specs.Opening.{AreSeatsAt};
@@ -102,8 +103,8 @@ fn lead_helped<R, K: Opens<L>, F: FnOnce(&mut Leader<K, NoGate, L>) -> R, L, H: 
     f: F,
 ) -> R
     requires callable { F.IsAlwaysCallable f }
-    requires seats { AreSeatsAt (tables_of child.now) seats }
-    ensures { (old : _) × (new : _) × (threads_of old ≡ (tables_of child.now).crew.most)
+    requires seats { AreSeatsAt (arc_value child.now.shared).tables seats }
+    ensures { (old : _) × (new : _) × (threads_of old ≡ (arc_value child.now.shared).tables.crew.most)
         × FnOnceReturnsAtMut F.FnOnce f old result new }
 {
     let gate = NoGate;
@@ -122,8 +123,8 @@ fn take_lead<'b, K: Opens<L>, L, H: Wait>(
     gate: &'b NoGate,
     seats: Seats<Bare>,
 ) -> Leader<'b, K, NoGate, L>
-    requires { AreSeatsAt (tables_of child.now) seats }
-    ensures { threads_of result ≡ (tables_of child.now).crew.most }
+    requires { AreSeatsAt (arc_value child.now.shared).tables seats }
+    ensures { threads_of result ≡ (arc_value child.now.shared).tables.crew.most }
 {
     let tables = child.tables();
     let workspace = K::inner(child);

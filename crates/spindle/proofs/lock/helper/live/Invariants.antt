@@ -7,6 +7,6 @@ use Rattle.spindle.proofs.lock.helper.live.Given as goal
 abbrev pub invariant-loop : goal.invariant-loop
 invariant-loop g l = record {
   helper : (party_view l.post.barrier).leader ≡ false;
-  tables : l.post.tables ≡ l.fn.post.tables;
+  tables : l.post.tables.now ≡ l.fn.post.tables.now;
   seat : IsSameSeat l.fn.post.barrier.seat l.post.barrier.seat;
 }

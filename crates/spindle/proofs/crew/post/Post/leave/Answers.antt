@@ -12,4 +12,4 @@ returns-clause-out g c = let e = c.exit-seat.ensures in let o = e.out.seat in le
     )
 
 pub returns-clause-leader : goal.returns-clause-leader
-returns-clause-leader g c = ap (λ m. m.0.leader) c.exit-seat.ensures.out.seat ∙ c.requires.helper
+returns-clause-leader g c = ap (λ m. m.0.leader) c.exit-seat.ensures.out.seat
