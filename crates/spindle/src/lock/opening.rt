@@ -1,5 +1,5 @@
 //! Starting the helpers of a lock, and running its closure beside them.
-ghost use Rattle.std.specs.Prelude.{◌≡◌};
+ghost use Rattle.std.specs.Prelude.{◌≡◌, []};
 ghost use Rattle.std.specs.Fn.{FnOnceReturnsAtMut};
 ghost use Rattle.spindle.specs.Leaders.{threads_of};
 ghost use Rattle.spindle.specs.Opening.{AreSeatsAt};
@@ -101,6 +101,8 @@ where
     requires seats { AreSeatsAt tables.now seats }
     ensures tables { result.0.post.tables.now ≡ tables.now }
     ensures crew { result.1.worker.crew ≡ tables.now.crew }
+    ensures slots { let seat = result.0.post.barrier.seat in
+        (seat.me.1 ≡ []) × (seat.me.0.board ≡ []) }
 {
     start::<_, D, J, G, L, H>(scope, rt, alloc, tables, workspace, pool, &mut seats);
     let notices = Notices::new(&tables.ledger, seats.ledger);
