@@ -21,7 +21,7 @@ use spindle_parts::numbers;
 use spindle_parts::numbers::{Numbers, Take};
 use spindle_rounds::round::task::Task;
 use spindle_rounds::round_table;
-use spindle_rounds::round_table::slots::Bare;
+use spindle_rounds::round_table::slots::{Bare, Slots};
 use std::alloc::Global;
 use std::sync::Wait;
 use std::thread;
@@ -29,13 +29,13 @@ use std::thread::Threads;
 
 /// A thread that isn't in the lock yet: its seats at the lock's tables.
 #[derive(Drop)]
-pub(crate) struct Recruit<'a> {
-    pub(crate) tables: &'a Tables,
-    pub(crate) seats: Seats,
+pub(crate) struct Recruit<'a, D: Slots> {
+    pub(crate) tables: &'a Tables<D>,
+    pub(crate) seats: Seats<D>,
     ghost out: { AreOut tables.now seats },
 }
 
-impl<'a> Recruit<'a> {
+impl<'a> Recruit<'a, Bare> {
     /// The helper's life, from its number to its end. Its seats come back.
     pub(crate) fn help<J: Opens<L> + 'a, L, G: Gate, H: Threads + Wait + Sync>(
         self,
@@ -43,7 +43,7 @@ impl<'a> Recruit<'a> {
         alloc: Global,
         workspace: &'a L,
         gate: &'a G,
-    ) -> Seats
+    ) -> Seats<Bare>
         ensures out { AreOut self.entry.tables.now result }
         ensures own { AreSameSeats self.entry.seats result }
     {
@@ -56,7 +56,10 @@ impl<'a> Recruit<'a> {
         let thread = take_number(rt, &tables.numbers, &mut numbers);
         let post = Post::join(rt, tables, round, thread);
         let notices = Notices::new(&tables.ledger, tables.ledger.new_seat(&mut ledger));
-        let worker = Worker { tables, thread };
+        let worker = Worker {
+            crew: tables.crew,
+            thread,
+        };
         let runner = Runner::<'a, J, G>::new(J::slots(workspace), gate, worker, notices);
         let round = live(rt, alloc, post, runner, J::trays(workspace));
         tables.numbers.give(&mut numbers, thread);
@@ -98,7 +101,7 @@ enum News {
 fn live<'a, J: Job, G: Gate, H: Threads + Wait + Sync>(
     rt: &H,
     alloc: Global,
-    mut post: Post<'a>,
+    mut post: Post<'a, Bare>,
     mut runner: Runner<'a, J, G>,
     trays: &Trays<J>,
 ) -> round_table::Seat<Bare>
@@ -117,7 +120,11 @@ fn live<'a, J: Job, G: Gate, H: Threads + Wait + Sync>(
 }
 
 // Waits for a round, or for the announcement of exit.
-fn await_news<'a, H: Wait>(rt: &H, post: &mut Post<'a>, notices: &mut Notices<'a>) -> News
+fn await_news<'a, D: Slots, H: Wait>(
+    rt: &H,
+    post: &mut Post<'a, D>,
+    notices: &mut Notices<'a>,
+) -> News
     ensures news { IsNews (party_view post.new.barrier) result }
     ensures post { (post.new.tables ≡ post.old.tables) × (post.new.thread ≡ post.old.thread) }
     ensures leader { (party_view post.new.barrier).leader ≡ (party_view post.old.barrier).leader }

@@ -17,13 +17,14 @@ use crate::lock::leader::Leader;
 use crate::lock::pool::Pool;
 use crate::lock::workspace::Opens;
 use crate::work::runner::Runner;
+use spindle_rounds::round_table::slots::{Bare, Slots};
 use std::alloc::Global;
 use std::sync::Wait;
 use std::thread::{Scope, Threads};
 
-impl Seats {
+impl<D: Slots> Seats<D> {
     // A helper's seats, split from the leader's.
-    fn recruit<'a>(&mut self, tables: &'a Tables) -> Recruit<'a>
+    fn recruit<'a>(&mut self, tables: &'a Tables<D>) -> Recruit<'a, D>
         requires { AreSeatsAt tables.now self.old }
         ensures { AreSeatsAt tables.now self.new }
     {
@@ -48,10 +49,10 @@ fn start<
     scope: &Scope<'s, E>,
     rt: &'s H,
     alloc: Global,
-    tables: &'s Tables,
+    tables: &'s Tables<Bare>,
     workspace: &'s L,
     pool: &'s Pool<G>,
-    seats: &mut Seats,
+    seats: &mut Seats<Bare>,
 )
 where
     J::In: Send + Sync,
@@ -82,10 +83,10 @@ pub(crate) fn lead<
     scope: &Scope<'s, E>,
     rt: &'s H,
     alloc: Global,
-    tables: &'s Tables,
+    tables: &'s Tables<Bare>,
     workspace: &'s L,
     pool: &'s Pool<G>,
-    mut seats: Seats,
+    mut seats: Seats<Bare>,
     f: F,
 ) -> R
 where
@@ -101,7 +102,10 @@ where
     start::<_, J, G, L, H>(scope, rt, alloc, tables, workspace, pool, &mut seats);
     let mut notices = Notices::new(&tables.ledger, seats.ledger);
     let post = LeaderPost::new(Post::join(rt, tables, seats.round, 0));
-    let worker = Worker { tables, thread: 0 };
+    let worker = Worker {
+        crew: tables.crew,
+        thread: 0,
+    };
     let runner = Runner::new(J::slots(workspace), pool.gate(), worker, notices);
     let mut leader = Leader::new(workspace, runner, post);
     let answer = f(&mut leader);
