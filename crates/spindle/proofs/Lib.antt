@@ -8,3 +8,4 @@ pub mod PieceRuns
 pub mod FreeLists
 mod Helpers
 mod Leaving
+mod Benches

@@ -13,7 +13,6 @@ use Rattle.spindle_rounds.specs.declared.barrier.waiting.ExitStatus.{ExitStatus}
 use Rattle.spindle_rounds.specs.declared.barrier.waiting.ExitStatus.TheVariants as status
 use Rattle.spindle_rounds.specs.Holding.{IsSeatOf, Keeps}
 use Rattle.spindle_rounds.specs.Passing.{InNext, WentOut}
-use Rattle.spindle_rounds.specs.Seating.{IsSameSeat}
 use Rattle.spindle_rounds.specs.Working.{OnTask}
 
 -- where it is told of a round, its seat knows that round's task
@@ -22,11 +21,15 @@ IsNews v Exit = Unit {0}
 IsNews v (Round task) = OnTask task.jobs task.may_stop v
 IsNews v Requests = Unit {0}
 
--- a helper after a round: at its post, under its number, or out of the barrier, by the same seat
-abbrev pub IsHelperAt : {T S N : Type 0} → Tables T S N → (thread : ℕ) → Seat S (View N) → Whereabouts T S N → Type 0
-IsHelperAt tables thread seat (In post) = (post.tables.now ≡ tables) × (post.thread ≡ thread) × ((party_view post.barrier).leader ≡ false)
-    × IsSameSeat seat post.barrier.seat
-IsHelperAt tables thread seat (Out out) = IsOut tables out × (out.me.0.leader ≡ false) × IsSameSeat seat out
+-- a helper after a round: at its post, under its number, or out of the barrier
+abbrev pub IsHelperAt : {T S N : Type 0} → Tables T S N → (thread : ℕ) → Whereabouts T S N → Type 0
+IsHelperAt tables thread (In post) = (post.tables.now ≡ tables) × (post.thread ≡ thread) × ((party_view post.barrier).leader ≡ false)
+IsHelperAt tables thread (Out seat) = IsOut tables seat × (seat.me.0.leader ≡ false)
+
+-- its seat
+abbrev pub seat_of : {T S N : Type 0} → Whereabouts T S N → Seat S (View N)
+seat_of (In post) = post.barrier.seat
+seat_of (Out seat) = seat
 
 -- a member that has waited for its round's end: it is inside the next round, or it is out of the barrier
 abbrev pub EndedOrLeft : {T S N : Type 0} → Barrier T S N → ExitStatus T S N → Type 0

@@ -28,3 +28,4 @@ pub mod Workers
 pub mod PartyWork
 pub mod PieceRounds
 pub mod SlotLoops
+pub mod SlotHands

@@ -8,8 +8,8 @@ ghost use Rattle.spindle_parts.specs.LedgerSteps.{subtracting, installing, closi
 
 use spindle_parts::requests::{Requests, Seat};
 
-/// Helpers that were asked for, and for whom no slot has places yet.
-#[derive(Drop)]
+/// Helpers that were asked for, and for whom no slot has places yet. It can't be dropped: what was asked for is offered or taken
+/// back.
 pub(crate) struct Asked<'a> {
     ledger: &'a Requests,
     seat: Seat,
@@ -20,8 +20,7 @@ pub(crate) struct Asked<'a> {
     ghost credit: { seat.me.0.credit ≡ helpers },
 }
 
-/// Helpers that were asked for, with places at a slot for those that haven't come yet.
-#[derive(Drop)]
+/// Helpers that were asked for, with places at a slot for those that haven't come yet. It can't be dropped, but closed.
 pub(crate) struct Offered<'a> {
     ledger: &'a Requests,
     seat: Seat,

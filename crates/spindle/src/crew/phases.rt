@@ -22,7 +22,6 @@ use spindle_rounds::round::task::Task;
 use spindle_rounds::round_table::Seat;
 use spindle_rounds::round_table::slots::Slots;
 use std::sync::Wait;
-use std::thread;
 
 /// The leader publishes a task, and wakes the helpers.
 pub(crate) fn publish<'a, D: Slots, H: Wait>(
@@ -150,12 +149,7 @@ fn await_end_or_leave<'a, D: Slots, H: Wait>(
             Ok(barrier) => barrier,
             Err(status) => return status,
         };
-        if asked == 0 {
-            idle.pass(rt, false);
-        } else {
-            idle = tables.sleep.idle();
-            thread::yield_now();
-        }
+        idle.pass_or_hurry(rt, asked > 0);
     }
     unreachable!()
 }

@@ -8,6 +8,7 @@ use crate::crew::limits::Limits;
 use crossbeam_utils::Backoff;
 use std::hint::spin_loop;
 use std::sync::{Condvar, Mutex, MutexGuard, Wait};
+use std::thread;
 
 /// From this turn on a turn also yields the processor.
 const QUIET_TURNS: u32 = 64;
@@ -75,6 +76,16 @@ impl<'a> Idle<'a> {
                     self.take_turn();
                 }
             }
+        }
+    }
+
+    /// The same where the thread is about to leave, and looks again soon: it makes no turn, and doesn't sleep.
+    pub(crate) fn pass_or_hurry<H: Wait>(&mut self, rt: &H, hurries: bool) {
+        if hurries {
+            drop(self.guard.take());
+            thread::yield_now();
+        } else {
+            self.pass(rt, false);
         }
     }
 

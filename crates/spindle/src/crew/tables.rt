@@ -10,7 +10,7 @@ use crate::crew::sleep::Sleep;
 use spindle_parts::numbers::Numbers;
 use spindle_parts::requests::Requests;
 use spindle_rounds::round::Round;
-use spindle_rounds::round_table::slots::{Bare, Slots};
+use spindle_rounds::round_table::slots::Slots;
 
 /// The tables of a lock.
 #[derive(Drop)]
@@ -26,20 +26,15 @@ pub struct Tables<D: Slots> {
     ghost placed: { slot_count ledger ≡ child_slots },
 }
 
-impl Tables<Bare> {
-    /// Where the number of the threads that take part is read.
-    pub(crate) fn members(&self) -> Members<'_> {
-        Members::Barrier(self.round.init())
-    }
-
-    /// Where the thread of this number runs jobs.
-    pub(crate) fn site(&self, thread: usize) -> Site<'_>
+impl<D: Slots> Tables<D> {
+    /// Where the thread of this number runs jobs, which read there how many threads take part.
+    pub(crate) fn site<'a>(&'a self, members: Members<'a>, thread: usize) -> Site<'a>
         requires thread { thread < self.now.crew.threads }
         ensures crew { result.crew ≡ self.now.crew }
     {
         Site {
             crew: self.crew,
-            members: self.members(),
+            members,
             sleep: &self.sleep,
             index: Some(thread),
         }

@@ -3,25 +3,26 @@ ghost use Rattle.std.specs.Prelude.{◌≡◌, ◌<◌, ◌≤◌, false};
 ghost use Rattle.spindle_parts.specs.ThreadNumbers.{IsSeatOf, IsSameSeat as IsSameNumberSeat};
 ghost use Rattle.spindle_parts.specs.declared.numbers.plays.Holding.TheVariants.{Nothing, Has};
 ghost use Rattle.spindle.specs.Posts.{IsOut, AreOut, AreSameSeats, party_view};
-ghost use Rattle.spindle.specs.Helpers.{IsNews};
-ghost use denote.Param.Send.{IsSync};
+ghost use Rattle.spindle.specs.Helpers.{IsHelperAt, IsNews, seat_of};
+ghost use Rattle.spindle_rounds.specs.RoundConditions.{IsDone};
 ghost use Rattle.spindle_rounds.specs.Seating.{IsSameSeat};
 
 use crate::crew::notices::Notices;
+use crate::crew::phases::end_or_leave;
 use crate::crew::post::{Post, Whereabouts};
 use crate::crew::seats::Seats;
 use crate::crew::tables::Tables;
 use crate::job::Job;
 use crate::job::gate::Gate;
 use crate::job::nest::Nest;
-use crate::lock::workspace::Opens;
-use crate::pieces::trays::Trays;
+use crate::lock::part::TakesPart;
 use crate::work::runner::Runner;
 use spindle_parts::numbers;
 use spindle_parts::numbers::{Numbers, Take};
+use spindle_rounds::barrier::ExitStatus;
 use spindle_rounds::round::task::Task;
 use spindle_rounds::round_table;
-use spindle_rounds::round_table::slots::{Bare, Slots};
+use spindle_rounds::round_table::slots::Slots;
 use std::alloc::Global;
 use std::sync::Wait;
 use std::thread;
@@ -35,16 +36,15 @@ pub(crate) struct Recruit<'a, D: Slots> {
     ghost out: { AreOut tables.now seats },
 }
 
-impl<'a> Recruit<'a, Bare> {
+impl<'a, D: Slots> Recruit<'a, D> {
     /// The helper's life, from its number to its end. Its seats come back.
-    pub(crate) fn help<J: Opens<L> + 'a, L, G: Gate, H: Threads + Wait + Sync>(
+    pub(crate) fn help<J: TakesPart<D, L> + 'a, L, G: Gate, H: Threads + Wait + Sync>(
         self,
         rt: &H,
         alloc: Global,
         workspace: &'a L,
         gate: &'a G,
-    ) -> Seats<Bare>
-        requires sync { IsSync H.row }
+    ) -> Seats<D>
         ensures out { AreOut self.entry.tables.now result }
         ensures own { AreSameSeats self.entry.seats result }
     {
@@ -58,9 +58,9 @@ impl<'a> Recruit<'a, Bare> {
         let post = Post::join(rt, tables, round, thread);
         let seat = tables.ledger.new_seat(&mut ledger);
         let notices = Notices::new(&tables.ledger, seat, tables.child_slots);
-        let site = tables.site(thread);
-        let runner = Runner::<'a, J, G>::new(J::slots(workspace), gate, site, notices);
-        let round = live(rt, alloc, post, runner, J::trays(workspace));
+        let site = tables.site(J::members(tables), thread);
+        let runner = Runner::<'a, J, G>::new(J::children(workspace), gate, site, notices);
+        let round = live::<D, J, L, G, H>(rt, alloc, post, runner, workspace);
         tables.numbers.give(&mut numbers, thread);
         Seats {
             round,
@@ -89,6 +89,7 @@ fn take_number<H: Wait>(rt: &H, numbers: &Numbers, seat: &mut numbers::Seat) -> 
 }
 
 // What a helper has waited for.
+#[derive(Drop)]
 enum News {
     // Exit is announced.
     Exit,
@@ -99,15 +100,14 @@ enum News {
 }
 
 // Takes part in each round, and goes to the nested locks that ask for helpers, until exit is announced.
-fn live<'a, J: Job, G: Gate, H: Threads + Wait + Sync>(
+fn live<'a, D: Slots, J: TakesPart<D, L>, L, G: Gate, H: Threads + Wait + Sync>(
     rt: &H,
     alloc: Global,
-    mut post: Post<'a, Bare>,
+    mut post: Post<'a, D>,
     mut runner: Runner<'a, J, G>,
-    trays: &Trays<J>,
-) -> round_table::Seat<Bare>
-    requires helper { (party_view post.barrier).leader ≡ false }
-    requires sync { IsSync H.row }
+    workspace: &L,
+) -> round_table::Seat<D>
+    requires { (party_view post.barrier).leader ≡ false }
     ensures out { IsOut post.entry.tables.now result }
     ensures leader { result.me.0.leader ≡ false }
     ensures seat { IsSameSeat post.entry.barrier.seat result }
@@ -115,20 +115,84 @@ fn live<'a, J: Job, G: Gate, H: Threads + Wait + Sync>(
     let tables = post.tables;
     let thread = post.thread;
     for _ in rt.forever() {
-        let whereabouts = match await_news(rt, &mut post, &mut runner.notices) {
-            News::Exit => return post.leave(rt),
-            News::Round(task) => post.take_part(rt, alloc, trays, &mut runner, task),
-            News::Requests => Whereabouts::Out(post.leave(rt)),
-        };
-        post = match whereabouts {
-            Whereabouts::In(post) => post,
-            Whereabouts::Out(seat) => {
-                <J::Inner as Nest>::serve(rt, alloc, runner.slots, &mut runner.notices);
-                Post::join(rt, tables, seat, thread)
-            }
-        };
+        let news = await_news(rt, &mut post, &mut runner.notices);
+        if let News::Exit = news {
+            return post.leave(rt);
+        }
+        let now = follow::<D, J, L, G, H>(rt, alloc, workspace, post, &mut runner, news);
+        post = return_to_post(rt, alloc, tables, thread, &mut runner, now);
     }
     unreachable!()
+}
+
+// Does what it was told.
+fn follow<'a, D: Slots, J: TakesPart<D, L>, L, G: Gate, H: Threads + Wait + Sync>(
+    rt: &H,
+    alloc: Global,
+    workspace: &L,
+    mut post: Post<'a, D>,
+    runner: &mut Runner<'_, J, G>,
+    news: News,
+) -> Whereabouts<'a, D>
+    requires helper { (party_view post.barrier).leader ≡ false }
+    requires news { IsNews (party_view post.barrier) news }
+    ensures at { IsHelperAt post.entry.tables.now post.entry.thread result }
+    ensures seat { IsSameSeat post.entry.barrier.seat (seat_of result) }
+{
+    match news {
+        News::Round(task) => {
+            J::take_part(rt, alloc, workspace, &mut post, runner, task);
+            end_part(rt, post, &mut runner.notices)
+        }
+        _ => Whereabouts::Out(post.leave(rt)),
+    }
+}
+
+// Waits until the round has ended, or leaves where nested locks ask for helpers.
+fn end_part<'a, D: Slots, H: Wait>(
+    rt: &H,
+    post: Post<'a, D>,
+    notices: &mut Notices<'_>,
+) -> Whereabouts<'a, D>
+    requires helper { (party_view post.barrier).leader ≡ false }
+    requires done { IsDone (party_view post.barrier) }
+    ensures at { IsHelperAt post.entry.tables.now post.entry.thread result }
+    ensures seat { IsSameSeat post.entry.barrier.seat (seat_of result) }
+{
+    let Post {
+        tables,
+        barrier,
+        thread,
+    } = post;
+    match end_or_leave(rt, tables, barrier, notices) {
+        ExitStatus::Exit(seat) => Whereabouts::Out(seat),
+        ExitStatus::Remain(barrier) => Whereabouts::In(Post::new(tables, barrier, thread)),
+    }
+}
+
+// A helper that is out of the barrier goes to the nested locks that ask for helpers, and joins again.
+fn return_to_post<'a, D: Slots, J: Job, G: Gate, H: Threads + Wait + Sync>(
+    rt: &H,
+    alloc: Global,
+    tables: &'a Tables<D>,
+    thread: usize,
+    runner: &mut Runner<'_, J, G>,
+    now: Whereabouts<'a, D>,
+) -> Post<'a, D>
+    requires at { IsHelperAt tables.now thread now }
+    requires thread { thread < tables.now.crew.threads }
+    ensures tables { result.tables.now ≡ tables.now }
+    ensures thread { result.thread ≡ thread }
+    ensures leader { (party_view result.barrier).leader ≡ false }
+    ensures seat { IsSameSeat (seat_of now.entry) result.barrier.seat }
+{
+    match now {
+        Whereabouts::In(post) => post,
+        Whereabouts::Out(seat) => {
+            <J::Inner as Nest>::serve(rt, alloc, runner.slots, &mut runner.notices);
+            Post::join(rt, tables, seat, thread)
+        }
+    }
 }
 
 // Waits for a round, for requests, or for the announcement of exit.

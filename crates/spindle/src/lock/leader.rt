@@ -9,6 +9,7 @@ ghost use Rattle.spindle.specs.Leaders.{threads_of, hands_of, AnnouncedRest, IsB
 ghost use Rattle.spindle.specs.Rounds.{job_count, IsRefusal};
 
 use crate::crew::leader_post::LeaderPost;
+use crate::crew::members::Members;
 use crate::job::Job;
 use crate::job::gate::Gate;
 use crate::lists::SharedList;
@@ -156,7 +157,7 @@ impl<'a, J: Opens<L>, G: Gate, L> Leader<'a, J, G, L> {
         ensures most { result ≤ threads_of self.now }
     {
         let tables = self.post.post.tables;
-        tables.members().current(tables.crew.most())
+        Members::Barrier(tables.round.init()).current(tables.crew.most())
     }
 
     /// The lock's threads.

@@ -1,5 +1,5 @@
 //! Starting the helpers of a lock, and running its closure beside them.
-ghost use Rattle.std.specs.Prelude.{◌≡◌};
+ghost use Rattle.std.specs.Prelude.{◌≡◌, []};
 ghost use Rattle.std.specs.Fn.{FnOnceReturnsAtMut};
 ghost use Rattle.spindle.specs.Leaders.{threads_of, hands_of};
 ghost use Rattle.spindle.specs.Opening.{AreSeatsAt};
@@ -13,6 +13,7 @@ use crate::job::gate::Gate;
 use crate::job::nest::Nest;
 use crate::lock::helper::Recruit;
 use crate::lock::leader::Leader;
+use crate::lock::part::TakesPart;
 use crate::lock::pool::Pool;
 use crate::lock::workspace::Opens;
 use crate::work::runner::Runner;
@@ -40,7 +41,8 @@ impl<D: Slots> Seats<D> {
 fn start<
     's,
     E,
-    J: Opens<L> + Send + 's,
+    D: Slots + Send + 's,
+    J: TakesPart<D, L> + Send + 's,
     G: Gate + Sync,
     L: Send + Sync,
     H: Threads + Wait + Sync + 's,
@@ -48,12 +50,14 @@ fn start<
     scope: &Scope<'s, E>,
     rt: &'s H,
     alloc: Global,
-    tables: &'s Tables<Bare>,
+    tables: &'s Tables<D>,
     workspace: &'s L,
     pool: &'s Pool<G>,
-    seats: &mut Seats<Bare>,
+    seats: &mut Seats<D>,
 )
 where
+    D::Slot: Send,
+    D::Note: Send,
     J::In: Send + Sync,
     J::Out: Send,
     J::Inner: Send,
@@ -66,6 +70,45 @@ where
         let recruit = seats.recruit(tables);
         drop(scope.spawn(move || drop(recruit.help::<J, L, G, H>(rt, alloc, workspace, gate))));
     }
+}
+
+/// Starts the helpers, and takes the leader's post. The leader runs jobs with what comes beside its post.
+pub(crate) fn muster<
+    's,
+    E,
+    D: Slots + Send + 's,
+    J: TakesPart<D, L> + Send + 's,
+    G: Gate + Sync,
+    L: Send + Sync,
+    H: Threads + Wait + Sync + 's,
+>(
+    scope: &Scope<'s, E>,
+    rt: &'s H,
+    alloc: Global,
+    tables: &'s Tables<D>,
+    workspace: &'s L,
+    pool: &'s Pool<G>,
+    mut seats: Seats<D>,
+) -> (LeaderPost<'s, D>, Runner<'s, J, G>)
+where
+    D::Slot: Send,
+    D::Note: Send,
+    J::In: Send + Sync,
+    J::Out: Send,
+    J::Inner: Send,
+    <J::Inner as Nest>::Slots: Send + Sync,
+    requires seats { AreSeatsAt tables.now seats }
+    ensures tables { result.0.post.tables.now ≡ tables.now }
+    ensures crew { result.1.site.crew ≡ tables.now.crew }
+    ensures slots { let seat = result.0.post.barrier.seat in
+        (seat.me.1 ≡ []) × (seat.me.0.board ≡ []) }
+{
+    start::<_, D, J, G, L, H>(scope, rt, alloc, tables, workspace, pool, &mut seats);
+    let notices = Notices::new(&tables.ledger, seats.ledger, tables.child_slots);
+    let post = LeaderPost::new(Post::join(rt, tables, seats.round, 0));
+    let site = tables.site(J::members(tables), 0);
+    let runner = Runner::new(J::children(workspace), pool.gate(), site, notices);
+    (post, runner)
 }
 
 /// Starts the helpers, runs f, and dismisses them.
@@ -85,7 +128,7 @@ pub(crate) fn lead<
     tables: &'s Tables<Bare>,
     workspace: &'s L,
     pool: &'s Pool<G>,
-    mut seats: Seats<Bare>,
+    seats: Seats<Bare>,
     f: F,
 ) -> R
 where
@@ -99,10 +142,9 @@ where
         × (hands_of old ≡ tables.now.crew.threads)
         × FnOnceReturnsAtMut F.FnOnce f old result new }
 {
-    start::<_, J, G, L, H>(scope, rt, alloc, tables, workspace, pool, &mut seats);
-    let mut notices = Notices::new(&tables.ledger, seats.ledger, tables.child_slots);
-    let post = LeaderPost::new(Post::join(rt, tables, seats.round, 0));
-    let runner = Runner::new(J::slots(workspace), pool.gate(), tables.site(0), notices);
+    let (post, runner) = muster::<_, Bare, J, G, L, H>(
+        scope, rt, alloc, tables, workspace, pool, seats,
+    );
     let mut leader = Leader::new(workspace, runner, post);
     let answer = f(&mut leader);
     leader.dismiss(rt);

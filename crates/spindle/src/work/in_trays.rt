@@ -1,17 +1,17 @@
 //! The work of one thread in a published round: it runs the pieces of the numbers that it claims, out of the trays.
 ghost use Rattle.std.specs.Prelude.{◌≡◌, ◌≤◌, false};
-ghost use Rattle.spindle.specs.Helpers.{IsHelperAt};
+ghost use Rattle.spindle_rounds.specs.RoundConditions.{IsDone};
+ghost use Rattle.spindle_rounds.specs.Seating.{IsSameSeat};
 ghost use Rattle.spindle_rounds.specs.Working.{OnTask, PlayedRound};
 
 use crate::crew::leader_post::LeaderPost;
-use crate::crew::phases::{end_or_leave, end_round, publish};
-use crate::crew::post::{Post, Whereabouts};
+use crate::crew::phases::{end_round, publish};
+use crate::crew::post::Post;
 use crate::job::Job;
 use crate::job::gate::Gate;
 use crate::pieces::finished::Finished;
 use crate::pieces::trays::Trays;
 use crate::work::runner::Runner;
-use spindle_rounds::barrier::ExitStatus;
 use spindle_rounds::round::claim::Claimed;
 use spindle_rounds::round::party::{Party, Work};
 use spindle_rounds::round::task::Task;
@@ -31,25 +31,25 @@ struct TrayWork<'t, 'r, 'a, J: Job, G: Gate> {
 }
 
 impl<'a> Post<'a, Bare> {
-    /// Runs the jobs of a published round that are left for the thread, and waits until the round has ended, or leaves where nested
-    /// locks ask for helpers.
+    /// Runs the jobs of a published round that are left for the thread.
     pub(crate) fn take_part<J: Job, G: Gate, H: Threads + Wait + Sync>(
-        mut self,
+        &mut self,
         rt: &H,
         alloc: Global,
         trays: &Trays<J>,
         runner: &mut Runner<'_, J, G>,
         task: Task,
-    ) -> Whereabouts<'a, Bare>
-        requires task { OnTask task.jobs task.may_stop self.barrier.seat.me.0 }
-        requires helper { self.barrier.seat.me.0.leader ≡ false }
-        ensures { IsHelperAt self.entry.tables.now self.entry.thread self.entry.barrier.seat result }
+    )
+        requires task { OnTask task.jobs task.may_stop self.old.barrier.seat.me.0 }
+        requires helper { self.old.barrier.seat.me.0.leader ≡ false }
+        ensures post { (self.new.tables ≡ self.old.tables) × (self.new.thread ≡ self.old.thread) }
+        ensures leader { self.new.barrier.seat.me.0.leader ≡ false }
+        ensures done { IsDone self.new.barrier.seat.me.0 }
+        ensures seat { IsSameSeat self.old.barrier.seat self.new.barrier.seat }
     {
-        let tables = self.tables;
-        let thread = self.thread;
         let party = Party {
-            round: &tables.round,
-            thread,
+            round: &self.tables.round,
+            thread: self.thread,
             task,
         };
         let work = TrayWork {
@@ -60,10 +60,6 @@ impl<'a> Post<'a, Bare> {
         };
         let work = party.work(rt, &mut self.barrier.seat, work);
         work.bring_back(rt, task);
-        match end_or_leave(rt, tables, self.barrier, &mut runner.notices) {
-            ExitStatus::Exit(seat) => Whereabouts::Out(seat),
-            ExitStatus::Remain(barrier) => Whereabouts::In(Post::new(tables, barrier, thread)),
-        }
     }
 }
 

@@ -29,7 +29,9 @@ impl<'a, J: Job, G: Gate> Runner<'a, J, G> {
         gate: &'a G,
         site: Site<'a>,
         notices: Notices<'a>,
-    ) -> Runner<'a, J, G> {
+    ) -> Runner<'a, J, G>
+        ensures { result.site ≡ site.entry }
+    {
         Runner {
             slots,
             gate,
@@ -59,9 +61,25 @@ impl<'a, J: Job, G: Gate> Runner<'a, J, G> {
         let notices = self.notices.another();
         let mut context = JobCx::new(Some(self.slots), notices, site);
         self.gate.begun(number);
-        for item in items {
-            outputs.push_reserved(J::run(rt, alloc, item, &mut context));
-        }
+        run_each::<J, H>(rt, alloc, items, &mut context, outputs);
         self.gate.done(number);
+    }
+}
+
+/// Runs the items one after the other, and puts their outputs at the end of the list.
+pub(crate) fn run_each<J: Job, H: Threads + Wait + Sync>(
+    rt: &H,
+    alloc: Global,
+    items: &[J::In],
+    context: &mut JobCx<'_, J::Inner>,
+    outputs: &mut Vec<J::Out>,
+)
+    requires room { vec_len outputs.old + length items.now ≤ vec_capacity outputs.old }
+    ensures answered { AddsAnswers J.meets items.now outputs.old.items outputs.new.items }
+    ensures room { vec_capacity outputs.new ≡ vec_capacity outputs.old }
+    ensures len { vec_len outputs.new ≡ vec_len outputs.old + length items.now }
+{
+    for item in items {
+        outputs.push_reserved(J::run(rt, alloc, item, context));
     }
 }

@@ -12,6 +12,7 @@ ghost use denote.Param.Send.{IsSync};
 
 use crate::crew::asking::Offered;
 use crate::crew::leader_post::LeaderPost;
+use crate::crew::members::Members;
 use crate::crew::notices::Notices;
 use crate::crew::post::Post;
 use crate::crew::seats::Seats;
@@ -130,6 +131,7 @@ fn take_lead<'b, K: Opens<L>, L, H: Wait>(
     let workspace = K::inner(child);
     let notices = Notices::new(&tables.ledger, seats.ledger, tables.child_slots);
     let post = LeaderPost::new(Post::join(rt, tables, seats.round, 0));
-    let runner = Runner::new(K::slots(workspace), gate, tables.site(0), notices);
+    let site = tables.site(Members::Barrier(tables.round.init()), 0);
+    let runner = Runner::new(K::slots(workspace), gate, site, notices);
     Leader::new(workspace, runner, post)
 }

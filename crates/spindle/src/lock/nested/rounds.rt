@@ -9,6 +9,7 @@ ghost use denote.Param.Send.{IsSync};
 use crate::job::Job;
 use crate::job::context::JobCx;
 use crate::job::nest::Under;
+use crate::work::runner::run_each;
 use spindle_parts::fault::Fault;
 use std::alloc::Global;
 use std::sync::Wait;
@@ -67,9 +68,7 @@ impl<'a, K: Job> JobCx<'a, Under<K>> {
         let mut outputs = Vec::with_capacity(alloc, items.len())?;
         let notices = self.notices.another();
         let mut context: JobCx<'_, K::Inner> = JobCx::new(None, notices, self.site.within());
-        for item in &items {
-            outputs.push_reserved(K::run(rt, alloc, item, &mut context));
-        }
+        run_each::<K, H>(rt, alloc, items.as_slice(), &mut context, &mut outputs);
         Ok(outputs)
     }
 }

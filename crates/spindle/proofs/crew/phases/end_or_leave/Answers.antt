@@ -11,7 +11,7 @@ returns-in-Closer g c = let e = c.close.ensures in record {
     passed_from _ _ c.args.barrier.seat.me c.arrive.new.self.seat.me _ refl
         (arrived_closes c.args.barrier.seat.me c.arrive.new.self.seat.me c.in-Closer.ensures.step) e.next,
   );
-  same = same_thread_first _;
+  same = same_thread_first c.args.notices.now;
 }
 
 pub returns-in-Arrived-clause-status : goal.returns-in-Arrived-clause-status

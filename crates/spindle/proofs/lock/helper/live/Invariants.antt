@@ -8,5 +8,6 @@ abbrev pub invariant-loop : goal.invariant-loop
 invariant-loop g l = record {
   helper : (party_view l.post.barrier).leader ≡ false;
   tables : l.post.tables.now ≡ l.fn.post.tables.now;
+  thread : l.post.thread ≡ l.fn.post.thread;
   seat : IsSameSeat l.fn.post.barrier.seat l.post.barrier.seat;
 }

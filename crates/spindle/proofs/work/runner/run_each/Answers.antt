@@ -1,7 +1,7 @@
 -- One more item is answered by one more output.
 use Rattle.std.proofs.Common.{arith, rules}
 use Rattle.spindle.proofs.Outputs.{AddsAnswers-next}
-use Rattle.spindle.proofs.work.runner.Runner.run.Goals as goal
+use Rattle.spindle.proofs.work.runner.run_each.Goals as goal
 
 pub loop-item-preserved : goal.loop-item-preserved
 loop-item-preserved g c =

@@ -1,7 +1,7 @@
 -- The outputs so far answer the items so far.
 use Rattle.std.proofs.Common.{◌≡◌, ◌+◌, take, vec_len, vec_capacity}
 use Rattle.spindle.specs.Rounds.{AddsAnswers}
-use Rattle.spindle.proofs.work.runner.Runner.run.Given as goal
+use Rattle.spindle.proofs.work.runner.run_each.Given as goal
 
 abbrev pub invariant-loop-item : goal.invariant-loop-item
 invariant-loop-item g l = record {
