@@ -17,10 +17,6 @@ mod jobs;
 #[cfg(test)]
 mod leader_rows;
 #[cfg(test)]
-mod nested_jobs;
-#[cfg(test)]
-mod nested_rows;
-#[cfg(test)]
 mod refusals;
 #[cfg(test)]
 mod refused_lists;

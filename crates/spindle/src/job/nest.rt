@@ -2,7 +2,7 @@
 //!
 //! A lock over J stands on `J::Inner` alone, and a nest never names the trait of jobs, so that the type of each lock
 //! stays finite.
-ghost use Rattle.std.specs.Prelude.{OnErr, IsErrOf};
+ghost use Rattle.std.specs.Prelude.{◌<◌, OnErr, IsErrOf};
 ghost use denote.Param.Send.{IsSync};
 ghost use Rattle.spindle.specs.Accounts.{IsSameThread};
 
@@ -96,12 +96,29 @@ impl<K: Job> Nest for Under<K> {
         notices: &mut Notices<'_>,
     ) {
         for number in 0..slots.len().min(notices.slots()) {
-            if let Some(guard) = slots[number].load() {
-                if notices.takes_place(number) {
-                    guard.get().help(rt, alloc);
-                }
-                guard.leave();
-            }
+            serve_slot(rt, alloc, &slots[number], number, notices);
         }
     }
+}
+
+// Lives as a helper of the lock that stands in the slot, if there is a place.
+fn serve_slot<K: Job, H: Threads + Wait + Sync>(
+    rt: &H,
+    alloc: Global,
+    slot: &AtomicArc<Child<K>>,
+    number: usize,
+    notices: &mut Notices<'_>,
+)
+    requires { number < notices.old.slots }
+    ensures { IsSameThread notices.old notices.new }
+{
+    let Some(guard) = slot.load() else {
+        return;
+    };
+    if !notices.takes_place(number) {
+        guard.leave();
+        return;
+    }
+    guard.get().help(rt, alloc);
+    guard.leave();
 }

@@ -2,7 +2,5 @@
 
 mod bench;
 mod child;
-mod opening;
-mod rounds;
 
 pub use self::child::Child;

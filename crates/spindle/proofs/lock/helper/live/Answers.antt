@@ -8,18 +8,18 @@ pub loop-init : goal.loop-init
 loop-init g c = record { helper = c.requires; tables = refl; thread = refl; seat = (refl, refl) }
 
 pub follow-now-requires-clause-helper : goal.follow-now-requires-clause-helper
-follow-now-requires-clause-helper g c = c.await_news-news.ensures.leader ∙ c.loop.invariant.helper
+follow-now-requires-clause-helper g c κs within = c.await_news-news.ensures.leader ∙ c.loop.invariant.helper
 
-pub return_to_post-requires-clause-at : goal.return_to_post-requires-clause-at
-return_to_post-requires-clause-at g c = let i = c.loop.invariant in let a = c.await_news-news.ensures.post in
+pub return_to_post-post-requires-clause-at : goal.return_to_post-post-requires-clause-at
+return_to_post-post-requires-clause-at g c κs within = let i = c.loop.invariant in let a = c.await_news-news.ensures.post in
     subst (λ t. IsHelperAt t c.args.post.thread c.follow-now.result) (ap (λ t. t.now) a.0 ∙ i.tables)
     (subst (λ (n : ℕ). IsHelperAt c.await_news-news.new.post.tables.now n c.follow-now.result) (a.1 ∙ i.thread) c.follow-now.ensures.at)
 
-pub return_to_post-requires-clause-thread : goal.return_to_post-requires-clause-thread
-return_to_post-requires-clause-thread g c = c.args.post.numbered
+pub return_to_post-post-requires-clause-thread : goal.return_to_post-post-requires-clause-thread
+return_to_post-post-requires-clause-thread g c κs within = c.args.post.numbered
 
 pub loop-preserved : goal.loop-preserved
-loop-preserved g c = let e = c.return_to_post.ensures in let f = c.follow-now.ensures.seat in let a = c.await_news-news.ensures.seat in
+loop-preserved g c = let e = c.return_to_post-post.ensures in let f = c.follow-now.ensures.seat in let a = c.await_news-news.ensures.seat in
     let i = c.loop.invariant.seat in record {
       helper = e.leader;
       tables = e.tables;
