@@ -28,3 +28,5 @@ pub mod Workers
 pub mod PartyWork
 pub mod PieceRounds
 pub mod SlotLoops
+pub mod KeptLeftovers
+pub mod Leftovers

@@ -17,7 +17,8 @@ use Rattle.spindle_rounds.specs.RoundRule.{Showed, IsListed}
 use Rattle.spindle_rounds.specs.Words.{remainder_at, range_at, high_half, most_jobs, start_of, end_of, range_word}
 use Rattle.spindle_rounds.specs.RoundSteps.{round_of, missing, learning, publishing, list_empty, searching, reading_remainder, recalling, beginning, claiming, stealing, claiming_remainder, sharing, finishing, stopping, seeing, putting_back}
 use Rattle.spindle_rounds.specs.RoundConditions.{MayPublish, MayClaim, MayBegin, MayFinish, MayPutBack, MayArrive, IsItsShare, IsDone}
-use Rattle.spindle_rounds.specs.RoundAnswers.{searching_all, OwnClaimedBy, StolenBy, RemainderClaimedBy, SharedBy, FinishedBy, SeenBy, LeftOverBy, PutBy, FilledBy}
+use Rattle.spindle_rounds.specs.RoundAnswers.{searching_all, OwnClaimedBy, StolenBy, RemainderClaimedBy, SharedBy, FinishedBy, SeenBy, PutBy, FilledBy}
+use Rattle.spindle_rounds.specs.Leftovers.{finding, LeftOverBy}
 use Rattle.spindle_rounds.specs.RoundViews.{shown_of, published_of, AtWork, Onward, SeesAsBefore, SharesAsBefore, AfterClaim, AfterSteal}
 use Rattle.spindle_rounds.proofs.RoundWords.{by_less, by_equal}
 use Rattle.spindle_rounds.proofs.RoundSearch.{may_still}
@@ -246,6 +247,20 @@ module _ {N : Type 0} where
     published = refl;
   }
 
+  pub found_on : (i found : ℕ) (v : View N) → Onward v (finding i found v)
+  found_on i found v = record {
+    leader = refl;
+    threads = refl;
+    standing = refl;
+    number = refl;
+    may_stop = refl;
+    unpublished = refl;
+    emptied = λ i l. l;
+    laid = refl;
+    board = refl;
+    published = refl;
+  }
+
   pub put_on : (i found : ℕ) (v : View N) → Onward v (putting_back i found v)
   put_on i found v = record {
     leader = refl;
@@ -380,8 +395,12 @@ share_put {N = N} m w i back.Again share left may own a = let v : View N = searc
 pub left_seen : {S N : Type 0} (m w : Me S (View N)) (t i found : ℕ) → i ≤ t → LeftOverBy t i found m w → Onward m.0 w.0 × SeesAsBefore m.0 w.0
     × SharesAsBefore m.0 w.0 × (w.0.claim ≡ m.0.claim)
 left_seen {N = N} m w t i found le a = let P : View N → Type 0 = λ u. Onward m.0 u × SeesAsBefore m.0 u × SharesAsBefore m.0 u × (u.claim ≡ m.0.claim) in
-    dite (ℕ_discrete i t) (λ here. subst P (sym (ap (λ z. z.0) (a.1 here))) (rest_on found m.0, refl, (refl, refl), refl))
-    (λ apart. subst P (sym (ap (λ z. z.0) (a.0 (omega arith)))) (searched_on i found m.0, refl, (refl, refl), refl))
+    let u : View N = searching i found m.0 in let w' : View N = reading_remainder found m.0 in
+    dite (ℕ_discrete i t)
+    (λ here. subst P (sym (ap (λ z. z.0) (a.1 here)))
+    (onward_then m.0 w' (finding remainder_at found w') (rest_on found m.0) (found_on remainder_at found w'), refl, (refl, refl), refl))
+    (λ apart. subst P (sym (ap (λ z. z.0) (a.0 (omega arith))))
+    (onward_then m.0 u (finding (range_at i) found u) (searched_on i found m.0) (found_on (range_at i) found u), refl, (refl, refl), refl))
 
 -- Arriving.
 

@@ -3,6 +3,7 @@ use Rattle.std.proofs.Common.{refl}
 use Rattle.spindle_rounds.specs.RoundSlots.{Lawful}
 use Rattle.spindle_rounds.proofs.RoundOpening.{opens, splits}
 use Rattle.spindle_rounds.proofs.KeptLoads.{loads, learns, searches, rest_reads, recalls}
+use Rattle.spindle_rounds.proofs.KeptLeftovers.{finds, rest_finds}
 use Rattle.spindle_rounds.proofs.KeptBarrier.{joins, arrives, looks, closer_reads}
 use Rattle.spindle_rounds.proofs.KeptFill.{fills, publishes, publishes_try}
 use Rattle.spindle_rounds.proofs.KeptSlots.{takes_out, gives_back}
@@ -44,6 +45,8 @@ returns g c = let D = g.D.Slots.discipline in let law : Lawful D = g.met.D.Slots
     learn = learns D law t slots id me;
     search = λ i low. searches D law t slots id me i low;
     read_rest = rest_reads D law t slots id me;
+    find = λ i low. finds D law t slots id me i low;
+    find_rest = rest_finds D law t slots id me;
     recall = recalls D law t slots id me;
     split = splits D law t id me.0;
   },
