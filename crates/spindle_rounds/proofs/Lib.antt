@@ -30,3 +30,4 @@ pub mod PieceRounds
 pub mod SlotLoops
 pub mod KeptLeftovers
 pub mod Leftovers
+pub mod SlotHands

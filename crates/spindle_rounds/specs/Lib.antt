@@ -25,3 +25,4 @@ pub mod Parties
 pub mod PieceRounds
 pub mod SlotLoops
 pub mod Leftovers
+pub mod SlotHands

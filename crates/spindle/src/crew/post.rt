@@ -64,6 +64,8 @@ impl<'a, D: Slots> Post<'a, D> {
         ensures thread { result.thread ≡ thread }
         ensures leader { (party_view result.barrier).leader ≡ seat.me.0.leader }
         ensures seat { IsSameSeat seat result.barrier.seat }
+        ensures slots { (result.barrier.seat.me.1 ≡ seat.me.1)
+            × ((party_view result.barrier).board ≡ seat.me.0.board) }
     {
         for _ in rt.forever() {
             seat = match tables.round.init().barrier(rt, seat, thread) {

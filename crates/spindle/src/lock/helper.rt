@@ -11,17 +11,14 @@ use crate::crew::post::Post;
 use crate::crew::seats::Seats;
 use crate::crew::tables::Tables;
 use crate::crew::worker::Worker;
-use crate::job::Job;
 use crate::job::gate::Gate;
-use crate::job::nest::Nest;
-use crate::lock::workspace::Opens;
-use crate::pieces::trays::Trays;
+use crate::lock::part::TakesPart;
 use crate::work::runner::Runner;
 use spindle_parts::numbers;
 use spindle_parts::numbers::{Numbers, Take};
 use spindle_rounds::round::task::Task;
 use spindle_rounds::round_table;
-use spindle_rounds::round_table::slots::{Bare, Slots};
+use spindle_rounds::round_table::slots::Slots;
 use std::alloc::Global;
 use std::sync::Wait;
 use std::thread;
@@ -35,15 +32,15 @@ pub(crate) struct Recruit<'a, D: Slots> {
     ghost out: { AreOut tables.now seats },
 }
 
-impl<'a> Recruit<'a, Bare> {
+impl<'a, D: Slots> Recruit<'a, D> {
     /// The helper's life, from its number to its end. Its seats come back.
-    pub(crate) fn help<J: Opens<L> + 'a, L, G: Gate, H: Threads + Wait + Sync>(
+    pub(crate) fn help<J: TakesPart<D, L> + 'a, L, G: Gate, H: Threads + Wait + Sync>(
         self,
         rt: &H,
         alloc: Global,
         workspace: &'a L,
         gate: &'a G,
-    ) -> Seats<Bare>
+    ) -> Seats<D>
         ensures out { AreOut self.entry.tables.now result }
         ensures own { AreSameSeats self.entry.seats result }
     {
@@ -60,8 +57,8 @@ impl<'a> Recruit<'a, Bare> {
             crew: tables.crew,
             thread,
         };
-        let runner = Runner::<'a, J, G>::new(J::slots(workspace), gate, worker, notices);
-        let round = live(rt, alloc, post, runner, J::trays(workspace));
+        let runner = Runner::<'a, J, G>::new(J::children(workspace), gate, worker, notices);
+        let round = live::<D, J, L, G, H>(rt, alloc, post, runner, workspace);
         tables.numbers.give(&mut numbers, thread);
         Seats {
             round,
@@ -98,13 +95,13 @@ enum News {
 }
 
 // Takes part in each round, until exit is announced.
-fn live<'a, J: Job, G: Gate, H: Threads + Wait + Sync>(
+fn live<'a, D: Slots, J: TakesPart<D, L>, L, G: Gate, H: Threads + Wait + Sync>(
     rt: &H,
     alloc: Global,
-    mut post: Post<'a, Bare>,
+    mut post: Post<'a, D>,
     mut runner: Runner<'a, J, G>,
-    trays: &Trays<J>,
-) -> round_table::Seat<Bare>
+    workspace: &L,
+) -> round_table::Seat<D>
     requires { (party_view post.barrier).leader ≡ false }
     ensures out { IsOut post.entry.tables.now result }
     ensures leader { result.me.0.leader ≡ false }
@@ -113,7 +110,9 @@ fn live<'a, J: Job, G: Gate, H: Threads + Wait + Sync>(
     for _ in rt.forever() {
         match await_news(rt, &mut post, &mut runner.notices) {
             News::Exit => return post.leave(rt),
-            News::Round(task) => post.take_part(rt, alloc, trays, &mut runner, task),
+            News::Round(task) => {
+                J::take_part(rt, alloc, workspace, &mut post, &mut runner, task)
+            }
         }
     }
     unreachable!()

@@ -29,7 +29,9 @@ impl<'a, J: Job, G: Gate> Runner<'a, J, G> {
         gate: &'a G,
         worker: Worker,
         notices: Notices<'a>,
-    ) -> Runner<'a, J, G> {
+    ) -> Runner<'a, J, G>
+        ensures { result.worker ≡ worker }
+    {
         Runner {
             slots,
             gate,
