@@ -1,6 +1,6 @@
 //! Gates that see how jobs run: one at which the jobs of a round meet, and one that notes each job's calls, with a job
 //! that notes its own run between them.
-ghost use Rattle.std.specs.Prelude.{◌≡◌, ℕ, ◌==◌};
+ghost use Rattle.std.specs.Prelude.{◌≡◌, ℕ, ◌<◌, ◌==◌};
 ghost use Rattle.std.specs.Cmp.Rules.{comparing};
 ghost use Rattle.std.proofs.Common.{rules};
 
