@@ -33,8 +33,13 @@ refusals() { .ci/refusals "$@"; }
 #: edits CRATE          try a crate's must-fail edits, which the prover must refuse, one after another
 edits() { rt must-fail "${1:?which crate}"; }
 
-#: bench [check]        time the rounds, as THREADS and SHAPE say, or only check their results
-bench() { (cd crates/spindle_bench && rt run -- "$@"); }
+#: bench [check]        time the rounds of locks and of the kit's rayon, as THREADS and SHAPE say, or only check their results
+bench() {
+  local crate
+  for crate in spindle_bench rayon_bench; do
+    (cd "crates/$crate" && rt run --cpu "${CPU:-x86-64-v3}" -- "$@")
+  done
+}
 
 #: figures              lines of code, specs and proofs of each crate, its edits, and what is longest in it
 figures() { .ci/figures; }

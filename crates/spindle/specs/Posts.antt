@@ -18,19 +18,19 @@ abbrev pub party_view : {T S N : Type 0} → Barrier T S N → View N
 party_view b = b.seat.me.0
 
 -- a view of as many threads as the tables are for
-abbrev pub IsSized : {N : Type 0} → Tables → View N → Type 0
+abbrev pub IsSized : {T S N : Type 0} → Tables T S N → View N → Type 0
 IsSized tables v = v.threads ≡ tables.round.init.threads
 
 -- the party stands at the barrier of these tables
-abbrev pub IsAt : {T : Type 0} → Tables → Barrier T (Unit {0}) (Unit {0}) → Type 0
+abbrev pub IsAt : {T S N : Type 0} → Tables T S N → Barrier T S N → Type 0
 IsAt tables b = IsHeld b × IsSeatAt tables.round.init b.seat × IsSized tables (party_view b)
 
 -- the seat of a party that is no member of the barrier, has nothing to finish, and may join
-abbrev pub IsOut : Tables → Seat (Unit {0}) (View (Unit {0})) → Type 0
+abbrev pub IsOut : {T S N : Type 0} → Tables T S N → Seat S (View N) → Type 0
 IsOut tables seat = IsSeatAt tables.round.init seat × IsSized tables seat.me.0 × (seat.me.0.standing ≡ Away) × IsIdle seat.me.0
 
 -- the seats of a helper before its life in the lock and after it: no member, no number, no credit
-pub record AreOut (tables : Tables) (seats : Seats) : Type 0 where
+pub record AreOut {T S N : Type 0} (tables : Tables T S N) (seats : Seats T S N) : Type 0 where
   pub round : IsOut tables seats.round
   pub helper : seats.round.me.0.leader ≡ false
   pub numbers : numbers.IsSeatOf tables.numbers seats.numbers
@@ -39,7 +39,7 @@ pub record AreOut (tables : Tables) (seats : Seats) : Type 0 where
   pub no_credit : seats.ledger.me.0.credit ≡ 0
 
 -- the same three seats
-pub record AreSameSeats (old new : Seats) : Type 0 where
+pub record AreSameSeats {T S N : Type 0} (old new : Seats T S N) : Type 0 where
   pub round : IsSameSeat old.round new.round
   pub numbers : numbers.IsSameSeat old.numbers new.numbers
   pub ledger : ledger.IsSameSeat old.ledger new.ledger

@@ -44,4 +44,12 @@ impl Crew {
     {
         self.threads
     }
+
+    /// How many are in the lock now, the leader counted, where the barrier has so many members.
+    pub(crate) fn present(&self, members: usize) -> usize
+        ensures some { 0 < result }
+        ensures most { result ≤ self.now.threads }
+    {
+        members.max(1).min(self.threads)
+    }
 }

@@ -1,11 +1,12 @@
 //! Locks: a caller opens one for a kind of job, and hands lists of items to its rounds.
 //!
-//! `pool` has what a lock is opened with, `root` and `opening` how it opens, `leader` the rounds, and `helper` the life of
-//! its other threads. All that a user names of locks is given out here.
+//! `pool` has what a lock is opened with, `root` and `opening` how it opens, `leader` the rounds, `helper` the life of
+//! its other threads, and `part` what they do in a round. All that a user names of locks is given out here.
 
 mod helper;
 mod leader;
 mod opening;
+mod part;
 mod pool;
 mod root;
 mod workspace;

@@ -4,19 +4,20 @@ ghost use denote.Param.Send.{IsSync};
 
 use crate::jobs::{AddOne, Nothing, Squares, Stir};
 use crate::rounds::{EmptyRounds, MapRounds, Rounds, StencilRounds, TinyRounds};
-use crate::settings::Settings;
-use crate::shape::{SHAPES, Shape};
-use crate::stop::Stop;
-use crate::timing::timed;
 use spindle::lock::{Job, Leader, Limits, Nest, NoGate, Pool};
 use spindle::{DEFAULT_PAUSE_LIMIT, DEFAULT_SPIN_LIMIT, with_lock};
+use spindle_timing::settings::Settings;
+use spindle_timing::shape::{SHAPES, Shape};
+use spindle_timing::stop::{Stop, right};
+use spindle_timing::timing::{checked, nanos_since, print_right, timed};
 use std::alloc::Global;
 use std::rt::Clock;
 use std::sync::Wait;
-use std::thread::Threads;
+use std::thread::{Threads, yield_now};
+use std::time::Instant;
 
-/// So many rounds are run where they are only checked.
-const CHECKED: u64 = 20;
+/// No longer than so many nanoseconds are helpers waited for.
+const MOST_WAITED: u64 = 2_000_000_000;
 
 /// Runs the shapes that are asked for, and prints a line for each.
 pub fn run<H: Threads + Wait + Sync + Clock + Print + Alloc<A = Global>>(
@@ -98,32 +99,39 @@ fn led<S: Rounds, H: Threads + Wait + Sync + Clock + Print + Alloc<A = Global>>(
 ) -> Result<(), Stop>
     requires { IsSync H.row }
 {
+    let alloc = rt.alloc();
     if settings.is_check {
-        return check(rt, shape, leader, rounds);
+        let run = checked(
+            || -> Result<(), Stop>
+                requires { IsSync H.row }
+            { rounds.round(rt, alloc, leader) },
+        )?;
+        right(rounds.is_right(run), shape)?;
+        return print_right(rt, shape);
     }
-    let times = timed(rt, rt.alloc(), shape, leader, &mut rounds)?;
-    if !rounds.is_right(times.rounds) {
-        return Err(Stop::Wrong(shape));
-    }
-    times.print(rt, shape, settings.threads)
+    await_helpers(rt, leader)?;
+    let times = timed(
+        rt,
+        alloc,
+        shape,
+        || -> Result<(), Stop>
+            requires { IsSync H.row }
+        { rounds.round(rt, alloc, leader) },
+    )?;
+    right(rounds.is_right(times.rounds), shape)?;
+    times.print(rt, "zuflanto", shape, settings.threads)
 }
 
-// Runs a few rounds of a shape, and says that they were right.
-fn check<S: Rounds, H: Threads + Wait + Sync + Print + Alloc<A = Global>>(
-    rt: &H,
-    shape: Shape,
-    leader: &mut Leader<S::Kind, NoGate>,
-    mut rounds: S,
-) -> Result<(), Stop>
-    requires { IsSync H.row }
-{
-    for _ in 0..CHECKED {
-        rounds.round(rt, rt.alloc(), leader)?;
+// Waits until all threads of the lock are there, so that no round is timed in which the leader is alone; for two
+// seconds at most, since a machine may start fewer.
+fn await_helpers<J: Job, H: Wait + Clock>(rt: &H, leader: &Leader<J, NoGate>) -> Result<(), Stop> {
+    let begin = Instant::now(rt)?;
+    for _ in rt.forever() {
+        let all = leader.current_num_threads() == leader.max_num_threads();
+        if all || MOST_WAITED < nanos_since(rt, begin)? {
+            return Ok(());
+        }
+        yield_now();
     }
-    if !rounds.is_right(CHECKED) {
-        return Err(Stop::Wrong(shape));
-    }
-    let name = shape.name();
-    println!(rt; "{name} right")?;
-    Ok(())
+    unreachable!()
 }

@@ -5,6 +5,7 @@ ghost use Rattle.spindle_bench.specs.Kernels.{one_more_of, squares_of};
 
 use spindle::lock::{End, Job, JobCx};
 use spindle::{Fault, SharedList};
+use spindle_timing::kernels::stirred;
 use std::alloc::Global;
 use std::sync::Wait;
 use std::thread::Threads;
@@ -53,17 +54,6 @@ impl Job for Stir {
     }
 
     ghost equal_is_same = { Prim.search rules };
-}
-
-/// 26 turns of a xorshift generator from the number and one more: about 50 ns in which no step overlaps another.
-pub fn stirred(number: u64) -> u64 {
-    let mut x = number.wrapping_add(1);
-    for _ in 0..26 {
-        x ^= x << 13;
-        x ^= x >> 7;
-        x ^= x << 17;
-    }
-    x
 }
 
 /// Answers a list of each number and one more.

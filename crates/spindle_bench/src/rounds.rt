@@ -2,17 +2,16 @@
 ghost use Rattle.std.specs.Prelude.{◌≡◌, ◌<◌};
 ghost use denote.Param.Send.{IsSync};
 
-use crate::jobs::{AddOne, Nothing, Squares, Stir, stirred};
-use crate::stop::Stop;
+use crate::jobs::{AddOne, Nothing, Squares, Stir};
 use spindle::lock::{Job, Leader, NoGate};
 use spindle::{Fault, SharedList};
+use spindle_timing::kernels::stirred;
+use spindle_timing::shape::MAPPED;
+use spindle_timing::stop::Stop;
 use std::alloc::Global;
 use std::mem;
 use std::sync::Wait;
 use std::thread::Threads;
-
-/// The numbers of a round of `map`.
-const MAPPED: usize = 4096;
 
 /// A shape's rounds, over what the last round left.
 pub trait Rounds: Drop {

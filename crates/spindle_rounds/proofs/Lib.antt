@@ -29,3 +29,4 @@ pub mod Workers
 pub mod PartyWork
 pub mod PieceRounds
 pub mod SlotLoops
+pub mod SlotHands

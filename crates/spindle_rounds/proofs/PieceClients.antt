@@ -116,7 +116,7 @@ module _ {P A : Type 0} (answers : P → A → Type 0) where
   back_before q i j (y ∷ ys) b lt = back_before q (i + 1) j ys ((i, spot_with answers q y) ∷ b) (omega arith) ∙ spot_else b i j (spot_with answers q y)
       (λ e. omega arith)
 
-  back_at : (q i k : ℕ) (ys : List Slot) (b : Board) (y : Slot) → get_elem? ys k ≡ some y → spot_at (back q i ys b) (i + k) ≡ spot_with answers q y
+  pub back_at : (q i k : ℕ) (ys : List Slot) (b : Board) (y : Slot) → get_elem? ys k ≡ some y → spot_at (back q i ys b) (i + k) ≡ spot_with answers q y
   back_at q i k [] b y e = absurd (some-ne-none y (sym e))
   back_at q i zero (z ∷ ys) b y e = let at : i ≡ i + 0 = omega arith in let w : Board = (i, spot_with answers q z) ∷ b in
       subst (λ (j : ℕ). spot_at (back q (i + 1) ys w) j ≡ spot_with answers q y) at

@@ -101,7 +101,7 @@ module _ {P A : Type 0} (answers : P → A → Type 0) (q : ℕ) where
         (λ k le lt. spot_else b i k (spot_with answers q y) (λ e. omega arith) ∙ out k (omega arith) (omega arith)) (λ k z e. unrun (suc k) z e) more,
   )
 
-  back_on : (i : ℕ) (ys : List Slot) (c : List (ℕ × Slot)) (b : Board) → board_back (pieces answers) q (numbered i ys c) b ≡ board_back (pieces answers) q c
+  pub back_on : (i : ℕ) (ys : List Slot) (c : List (ℕ × Slot)) (b : Board) → board_back (pieces answers) q (numbered i ys c) b ≡ board_back (pieces answers) q c
       (back i ys b)
   back_on i [] c b = refl
   back_on i (y ∷ ys) c b = back_on (i + 1) ys c ((i, spot_with answers q y) ∷ b)

@@ -24,3 +24,4 @@ pub mod PartyWork
 pub mod Parties
 pub mod PieceRounds
 pub mod SlotLoops
+pub mod SlotHands

@@ -13,6 +13,7 @@ pub mod claim;
 pub mod claiming;
 pub mod collecting;
 pub mod finishing;
+pub mod holding;
 pub mod party;
 pub mod pieces;
 pub mod publishing;

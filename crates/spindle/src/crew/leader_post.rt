@@ -3,18 +3,19 @@ ghost use Rattle.std.specs.Prelude.{◌≡◌, true};
 ghost use Rattle.spindle.specs.Posts.{party_view};
 
 use crate::crew::post::Post;
+use spindle_rounds::round_table::slots::Slots;
 
 /// The post of a lock's leader, whose thread number is 0.
 #[derive(Drop)]
-pub struct LeaderPost<'a> {
-    pub(crate) post: Post<'a>,
+pub struct LeaderPost<'a, D: Slots> {
+    pub(crate) post: Post<'a, D>,
     ghost leads: { (party_view post.barrier).leader ≡ true },
     ghost first: { post.thread ≡ 0 },
 }
 
-impl<'a> LeaderPost<'a> {
+impl<'a, D: Slots> LeaderPost<'a, D> {
     /// The post of a party whose seat is the leader's.
-    pub(crate) fn new(post: Post<'a>) -> LeaderPost<'a>
+    pub(crate) fn new(post: Post<'a, D>) -> LeaderPost<'a, D>
         requires leader { (party_view post.barrier).leader ≡ true }
         requires thread { post.thread ≡ 0 }
         ensures { result.post ≡ post.entry }

@@ -2,7 +2,6 @@
 ghost use Rattle.std.specs.Prelude.{◌≡◌, ◌≤◌, ◌∷◌, ◌<◌, false, true};
 ghost use Rattle.spindle_rounds.specs.RoundConditions.{IsFreeInside, IsDone, IsWaiting, MayFill, MayPublish};
 ghost use Rattle.spindle_rounds.specs.RoundRule.{Showed};
-ghost use Rattle.spindle_rounds.specs.RoundSlots.{bare};
 ghost use Rattle.spindle_rounds.specs.RoundSteps.{publishing, round_of};
 ghost use Rattle.spindle_rounds.specs.Seating.{IsSeatAt, IsSameSeat};
 ghost use Rattle.spindle_rounds.specs.RoundViews.{published_of};
@@ -20,14 +19,14 @@ use spindle_rounds::barrier::steps::{Arrival, Look};
 use spindle_rounds::round::Round;
 use spindle_rounds::round::task::Task;
 use spindle_rounds::round_table::Seat;
-use spindle_rounds::round_table::slots::Bare;
+use spindle_rounds::round_table::slots::Slots;
 use std::sync::Wait;
 
 /// The leader publishes a task, and wakes the helpers.
-pub(crate) fn publish<'a, H: Wait>(
+pub(crate) fn publish<'a, D: Slots, H: Wait>(
     rt: &H,
-    tables: &Tables,
-    barrier: &mut Barrier<'a, Bare>,
+    tables: &Tables<D>,
+    barrier: &mut Barrier<'a, D>,
     notices: &mut Notices<'a>,
     task: Task,
 )
@@ -35,6 +34,8 @@ pub(crate) fn publish<'a, H: Wait>(
     requires leads { MayFill (party_view barrier.old) }
     requires idle { IsIdle (party_view barrier.old) }
     requires counted { (2 ≤ task.jobs) × (task.jobs ≤ 4294967295) }
+    requires pieces { let v = party_view barrier.old in
+        D.discipline.may_publish (round_of v.standing) task.jobs v.board }
     ensures at { IsAt tables.now barrier.new × Keeps barrier.old barrier.new }
     ensures task { OnTask task.jobs task.may_stop (party_view barrier.new) }
     ensures idle { IsIdle (party_view barrier.new) }
@@ -51,9 +52,9 @@ pub(crate) fn publish<'a, H: Wait>(
 }
 
 // One store of the task's word: that of a plain round, or of one that may stop.
-fn publish_task(round: &Round<Bare>, seat: &mut Seat<Bare>, task: Task)
+fn publish_task<D: Slots>(round: &Round<D>, seat: &mut Seat<D>, task: Task)
     requires seated { IsSeatAt round.now.init seat.old }
-    requires leads { MayPublish bare round.now.init.threads task.jobs seat.old.me.0 }
+    requires leads { MayPublish D.discipline round.now.init.threads task.jobs seat.old.me.0 }
     requires counted { (2 ≤ task.jobs) × (task.jobs ≤ 4294967295) }
     requires ranges { 0 < round.now.init.threads }
     ensures seat { IsSameSeat seat.old seat.new }
@@ -67,7 +68,11 @@ fn publish_task(round: &Round<Bare>, seat: &mut Seat<Bare>, task: Task)
 }
 
 /// Arrives, and waits until the round has ended. The closer ends it, and wakes the others.
-pub(crate) fn end_round<'a, H: Wait>(rt: &H, tables: &Tables, barrier: &mut Barrier<'a, Bare>)
+pub(crate) fn end_round<'a, D: Slots, H: Wait>(
+    rt: &H,
+    tables: &Tables<D>,
+    barrier: &mut Barrier<'a, D>,
+)
     requires held { IsHeld barrier.old }
     requires free { IsFreeInside (party_view barrier.old) }
     requires done { IsDone (party_view barrier.old) }
@@ -84,7 +89,7 @@ pub(crate) fn end_round<'a, H: Wait>(rt: &H, tables: &Tables, barrier: &mut Barr
 }
 
 // Waits for the closer, as idle threads do.
-fn await_end<'a, H: Wait>(rt: &H, tables: &Tables, barrier: &mut Barrier<'a, Bare>)
+fn await_end<'a, D: Slots, H: Wait>(rt: &H, tables: &Tables<D>, barrier: &mut Barrier<'a, D>)
     requires held { IsHeld barrier.old }
     requires waiting { IsWaiting (party_view barrier.old) }
     ensures held { Keeps barrier.old barrier.new }

@@ -10,15 +10,15 @@ use crate::crew::tables::Tables;
 use spindle_rounds::barrier::Barrier;
 use spindle_rounds::round::task::Task;
 use spindle_rounds::round_table::Seat;
-use spindle_rounds::round_table::slots::Bare;
+use spindle_rounds::round_table::slots::Slots;
 use std::sync::Wait;
 use std::thread;
 
 /// A member of the barrier that takes part in no round at the moment.
 #[derive(Drop)]
-pub struct Post<'a> {
-    pub(crate) tables: &'a Tables,
-    pub(crate) barrier: Barrier<'a, Bare>,
+pub struct Post<'a, D: Slots> {
+    pub(crate) tables: &'a Tables<D>,
+    pub(crate) barrier: Barrier<'a, D>,
     pub(crate) thread: usize,
     ghost seated: { IsSeatAt tables.now.round.init barrier.seat },
     ghost home: { IsSameTable tables.now.round.init barrier.init.now },
@@ -31,9 +31,9 @@ pub struct Post<'a> {
     ghost numbered: { thread < tables.now.crew.threads },
 }
 
-impl<'a> Post<'a> {
+impl<'a, D: Slots> Post<'a, D> {
     // The post of a party that is inside its round.
-    fn new(tables: &'a Tables, barrier: Barrier<'a, Bare>, thread: usize) -> Post<'a>
+    fn new(tables: &'a Tables<D>, barrier: Barrier<'a, D>, thread: usize) -> Post<'a, D>
         requires at { IsAt tables.now barrier }
         requires inside { (q : ℕ) × ((party_view barrier).standing ≡ Inside q) }
         requires idle { IsIdle (party_view barrier) }
@@ -54,16 +54,18 @@ impl<'a> Post<'a> {
     /// Joins the barrier, and tries again until it has.
     pub(crate) fn join<H: Wait>(
         rt: &H,
-        tables: &'a Tables,
-        mut seat: Seat<Bare>,
+        tables: &'a Tables<D>,
+        mut seat: Seat<D>,
         thread: usize,
-    ) -> Post<'a>
+    ) -> Post<'a, D>
         requires out { IsOut tables.now seat }
         requires thread { thread < tables.now.crew.threads }
         ensures tables { result.tables.now ≡ tables.now }
         ensures thread { result.thread ≡ thread }
         ensures leader { (party_view result.barrier).leader ≡ seat.me.0.leader }
         ensures seat { IsSameSeat seat result.barrier.seat }
+        ensures slots { (result.barrier.seat.me.1 ≡ seat.me.1)
+            × ((party_view result.barrier).board ≡ seat.me.0.board) }
     {
         for _ in rt.forever() {
             seat = match tables.round.init().barrier(rt, seat, thread) {
@@ -92,7 +94,7 @@ impl<'a> Post<'a> {
     }
 
     /// Leaves the barrier.
-    pub(crate) fn leave<H: Wait>(self, rt: &H) -> Seat<Bare>
+    pub(crate) fn leave<H: Wait>(self, rt: &H) -> Seat<D>
         requires helper { (party_view self.barrier).leader ≡ false }
         ensures out { IsOut self.entry.tables.now result }
         ensures leader { result.me.0.leader ≡ false }

@@ -1,7 +1,9 @@
 //! The seats of a thread at the tables of its lock, and the tables of a fresh lock with its leader's seats.
-ghost use Rattle.std.specs.Prelude.{◌≡◌, IfOk, OnErr, IsErrOf};
+ghost use Rattle.std.specs.Prelude.{◌≡◌, [], true, IfOk, OnErr, IsErrOf};
 ghost use Rattle.spindle.specs.Opening.{AreSeatsAt};
 ghost use Rattle.spindle_parts.specs.LedgerSeats.{slot_count};
+ghost use Rattle.spindle_rounds.specs.RoundSteps.{outsider};
+ghost use Rattle.spindle_rounds.specs.Seating.{IsSeatAt};
 
 use crate::crew::Crew;
 use crate::crew::limits::Limits;
@@ -13,32 +15,36 @@ use spindle_parts::requests::Requests;
 use spindle_parts::{numbers, requests};
 use spindle_rounds::round::Round;
 use spindle_rounds::round_table;
-use spindle_rounds::round_table::slots::Bare;
+use spindle_rounds::round_table::slots::Slots;
 use std::alloc::Global;
 
 /// A thread's seats at the tables of its lock.
 #[derive(Drop)]
-pub(crate) struct Seats {
-    pub(crate) round: round_table::Seat<Bare>,
+pub(crate) struct Seats<D: Slots> {
+    pub(crate) round: round_table::Seat<D>,
     pub(crate) numbers: numbers::Seat,
     pub(crate) ledger: requests::Seat,
 }
 
-impl Tables {
-    /// The tables of a lock with so many child slots, and the leader's seats.
+impl<D: Slots> Tables<D> {
+    /// The tables of a lock with so many child slots, over rounds that were opened for it, and the leader's seats.
     pub(crate) fn new(
         alloc: Global,
         crew: Crew,
         limits: Limits,
         child_slots: usize,
-    ) -> Result<(Tables, Seats), Fault>
+        round: Round<D>,
+        round_seat: round_table::Seat<D>,
+    ) -> Result<(Tables<D>, Seats<D>), Fault>
+        requires sized { round.init.threads ≡ crew.threads }
+        requires seated { IsSeatAt round.init round_seat }
+        requires outside { round_seat.me ≡ (outsider round.init.threads true, []) }
         ensures crew { IfOk result (λ t. t.0.crew ≡ crew) }
         ensures slots { IfOk result (λ t. slot_count t.0.ledger ≡ child_slots) }
         ensures seats { IfOk result (λ t. AreSeatsAt t.0 t.1) }
         ensures memory { OnErr result (IsErrOf result Fault.Memory) }
     {
         let threads = crew.threads();
-        let (round, round_seat) = Round::new(alloc, threads)?;
         let (numbers, numbers_seat) = Numbers::new(alloc, threads)?;
         let (ledger, ledger_seat) = Requests::new(alloc, child_slots)?;
         let sleep = Sleep::new(limits);

@@ -11,17 +11,14 @@ use crate::crew::post::Post;
 use crate::crew::seats::Seats;
 use crate::crew::tables::Tables;
 use crate::crew::worker::Worker;
-use crate::job::Job;
 use crate::job::gate::Gate;
-use crate::job::nest::Nest;
-use crate::lock::workspace::Opens;
-use crate::pieces::trays::Trays;
+use crate::lock::part::TakesPart;
 use crate::work::runner::Runner;
 use spindle_parts::numbers;
 use spindle_parts::numbers::{Numbers, Take};
 use spindle_rounds::round::task::Task;
 use spindle_rounds::round_table;
-use spindle_rounds::round_table::slots::Bare;
+use spindle_rounds::round_table::slots::Slots;
 use std::alloc::Global;
 use std::sync::Wait;
 use std::thread;
@@ -29,21 +26,21 @@ use std::thread::Threads;
 
 /// A thread that isn't in the lock yet: its seats at the lock's tables.
 #[derive(Drop)]
-pub(crate) struct Recruit<'a> {
-    pub(crate) tables: &'a Tables,
-    pub(crate) seats: Seats,
+pub(crate) struct Recruit<'a, D: Slots> {
+    pub(crate) tables: &'a Tables<D>,
+    pub(crate) seats: Seats<D>,
     ghost out: { AreOut tables.now seats },
 }
 
-impl<'a> Recruit<'a> {
+impl<'a, D: Slots> Recruit<'a, D> {
     /// The helper's life, from its number to its end. Its seats come back.
-    pub(crate) fn help<J: Opens<L> + 'a, L, G: Gate, H: Threads + Wait + Sync>(
+    pub(crate) fn help<J: TakesPart<D, L> + 'a, L, G: Gate, H: Threads + Wait + Sync>(
         self,
         rt: &H,
         alloc: Global,
         workspace: &'a L,
         gate: &'a G,
-    ) -> Seats
+    ) -> Seats<D>
         ensures out { AreOut self.entry.tables.now result }
         ensures own { AreSameSeats self.entry.seats result }
     {
@@ -56,9 +53,12 @@ impl<'a> Recruit<'a> {
         let thread = take_number(rt, &tables.numbers, &mut numbers);
         let post = Post::join(rt, tables, round, thread);
         let notices = Notices::new(&tables.ledger, tables.ledger.new_seat(&mut ledger));
-        let worker = Worker { tables, thread };
-        let runner = Runner::<'a, J, G>::new(J::slots(workspace), gate, worker, notices);
-        let round = live(rt, alloc, post, runner, J::trays(workspace));
+        let worker = Worker {
+            crew: tables.crew,
+            thread,
+        };
+        let runner = Runner::<'a, J, G>::new(J::children(workspace), gate, worker, notices);
+        let round = live::<D, J, L, G, H>(rt, alloc, post, runner, workspace);
         tables.numbers.give(&mut numbers, thread);
         Seats {
             round,
@@ -95,13 +95,13 @@ enum News {
 }
 
 // Takes part in each round, until exit is announced.
-fn live<'a, J: Job, G: Gate, H: Threads + Wait + Sync>(
+fn live<'a, D: Slots, J: TakesPart<D, L>, L, G: Gate, H: Threads + Wait + Sync>(
     rt: &H,
     alloc: Global,
-    mut post: Post<'a>,
+    mut post: Post<'a, D>,
     mut runner: Runner<'a, J, G>,
-    trays: &Trays<J>,
-) -> round_table::Seat<Bare>
+    workspace: &L,
+) -> round_table::Seat<D>
     requires { (party_view post.barrier).leader ≡ false }
     ensures out { IsOut post.entry.tables.now result }
     ensures leader { result.me.0.leader ≡ false }
@@ -110,14 +110,20 @@ fn live<'a, J: Job, G: Gate, H: Threads + Wait + Sync>(
     for _ in rt.forever() {
         match await_news(rt, &mut post, &mut runner.notices) {
             News::Exit => return post.leave(rt),
-            News::Round(task) => post.take_part(rt, alloc, trays, &mut runner, task),
+            News::Round(task) => {
+                J::take_part(rt, alloc, workspace, &mut post, &mut runner, task)
+            }
         }
     }
     unreachable!()
 }
 
 // Waits for a round, or for the announcement of exit.
-fn await_news<'a, H: Wait>(rt: &H, post: &mut Post<'a>, notices: &mut Notices<'a>) -> News
+fn await_news<'a, D: Slots, H: Wait>(
+    rt: &H,
+    post: &mut Post<'a, D>,
+    notices: &mut Notices<'a>,
+) -> News
     ensures news { IsNews (party_view post.new.barrier) result }
     ensures post { (post.new.tables ≡ post.old.tables) × (post.new.thread ≡ post.old.thread) }
     ensures leader { (party_view post.new.barrier).leader ≡ (party_view post.old.barrier).leader }

@@ -17,6 +17,7 @@ use crate::pieces::runs::Pieces;
 use crate::work::runner::Runner;
 use spindle_parts::cut::cut;
 use spindle_parts::fault::Fault;
+use spindle_rounds::round_table::slots::Bare;
 use std::alloc::Global;
 use std::sync::Wait;
 use std::thread::Threads;
@@ -29,7 +30,7 @@ const MOST_JOBS: usize = 4294967295;
 pub struct Leader<'a, J: Job, G: Gate, L = Workspace<J>> {
     workspace: &'a L,
     runner: Runner<'a, J, G>,
-    post: LeaderPost<'a>,
+    post: LeaderPost<'a, Bare>,
 }
 
 impl<'a, J: Opens<L>, G: Gate, L> Leader<'a, J, G, L> {
@@ -37,7 +38,7 @@ impl<'a, J: Opens<L>, G: Gate, L> Leader<'a, J, G, L> {
     pub(crate) fn new(
         workspace: &'a L,
         runner: Runner<'a, J, G>,
-        post: LeaderPost<'a>,
+        post: LeaderPost<'a, Bare>,
     ) -> Leader<'a, J, G, L>
         ensures { threads_of result ≡ post.entry.post.tables.now.crew.threads }
     {
@@ -89,7 +90,9 @@ impl<'a, J: Opens<L>, G: Gate, L> Leader<'a, J, G, L> {
         let mut outputs = Vec::with_capacity(alloc, items.len())?;
         if jobs == 1 {
             let inputs = items.as_slice();
-            self.runner.run(rt, alloc, 0, None, inputs, &mut outputs);
+            let members = self.current_num_threads();
+            self.runner
+                .run(rt, alloc, 0, None, members, inputs, &mut outputs);
         } else {
             let pieces = cut(alloc, &mut items, jobs)?;
             let pieces = pieces.as_slice();

@@ -1,5 +1,5 @@
 //! Starting the helpers of a lock, and running its closure beside them.
-ghost use Rattle.std.specs.Prelude.{◌≡◌};
+ghost use Rattle.std.specs.Prelude.{◌≡◌, []};
 ghost use Rattle.std.specs.Fn.{FnOnceReturnsAtMut};
 ghost use Rattle.spindle.specs.Leaders.{threads_of};
 ghost use Rattle.spindle.specs.Opening.{AreSeatsAt};
@@ -14,16 +14,18 @@ use crate::job::gate::Gate;
 use crate::job::nest::Nest;
 use crate::lock::helper::Recruit;
 use crate::lock::leader::Leader;
+use crate::lock::part::TakesPart;
 use crate::lock::pool::Pool;
 use crate::lock::workspace::Opens;
 use crate::work::runner::Runner;
+use spindle_rounds::round_table::slots::{Bare, Slots};
 use std::alloc::Global;
 use std::sync::Wait;
 use std::thread::{Scope, Threads};
 
-impl Seats {
+impl<D: Slots> Seats<D> {
     // A helper's seats, split from the leader's.
-    fn recruit<'a>(&mut self, tables: &'a Tables) -> Recruit<'a>
+    fn recruit<'a>(&mut self, tables: &'a Tables<D>) -> Recruit<'a, D>
         requires { AreSeatsAt tables.now self.old }
         ensures { AreSeatsAt tables.now self.new }
     {
@@ -40,7 +42,8 @@ impl Seats {
 fn start<
     's,
     E,
-    J: Opens<L> + Send + 's,
+    D: Slots + Send + 's,
+    J: TakesPart<D, L> + Send + 's,
     G: Gate + Sync,
     L: Send + Sync,
     H: Threads + Wait + Sync + 's,
@@ -48,12 +51,14 @@ fn start<
     scope: &Scope<'s, E>,
     rt: &'s H,
     alloc: Global,
-    tables: &'s Tables,
+    tables: &'s Tables<D>,
     workspace: &'s L,
     pool: &'s Pool<G>,
-    seats: &mut Seats,
+    seats: &mut Seats<D>,
 )
 where
+    D::Slot: Send,
+    D::Note: Send,
     J::In: Send + Sync,
     J::Out: Send,
     J::Inner: Send,
@@ -66,6 +71,48 @@ where
         let recruit = seats.recruit(tables);
         drop(scope.spawn(move || drop(recruit.help::<J, L, G, H>(rt, alloc, workspace, gate))));
     }
+}
+
+/// Starts the helpers, and takes the leader's post. The leader runs jobs with what comes beside its post.
+pub(crate) fn muster<
+    's,
+    E,
+    D: Slots + Send + 's,
+    J: TakesPart<D, L> + Send + 's,
+    G: Gate + Sync,
+    L: Send + Sync,
+    H: Threads + Wait + Sync + 's,
+>(
+    scope: &Scope<'s, E>,
+    rt: &'s H,
+    alloc: Global,
+    tables: &'s Tables<D>,
+    workspace: &'s L,
+    pool: &'s Pool<G>,
+    mut seats: Seats<D>,
+) -> (LeaderPost<'s, D>, Runner<'s, J, G>)
+where
+    D::Slot: Send,
+    D::Note: Send,
+    J::In: Send + Sync,
+    J::Out: Send,
+    J::Inner: Send,
+    <J::Inner as Nest>::Slots: Send + Sync,
+    requires seats { AreSeatsAt tables.now seats }
+    ensures tables { result.0.post.tables.now ≡ tables.now }
+    ensures crew { result.1.worker.crew ≡ tables.now.crew }
+    ensures slots { let seat = result.0.post.barrier.seat in
+        (seat.me.1 ≡ []) × (seat.me.0.board ≡ []) }
+{
+    start::<_, D, J, G, L, H>(scope, rt, alloc, tables, workspace, pool, &mut seats);
+    let notices = Notices::new(&tables.ledger, seats.ledger);
+    let post = LeaderPost::new(Post::join(rt, tables, seats.round, 0));
+    let worker = Worker {
+        crew: tables.crew,
+        thread: 0,
+    };
+    let runner = Runner::new(J::children(workspace), pool.gate(), worker, notices);
+    (post, runner)
 }
 
 /// Starts the helpers, runs f, and dismisses them.
@@ -82,10 +129,10 @@ pub(crate) fn lead<
     scope: &Scope<'s, E>,
     rt: &'s H,
     alloc: Global,
-    tables: &'s Tables,
+    tables: &'s Tables<Bare>,
     workspace: &'s L,
     pool: &'s Pool<G>,
-    mut seats: Seats,
+    seats: Seats<Bare>,
     f: F,
 ) -> R
 where
@@ -98,11 +145,9 @@ where
     ensures { (old : _) × (new : _) × (threads_of old ≡ tables.now.crew.threads)
         × FnOnceReturnsAtMut F.FnOnce f old result new }
 {
-    start::<_, J, G, L, H>(scope, rt, alloc, tables, workspace, pool, &mut seats);
-    let mut notices = Notices::new(&tables.ledger, seats.ledger);
-    let post = LeaderPost::new(Post::join(rt, tables, seats.round, 0));
-    let worker = Worker { tables, thread: 0 };
-    let runner = Runner::new(J::slots(workspace), pool.gate(), worker, notices);
+    let (post, runner) = muster::<_, Bare, J, G, L, H>(
+        scope, rt, alloc, tables, workspace, pool, seats,
+    );
     let mut leader = Leader::new(workspace, runner, post);
     let answer = f(&mut leader);
     leader.dismiss(rt);

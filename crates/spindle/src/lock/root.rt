@@ -16,6 +16,8 @@ use crate::lock::opening::lead;
 use crate::lock::pool::Pool;
 use crate::lock::workspace::Opens;
 use spindle_parts::fault::Fault;
+use spindle_rounds::round::Round;
+use spindle_rounds::round_table::slots::Bare;
 use std::alloc::Global;
 use std::sync::Wait;
 use std::thread;
@@ -47,7 +49,8 @@ where
 {
     let crew = Crew::new(pool.max_num_threads(), max_threads);
     let workspace = J::open(alloc, crew.threads())?;
-    let (tables, seats) = Tables::new(alloc, crew, pool.limits(), 0)?;
+    let (round, seat) = Round::new(alloc, crew.threads())?;
+    let (tables, seats) = Tables::new(alloc, crew, pool.limits(), 0, round, seat)?;
     Ok(scoped(rt, alloc, &tables, &workspace, pool, seats, f))
 }
 
@@ -59,7 +62,15 @@ fn scoped<
     F: FnOnce(&mut Leader<J, G, L>) -> R,
     L: Send + Sync,
     H: Threads + Wait + Sync,
->(rt: &H, alloc: Global, tables: &Tables, workspace: &L, pool: &Pool<G>, seats: Seats, f: F) -> R
+>(
+    rt: &H,
+    alloc: Global,
+    tables: &Tables<Bare>,
+    workspace: &L,
+    pool: &Pool<G>,
+    seats: Seats<Bare>,
+    f: F,
+) -> R
 where
     J::In: Send + Sync,
     J::Out: Send,

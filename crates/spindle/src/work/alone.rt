@@ -36,7 +36,7 @@ struct LoneWork<'p, 'r, 'a, J: Job, G: Gate> {
     outputs: Vec<J::Out>,
 }
 
-impl<'a> LeaderPost<'a> {
+impl<'a> LeaderPost<'a, Bare> {
     /// Publishes the pieces, runs each of them in its order, and ends the round.
     pub(crate) fn play_alone<J: Job, G: Gate, H: Threads + Wait + Sync>(
         &mut self,
@@ -127,8 +127,7 @@ impl<'p, 'r, 'a, J: Job, G: Gate> LoneWork<'p, 'r, 'a, J, G> {
     {
         let piece = &self.pieces[self.next];
         let (number, items) = (piece.number, piece.items.as_slice());
-        self.runner
-            .run(rt, self.alloc, number, Some(0), items, &mut self.outputs);
+        self.runner.run(rt, self.alloc, number, Some(0), 1, items, &mut self.outputs);
         self.next += 1;
     }
 }

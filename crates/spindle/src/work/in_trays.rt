@@ -29,7 +29,7 @@ struct TrayWork<'t, 'r, 'a, J: Job, G: Gate> {
     held: Option<Finished<J>>,
 }
 
-impl<'a> Post<'a> {
+impl<'a> Post<'a, Bare> {
     /// Runs the jobs of a published round that are left for the thread, and waits until the round has ended.
     pub(crate) fn take_part<J: Job, G: Gate, H: Threads + Wait + Sync>(
         &mut self,
@@ -63,7 +63,7 @@ impl<'a> Post<'a> {
     }
 }
 
-impl<'a> LeaderPost<'a> {
+impl<'a> LeaderPost<'a, Bare> {
     /// Publishes so many jobs, whose pieces stand in the trays, takes part, and waits until the round has ended.
     pub(crate) fn play<J: Job, G: Gate, H: Threads + Wait + Sync>(
         &mut self,
@@ -116,7 +116,8 @@ impl<'t, 'r, 'a, J: Job, G: Gate> Work<Bare> for TrayWork<'t, 'r, 'a, J, G> {
         claimed: Claimed,
     ) {
         let number = claimed.number() as usize;
-        let finished = self.run_piece(rt, party.task.jobs as usize, number);
+        let members = party.round.init().current_num_threads();
+        let finished = self.run_piece(rt, party.task.jobs as usize, number, members);
         party.round.finish(seat, claimed, &finished);
         self.held = Some(finished);
     }
@@ -133,6 +134,7 @@ impl<'t, 'r, 'a, J: Job, G: Gate> TrayWork<'t, 'r, 'a, J, G> {
         rt: &H,
         pieces: usize,
         number: usize,
+        members: usize,
     ) -> Finished<J>
         ensures { result.number ≡ number }
     {
@@ -141,8 +143,7 @@ impl<'t, 'r, 'a, J: Job, G: Gate> TrayWork<'t, 'r, 'a, J, G> {
             let (inputs, mut outputs) = piece.into_parts();
             let index = Some(self.runner.worker.thread);
             let items = inputs.as_slice();
-            self.runner
-                .run(rt, self.alloc, number, index, items, &mut outputs);
+            self.runner.run(rt, self.alloc, number, index, members, items, &mut outputs);
             Finished::new(number, inputs, outputs)
         } else {
             Finished::empty(self.alloc, number)

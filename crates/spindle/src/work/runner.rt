@@ -18,7 +18,7 @@ use std::thread::Threads;
 pub(crate) struct Runner<'a, J: Job, G: Gate> {
     pub(crate) slots: &'a <J::Inner as Nest>::Slots,
     pub(crate) gate: &'a G,
-    pub(crate) worker: Worker<'a>,
+    pub(crate) worker: Worker,
     pub(crate) notices: Notices<'a>,
 }
 
@@ -27,9 +27,11 @@ impl<'a, J: Job, G: Gate> Runner<'a, J, G> {
     pub(crate) fn new(
         slots: &'a <J::Inner as Nest>::Slots,
         gate: &'a G,
-        worker: Worker<'a>,
+        worker: Worker,
         notices: Notices<'a>,
-    ) -> Runner<'a, J, G> {
+    ) -> Runner<'a, J, G>
+        ensures { result.worker ≡ worker }
+    {
         Runner {
             slots,
             gate,
@@ -38,31 +40,31 @@ impl<'a, J: Job, G: Gate> Runner<'a, J, G> {
         }
     }
 
-    /// Runs the items, and puts their outputs at the end of the list.
+    /// Runs the items, and puts their outputs at the end of the list. The lock's barrier has so many members now.
     pub(crate) fn run<H: Threads + Wait + Sync>(
         &mut self,
         rt: &H,
         alloc: Global,
         number: usize,
         index: Option<usize>,
+        members: usize,
         items: &[J::In],
         outputs: &mut Vec<J::Out>,
     )
-        requires index { ForSome index (λ i. i < self.old.worker.tables.now.crew.threads) }
+        requires index { ForSome index (λ i. i < self.old.worker.crew.threads) }
         requires room { vec_len outputs.old + length items.now ≤ vec_capacity outputs.old }
         ensures answered { AddsAnswers J.meets items.now outputs.old.items outputs.new.items }
         ensures room { vec_capacity outputs.new ≡ vec_capacity outputs.old }
         ensures len { vec_len outputs.new ≡ vec_len outputs.old + length items.now }
     {
-        let tables = self.worker.tables;
-        let current = tables.current_num_threads();
+        let crew = self.worker.crew;
         let notices = self.notices.another();
         let mut context = JobCx::new(
             Some(self.slots),
             notices,
             index,
-            current,
-            tables.crew.threads(),
+            crew.present(members),
+            crew.threads(),
         );
         self.gate.begun(number);
         for item in items {

@@ -12,6 +12,7 @@ mod leading;
 mod lines;
 mod play;
 mod scripts;
+mod slots;
 mod threads;
 mod turns;
 

@@ -7,7 +7,7 @@ pub loop-init : goal.loop-init
 loop-init g c = record { helper = c.requires; tables = refl; seat = (refl, refl) }
 
 pub take_part-requires-clause-helper : goal.take_part-requires-clause-helper
-take_part-requires-clause-helper g c κs within = c.await_news.ensures.leader ∙ c.loop.invariant.helper
+take_part-requires-clause-helper g c = c.await_news.ensures.leader ∙ c.loop.invariant.helper
 
 pub loop-preserved : goal.loop-preserved
 loop-preserved g c = let e = c.take_part.ensures in let a = c.await_news.ensures in let i = c.loop.invariant in record {

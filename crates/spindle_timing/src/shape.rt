@@ -1,6 +1,9 @@
 //! The shapes of rounds, by their names and sizes.
 ghost use Rattle.std.specs.Prelude.{◌≡◌, ◌<◌, ◌≤◌};
 
+/// The numbers of a round of `map`.
+pub const MAPPED: usize = 4096;
+
 /// A shape of rounds.
 #[derive(Clone, Copy, Debug, PartialEq, Eq)]
 pub enum Shape {

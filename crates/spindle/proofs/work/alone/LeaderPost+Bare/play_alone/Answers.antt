@@ -1,7 +1,7 @@
 -- A publish, the leader's own work, and the round's end.
 use Rattle.std.proofs.Common.{length}
 use Rattle.spindle_rounds.proofs.Workers.{played_after}
-use Rattle.spindle.proofs.crew.leader_post.LeaderPost.play_alone.Goals as goal
+use Rattle.spindle.proofs.work.alone.LeaderPost+Bare.play_alone.Goals as goal
 
 pub returns-clause-played : goal.returns-clause-played
 returns-clause-played g c = let w = c.work-work.ensures in

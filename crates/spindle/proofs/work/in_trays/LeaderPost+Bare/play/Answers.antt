@@ -1,6 +1,6 @@
 -- A publish, the leader's own work, and the round's end.
 use Rattle.spindle_rounds.proofs.Workers.{played_after}
-use Rattle.spindle.proofs.crew.leader_post.LeaderPost.play.Goals as goal
+use Rattle.spindle.proofs.work.in_trays.LeaderPost+Bare.play.Goals as goal
 
 pub returns-clause-played : goal.returns-clause-played
 returns-clause-played g c = let w = c.work-work.ensures in

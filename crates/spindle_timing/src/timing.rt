@@ -1,16 +1,14 @@
 //! The clock, batches of rounds, and the printed line.
 ghost use Rattle.std.specs.Prelude.{◌≡◌, ◌<◌};
-ghost use denote.Param.Send.{IsSync};
 
-use crate::rounds::Rounds;
 use crate::shape::Shape;
 use crate::stop::Stop;
-use spindle::lock::{Leader, NoGate};
 use std::alloc::Global;
 use std::rt::Clock;
-use std::sync::Wait;
-use std::thread::Threads;
 use std::time::Instant;
+
+/// So many rounds are run where they are only checked.
+const CHECKED: u64 = 20;
 
 /// So many batches come before those that count.
 const WARM_UP: usize = 3;
@@ -31,20 +29,23 @@ pub struct Times {
 }
 
 /// Runs batches of rounds against the clock.
-pub fn timed<S: Rounds, H: Threads + Wait + Sync + Clock>(
+pub fn timed<H: Clock, F: FnMut() -> Result<(), Stop>>(
     rt: &H,
     alloc: Global,
     shape: Shape,
-    leader: &mut Leader<S::Kind, NoGate>,
-    rounds: &mut S,
+    mut round: F,
 ) -> Result<Times, Stop>
-    requires { IsSync H.row }
+    requires callable { F.IsAlwaysCallable round }
 {
     let begin = Instant::now(rt)?;
     let mut batches = Vec::with_capacity(alloc, shape.batches())?;
     let mut run = 0u64;
     for batch in 0..shape.batches() + WARM_UP {
-        let nanos = batch_nanos(rt, alloc, shape, leader, rounds)?;
+        let start = Instant::now(rt)?;
+        for _ in 0..shape.rounds() {
+            round()?;
+        }
+        let nanos = nanos_since(rt, start)?;
         run = run.saturating_add(shape.rounds());
         if WARM_UP <= batch {
             batches.push(nanos / shape.rounds())?;
@@ -60,39 +61,45 @@ pub fn timed<S: Rounds, H: Threads + Wait + Sync + Clock>(
     })
 }
 
-// The nanoseconds of one batch.
-fn batch_nanos<S: Rounds, H: Threads + Wait + Sync + Clock>(
-    rt: &H,
-    alloc: Global,
-    shape: Shape,
-    leader: &mut Leader<S::Kind, NoGate>,
-    rounds: &mut S,
-) -> Result<u64, Stop>
-    requires { IsSync H.row }
+/// Runs a few rounds, with no clock, and says how many.
+pub fn checked<F: FnMut() -> Result<(), Stop>>(mut round: F) -> Result<u64, Stop>
+    requires callable { F.IsAlwaysCallable round }
 {
-    let begin = Instant::now(rt)?;
-    for _ in 0..shape.rounds() {
-        rounds.round(rt, alloc, leader)?;
+    for _ in 0..CHECKED {
+        round()?;
     }
-    nanos_since(rt, begin)
+    Ok(CHECKED)
 }
 
-// The nanoseconds from an instant up to now.
-fn nanos_since(rt: &impl Clock, begin: Instant) -> Result<u64, Stop> {
+/// Says that the rounds of a shape were right.
+pub fn print_right(rt: &impl Print, shape: Shape) -> Result<(), Stop> {
+    let name = shape.name();
+    println!(rt; "{name} right")?;
+    Ok(())
+}
+
+/// The nanoseconds from an instant up to now.
+pub fn nanos_since(rt: &impl Clock, begin: Instant) -> Result<u64, Stop> {
     let elapsed = begin.elapsed(rt)?;
     let seconds = elapsed.as_secs().saturating_mul(1_000_000_000);
     Ok(seconds.saturating_add(u64::from(elapsed.subsec_nanos())))
 }
 
 impl Times {
-    /// Prints the line of a shape in a lock of so many threads.
-    pub fn print(&self, rt: &impl Print, shape: Shape, threads: usize) -> Result<(), Stop> {
+    /// Prints the line of a shape that this pool ran on so many threads.
+    pub fn print(
+        &self,
+        rt: &impl Print,
+        pool: &str,
+        shape: Shape,
+        threads: usize,
+    ) -> Result<(), Stop> {
         let name = shape.name();
         let best = self.below(0, 10);
         let median = self.below(5, 10);
         let low = self.below(1, 10);
         let high = self.below(9, 10);
-        println!(rt; "zuflanto {name} {threads} {best} {median} {low} {high}")?;
+        println!(rt; "{pool} {name} {threads} {best} {median} {low} {high}")?;
         Ok(())
     }
 

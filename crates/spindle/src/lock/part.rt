@@ -1,0 +1,56 @@
+//! How a helper takes part in the rounds of its lock: out of trays, or out of the slots of the lock's round table.
+ghost use Rattle.std.specs.Prelude.{◌≡◌, false};
+ghost use denote.Param.Send.{IsSync};
+ghost use Rattle.spindle_rounds.specs.Seating.{IsSameSeat};
+ghost use Rattle.spindle_rounds.specs.Working.{OnTask};
+
+use crate::crew::post::Post;
+use crate::job::Job;
+use crate::job::gate::Gate;
+use crate::job::nest::Nest;
+use crate::lock::workspace::Opens;
+use crate::work::runner::Runner;
+use spindle_rounds::round::task::Task;
+use spindle_rounds::round_table::slots::{Bare, Slots};
+use std::alloc::Global;
+use std::sync::Wait;
+use std::thread::Threads;
+
+/// A kind of job whose locks have D's slots in their round table, and a workspace of type L beside their tables.
+pub(crate) trait TakesPart<D: Slots, L>: Job {
+    /// The slots for the locks that its jobs open.
+    fn children(workspace: &L) -> &<Self::Inner as Nest>::Slots;
+
+    /// Runs the jobs of a published round that are left for the thread, and waits until the round has ended.
+    fn take_part<'a, G: Gate, H: Threads + Wait + Sync>(
+        rt: &H,
+        alloc: Global,
+        workspace: &L,
+        post: &mut Post<'a, D>,
+        runner: &mut Runner<'_, Self, G>,
+        task: Task,
+    )
+        requires sync { IsSync H.row }
+        requires task { OnTask task.jobs task.may_stop post.old.barrier.seat.me.0 }
+        requires helper { post.old.barrier.seat.me.0.leader ≡ false }
+        ensures post { (post.new.tables ≡ post.old.tables) × (post.new.thread ≡ post.old.thread) }
+        ensures leader { post.new.barrier.seat.me.0.leader ≡ false }
+        ensures seat { IsSameSeat post.old.barrier.seat post.new.barrier.seat };
+}
+
+impl<J: Opens<L>, L> TakesPart<Bare, L> for J {
+    fn children(workspace: &L) -> &<J::Inner as Nest>::Slots {
+        J::slots(workspace)
+    }
+
+    fn take_part<'a, G: Gate, H: Threads + Wait + Sync>(
+        rt: &H,
+        alloc: Global,
+        workspace: &L,
+        post: &mut Post<'a, Bare>,
+        runner: &mut Runner<'_, J, G>,
+        task: Task,
+    ) {
+        post.take_part(rt, alloc, J::trays(workspace), runner, task);
+    }
+}
