@@ -20,7 +20,7 @@ use Rattle.spindle_rounds.specs.Leftovers.{is_between, finding, FindTells, FindR
 use Rattle.spindle_rounds.specs.RoundRuns.{PlainLoad}
 use Rattle.spindle_rounds.proofs.RoundMoves.{Rule, SeatOf, moves_with}
 use Rattle.spindle_rounds.proofs.RoundWords.{by_equal}
-use Rattle.spindle_rounds.proofs.KeptLoads.{search_shows, rest_shows}
+use Rattle.spindle_rounds.proofs.KeptLoads.{search_shows, remainder_shows}
 
 -- between rounds the leader is inside and has published nothing
 is_inside : (st : Standing) (u : Bool) → is_between st u ≡ true → (q : ℕ) × (st ≡ Inside q) × (u ≡ true)
@@ -96,13 +96,13 @@ module _ {X N : Type 0} (D : Discipline X N) (law : Lawful D) (t : ℕ) where
   }
 
   -- and what is left of the remainder
-  pub rest_finds : (slots id : ℕ) (me : SeatOf D t) → PlainLoad D t slots id me remainder_at FindRestTells
-  rest_finds slots id me = record {
+  pub remainder_finds : (slots id : ℕ) (me : SeatOf D t) → PlainLoad D t slots id me remainder_at FindRestTells
+  remainder_finds slots id me = record {
     shows = λ run s r _ at _. let x : ℕ = get_or s.words remainder_at 0 in (
       finding remainder_at x (reading_remainder x me.0),
       keeps,
       tt,
-      found run s r remainder_at me.0.threads id (x == 0) me at (omega arith) (rest_shows D law t id me run s r at),
+      found run s r remainder_at me.0.threads id (x == 0) me at (omega arith) (remainder_shows D law t id me run s r at),
       (refl, refl),
     );
   }

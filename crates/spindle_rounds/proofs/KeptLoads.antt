@@ -26,8 +26,8 @@ stopped_or true = inl refl
 stopped_or false = inr refl
 
 module _ (t : ℕ) where
-  rest_home : (ws : List ℕ) (n k : ℕ) → get_or ws remainder_at 0 ≤ n % t → InRemainder ws n k → home_of t n k ≡ t
-  rest_home ws n k few z = let z₀ = z.0 in by_less (k + n % t) n (λ b. (if b then k / (n / t) else t) ≡ t) (λ lt. absurd (omega arith)) (λ _. refl)
+  remainder_home : (ws : List ℕ) (n k : ℕ) → get_or ws remainder_at 0 ≤ n % t → InRemainder ws n k → home_of t n k ≡ t
+  remainder_home ws n k few z = let z₀ = z.0 in by_less (k + n % t) n (λ b. (if b then k / (n / t) else t) ≡ t) (λ lt. absurd (omega arith)) (λ _. refl)
 
   -- an empty range shows that no number of it is free
   range_emptied : (S : State) (ws : List ℕ) (n i : ℕ) → i < t → Counters t S ws n → get_or ws (range_at i) 0 / high_half ≤ get_or ws (range_at i) 0 % high_half
@@ -35,11 +35,11 @@ module _ (t : ℕ) where
   range_emptied S ws n i low c empty = ⊎_elim inr (λ going. inl (λ k f is. ⊎_elim
       (λ (z : (j : ℕ) × (j < t) × InRange ws j k). let y = subst (λ (a : ℕ). InRange ws a k) (sym (c.home going z.0 k z.1 z.2) ∙ is) z.2 in let y₀ = y.0 in
       let y₁ = y.1 in omega arith)
-      (λ (z : InRemainder ws n k). let h : t ≡ i = sym (rest_home ws n k c.few z) ∙ is in omega arith) (c.free k f))) (stopped_or (now S).stopped)
+      (λ (z : InRemainder ws n k). let h : t ≡ i = sym (remainder_home ws n k c.few z) ∙ is in omega arith) (c.free k f))) (stopped_or (now S).stopped)
 
   -- a remainder of 0 shows the same of the remainder
-  rest_emptied : (S : State) (ws : List ℕ) (n : ℕ) → Counters t S ws n → get_or ws remainder_at 0 ≡ 0 → IsEmptied t n S t
-  rest_emptied S ws n c empty = ⊎_elim inr (λ going. inl (λ k f is. ⊎_elim
+  remainder_emptied : (S : State) (ws : List ℕ) (n : ℕ) → Counters t S ws n → get_or ws remainder_at 0 ≡ 0 → IsEmptied t n S t
+  remainder_emptied S ws n c empty = ⊎_elim inr (λ going. inl (λ k f is. ⊎_elim
       (λ (z : (j : ℕ) × (j < t) × InRange ws j k). let lt = z.1 in let h : z.0 ≡ t = sym (c.home going z.0 k z.1 z.2) ∙ is in omega arith)
       (λ (z : InRemainder ws n k). let z₀ = z.0 in let z₁ = z.1 in omega arith) (c.free k f))) (stopped_or (now S).stopped)
 
@@ -179,12 +179,12 @@ module _ {X N : Type 0} (D : Discipline X N) (law : Lawful D) (t : ℕ) where
       (by_less (x % high_half) (x / high_half) (λ b. (if b then false else true) ≡ true → x / high_half ≤ x % high_half) (λ _ z. absurd cc) (λ le _. le) e))
 
   -- once the remainder is read
-  pub rest_shows : (id : ℕ) (me : SeatOf D t) (run : List Event) (s : table.State X (View N)) → Rule D t run s → get_elem? s.views id ≡ some me.0
+  pub remainder_shows : (id : ℕ) (me : SeatOf D t) (run : List Event) (s : table.State X (View N)) → Rule D t run s → get_elem? s.views id ≡ some me.0
       → Shows (state run) id (reading_remainder (get_or s.words remainder_at 0) me.0)
-  rest_shows id me run s r at = let x : ℕ = get_or s.words remainder_at 0 in let seat = r.seats id me.0 at in
+  remainder_shows id me run s r at = let x : ℕ = get_or s.words remainder_at 0 in let seat = r.seats id me.0 at in
       reading_shows id me remainder_at me.0.threads (x == 0) run s r at
       (λ n shown e. subst (λ (a : ℕ). IsEmptied t n (state run) a) (sym seat.2)
-      (rest_emptied t (state run) s.words n (r.words.counters n shown) (by_equal x 0 (λ b. b ≡ true → x ≡ 0) (λ z _. z) (λ _ z. absurd cc) e)))
+      (remainder_emptied t (state run) s.words n (r.words.counters n shown) (by_equal x 0 (λ b. b ≡ true → x ≡ 0) (λ z _. z) (λ _ z. absurd cc) e)))
 
   -- a range is read
   pub searches : (slots id : ℕ) (me : SeatOf D t) (i : ℕ) → i < t → PlainLoad D t slots id me (range_at i) SearchTells
@@ -199,13 +199,13 @@ module _ {X N : Type 0} (D : Discipline X N) (law : Lawful D) (t : ℕ) where
   }
 
   -- the remainder is read, which is no more than the number
-  pub rest_reads : (slots id : ℕ) (me : SeatOf D t) → PlainLoad D t slots id me remainder_at RemainderReadTells
-  rest_reads slots id me = record {
+  pub remainder_reads : (slots id : ℕ) (me : SeatOf D t) → PlainLoad D t slots id me remainder_at RemainderReadTells
+  remainder_reads slots id me = record {
     shows = λ run s r _ at _. let x : ℕ = get_or s.words remainder_at 0 in let seat = r.seats id me.0 at in (
       reading_remainder x me.0,
       keeps,
       tt,
-      stays D law t run s r remainder_at id me (reading_remainder x me.0) at (refl, refl, refl) (rest_shows id me run s r at) refl refl (inr refl) refl,
+      stays D law t run s r remainder_at id me (reading_remainder x me.0) at (refl, refl, refl) (remainder_shows id me run s r at) refl refl (inr refl) refl,
       (
         refl,
         refl,

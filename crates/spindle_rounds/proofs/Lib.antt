@@ -20,6 +20,7 @@ pub mod PlainRounds
 pub mod KeptSlots
 pub mod SlotsTold
 pub mod PieceClients
+pub mod RoundOnward
 pub mod RoundClients
 pub mod KeptLeaving
 pub mod KeptEnding

@@ -98,9 +98,9 @@ module _ {S N : Type 0} (D : Discipline S N) (t slots id : ℕ) (me : Me S (View
         Exchange (range_at i) range (range_word (start_of range) k)
         (claim_of id k (last_half range)) (tells.StealTells D)
     -- the last number of the remainder
-    pub claim_rest : (rest : ℕ) → 0 < rest → MayClaim me.0
-        → let k : ℕ = number_or me.0.known.number - rest in
-        Exchange remainder_at rest (rest - 1) (claim_of id k (only k)) (tells.RemainderClaimTells D)
+    pub claim_remainder : (left : ℕ) → 0 < left → MayClaim me.0
+        → let k : ℕ = number_or me.0.known.number - left in
+        Exchange remainder_at left (left - 1) (claim_of id k (only k)) (tells.RemainderClaimTells D)
     -- it begins the first number of its share, and finishes a number
     pub begin_share : (i x : ℕ) → t ≤ i → me.0.from < me.0.to → MayBegin me.0
         → Store (range_at i) x (Begin id me.0.from ∷ []) (tells.ShareTells D)

@@ -1,8 +1,8 @@
 //! What a lock's threads announce to each other: that all rest until the next round, and that the helpers end.
-ghost use Rattle.std.specs.Prelude.{◌≡◌, [], IfOk, OnErr, IsErrOf, if◌then◌else◌};
+ghost use Rattle.std.specs.Prelude.{◌≡◌, [], IfOk, OnErr, IsErrOf};
 ghost use Rattle.spindle_parts.specs.LedgerSeats.{IsSeatOf};
 ghost use Rattle.spindle_parts.specs.LedgerSteps.{blank};
-ghost use Rattle.spindle.specs.Notices.{exit_word, rest_word, Read, AnnouncedExit, AnnouncedRest, EndedRest};
+ghost use Rattle.spindle.specs.Notices.{ReadExit, ReadRest, AnnouncedExit, AnnouncedRest, EndedRest};
 
 use spindle_parts::requests::{Requests, Seat};
 
@@ -41,7 +41,7 @@ impl<'a> Notices<'a> {
 
     /// Whether the helpers are to end.
     pub(crate) fn is_exit_announced(&mut self) -> bool
-        ensures read { Read exit_word (if result then 1 else 0) (account_of self.old) (account_of self.new) }
+        ensures read { ReadExit result (account_of self.old) (account_of self.new) }
     {
         self.ledger.exit_announced(&mut self.seat)
     }
@@ -55,7 +55,7 @@ impl<'a> Notices<'a> {
 
     /// Whether idle threads are to sleep at once.
     pub(crate) fn is_rest_announced(&mut self) -> bool
-        ensures read { Read rest_word (if result then 1 else 0) (account_of self.old) (account_of self.new) }
+        ensures read { ReadRest result (account_of self.old) (account_of self.new) }
     {
         self.ledger.rest_announced(&mut self.seat)
     }

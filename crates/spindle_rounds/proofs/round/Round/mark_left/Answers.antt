@@ -4,7 +4,8 @@ use Rattle.spindle_rounds.specs.RoundRule.{Showed, deeds_of, stored_at}
 use Rattle.spindle_rounds.specs.RoundConditions.{MayFill}
 use Rattle.spindle_rounds.specs.SlotSteps.{IsDeed}
 use Rattle.spindle_rounds.specs.Leftovers.{AreKnown, IsLeftBy, IsMarked, last_left}
-use Rattle.spindle_rounds.proofs.RoundClients.{onward_same, onward_then, left_seen}
+use Rattle.spindle_rounds.proofs.RoundClients.{left_seen}
+use Rattle.spindle_rounds.proofs.RoundOnward.{onward_same, onward_then}
 use Rattle.spindle_rounds.proofs.Leftovers.{Found, every_leftover, found_none, range_found, rest_found}
 use Rattle.spindle_rounds.proofs.round.Round.mark_left.Goals as goal
 
