@@ -1,6 +1,8 @@
 -- The lemmas of this crate.
 pub mod Addresses
 pub mod ListRuns
+pub mod GatheredLists
+pub mod Chunks
 pub mod Outputs
 pub mod Places
 pub mod TrayPlaces

@@ -39,10 +39,13 @@ abbrev pub MadeNoStep : {J G L I O N S : Type 0} → (old new : Leader J G L I O
 MadeNoStep old new = view_of new ≡ view_of old
 
 -- it published once, so many jobs, and that round has ended
-abbrev pub PlayedOnce : {J G L I O N S : Type 0} → (jobs : ℕ) → (old new : Leader J G L I O N S) → Type 0
+abbrev pub PlayedOnce : {J G L I O N S : Type 0}
+    → (jobs : ℕ) → (old new : Leader J G L I O N S) → Type 0
 PlayedOnce jobs old new = PlayedRound jobs (view_of old) (view_of new)
 
--- where its round of so many jobs was refused: for want of memory it made no step, and a piece is lost only from a round that was played
-abbrev pub LeftByRefusal : {J G L I O N S : Type 0} → (jobs : ℕ) → (old new : Leader J G L I O N S) → Fault → Type 0
+-- where its round of so many jobs was refused: for want of memory it made no step, and a piece is
+-- lost only from a round that was played
+abbrev pub LeftByRefusal : {J G L I O N S : Type 0}
+    → (jobs : ℕ) → (old new : Leader J G L I O N S) → Fault → Type 0
 LeftByRefusal jobs old new Memory = MadeNoStep old new
 LeftByRefusal jobs old new (Lost k) = PlayedOnce jobs old new

@@ -1,5 +1,7 @@
 -- The definitions that contracts of this crate cite.
 pub mod Same
+pub mod Gathered
+pub mod Chunks
 pub mod Done
 pub mod Outputs
 pub mod Trays

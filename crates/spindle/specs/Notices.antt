@@ -1,5 +1,5 @@
 -- What a thread's account at the ledger gains by the notices that it reads and gives.
-use Rattle.std.specs.Prelude.{◌≡◌, ◌⊎◌, ℕ, Bool, true, false}
+use Rattle.std.specs.Prelude.{◌≡◌, ◌⊎◌, ℕ, Bool, true, false, if◌then◌else◌}
 use Rattle.spindle_parts.specs.declared.requests.plays.Account.{Account}
 use Rattle.spindle_parts.specs.declared.requests.TakePlace.TheVariants as answer
 use Rattle.spindle_parts.specs.Ledger.{place_word}
@@ -21,6 +21,14 @@ rest_word = 16
 abbrev pub Read : (word found : ℕ) → (old new : Account) → Type 0
 Read word found old new = new ≡ loading word found old
 
+-- one load of the notice that the helpers end, with this answer
+abbrev pub ReadExit : (announced : Bool) → (old new : Account) → Type 0
+ReadExit announced old new = Read exit_word (if announced then 1 else 0) old new
+
+-- one load of the notice that idle threads rest, with this answer
+abbrev pub ReadRest : (announced : Bool) → (old new : Account) → Type 0
+ReadRest announced old new = Read rest_word (if announced then 1 else 0) old new
+
 -- one store: the helpers are to end, and nothing else was done at the ledger
 abbrev pub AnnouncedExit : (old new : Account) → Type 0
 AnnouncedExit old new = new ≡ announcing exit_word 1 old
@@ -31,7 +39,8 @@ AnnouncedRest old new = new ≡ announcing rest_word 1 old
 
 -- idle threads are to make their turns again: the notice was read as 0, or it was read and then 0 stored
 abbrev pub EndedRest : (old new : Account) → Type 0
-EndedRest old new = Read rest_word 0 old new ⊎ (new ≡ announcing rest_word 0 (loading rest_word 1 old))
+EndedRest old new =
+    Read rest_word 0 old new ⊎ (new ≡ announcing rest_word 0 (loading rest_word 1 old))
 
 -- one try for a place of the slot: where it was had, requests fell by 1 after it, and the credit is as before
 abbrev pub TookPlace : (slot : ℕ) → Bool → (old new : Account) → Type 0

@@ -21,7 +21,8 @@ HoldAll pieces places = AllZip HoldsPiece pieces places
 -- the first k places hold their pieces, and the next one doesn't
 abbrev pub IsFirstLost : {A B : Type 0} → List (Piece A) → List (Option (Done A B)) → ℕ → Type 0
 IsFirstLost pieces places k =
-    HoldAll (take k pieces) (take k places) × ¬ (HoldAll (take (k + 1) pieces) (take (k + 1) places))
+    HoldAll (take k pieces) (take k places)
+    × ¬ (HoldAll (take (k + 1) pieces) (take (k + 1) places))
 
 -- the inputs of what a place holds
 abbrev pub inputs_in : {A B : Type 0} → Option (Done A B) → List A

@@ -20,5 +20,7 @@ abbrev pub items_of : {T : Type 0} → List (Piece T) → List T
 items_of pieces = joined (map (λ piece. piece.items.items) pieces)
 
 -- the new outputs are the old ones, and then an answer to each of the items
-abbrev pub AddsAnswers : {A B : Type 0} → (A → B → Type 0) → (items : List A) → (old new : List B) → Type 0
-AddsAnswers {A} {B} Meets items old new = (more : List B) × AllZip Meets items more × (new ≡ old ++ more)
+abbrev pub AddsAnswers : {A B : Type 0}
+    → (A → B → Type 0) → (items : List A) → (old new : List B) → Type 0
+AddsAnswers {A} {B} Meets items old new =
+    (more : List B) × AllZip Meets items more × (new ≡ old ++ more)

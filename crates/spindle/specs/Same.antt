@@ -6,7 +6,8 @@ use mathlib.Core.Path.{sym}
 use mathlib.Core.Bool.{true≢false}
 
 -- of lists
-pub equal_lists_are_same : {T : Type 0} (E : T → T → Bool) → ((x y : T) → E x y ≡ true → x ≡ y) → (xs ys : List T) → pointwise E xs ys ≡ true → xs ≡ ys
+pub equal_lists_are_same : {T : Type 0} (E : T → T → Bool) → ((x y : T) → E x y ≡ true → x ≡ y)
+    → (xs ys : List T) → pointwise E xs ys ≡ true → xs ≡ ys
 equal_lists_are_same E same [] [] e = refl
 equal_lists_are_same E same [] (y ∷ ys) e = absurd (true≢false (sym e))
 equal_lists_are_same E same (x ∷ xs) [] e = absurd (true≢false (sym e))
@@ -16,8 +17,9 @@ equal_lists_are_same E same (x ∷ xs) (y ∷ ys) e =
     λ i. first i ∷ rest i
 
 -- of pairs
-pub equal_pairs_are_same : {A B : Type 0} (E : A → A → Bool) (F : B → B → Bool) → ((x y : A) → E x y ≡ true → x ≡ y) → ((x y : B) → F x y ≡ true → x ≡ y) →
-    (x y : A × B) → E x.0 y.0 && F x.1 y.1 ≡ true → x ≡ y
+pub equal_pairs_are_same : {A B : Type 0} (E : A → A → Bool) (F : B → B → Bool)
+    → ((x y : A) → E x y ≡ true → x ≡ y) → ((x y : B) → F x y ≡ true → x ≡ y)
+    → (x y : A × B) → E x.0 y.0 && F x.1 y.1 ≡ true → x ≡ y
 equal_pairs_are_same E F same_first same_second x y e =
     let first = same_first x.0 y.0 (first_so (E x.0 y.0) (F x.1 y.1) e) in
     let second = same_second x.1 y.1 (second_so (E x.0 y.0) (F x.1 y.1) e) in

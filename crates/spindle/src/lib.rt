@@ -12,6 +12,7 @@ mod work;
 
 pub use free::{for_each, for_each_raw};
 pub use lists::SharedList;
+pub use lists::gathered::gathered;
 pub use lists::run::ListRun;
 pub use lists::same::EqualIsSame;
 pub use lock::with_lock;

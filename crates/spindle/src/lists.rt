@@ -12,6 +12,8 @@ use std::alloc::{AllocError, AllocFailed, Global};
 use std::marker::Model;
 use std::sync::Arc;
 
+pub mod chunks;
+pub mod gathered;
 pub mod run;
 pub mod same;
 

@@ -13,7 +13,7 @@ use Rattle.spindle_parts.specs.Runs.{state}
 use Rattle.spindle_parts.proofs.Soundness.{Sound, sound, no_closer}
 use Rattle.spindle_rounds.specs.declared.round_table.view.View.{View}
 use Rattle.spindle_rounds.specs.RoundSlots.{Discipline, Lawful}
-use Rattle.spindle_rounds.specs.RoundRule.{number_of, Stands, Knows, Counters, InRange, InRemainder, home_of, IsListed, IsEmptied}
+use Rattle.spindle_rounds.specs.RoundRule.{number_of, Stands, Knows, Shows, Counters, InRange, InRemainder, home_of, IsListed, IsEmptied}
 use Rattle.spindle_rounds.specs.Words.{barrier_at, published_at, remainder_at, range_at, high_half, most_jobs}
 use Rattle.spindle_rounds.specs.RoundSteps.{loading, learning, list_empty, reading, searching, reading_remainder}
 use Rattle.spindle_rounds.specs.RoundTells.{LoadTells, LearnTells, SearchTells, RemainderReadTells, RecallTells}
@@ -26,8 +26,8 @@ stopped_or true = inl refl
 stopped_or false = inr refl
 
 module _ (t : ℕ) where
-  rest_home : (ws : List ℕ) (n k : ℕ) → get_or ws remainder_at 0 ≤ n % t → InRemainder ws n k → home_of t n k ≡ t
-  rest_home ws n k few z = let z₀ = z.0 in by_less (k + n % t) n (λ b. (if b then k / (n / t) else t) ≡ t) (λ lt. absurd (omega arith)) (λ _. refl)
+  remainder_home : (ws : List ℕ) (n k : ℕ) → get_or ws remainder_at 0 ≤ n % t → InRemainder ws n k → home_of t n k ≡ t
+  remainder_home ws n k few z = let z₀ = z.0 in by_less (k + n % t) n (λ b. (if b then k / (n / t) else t) ≡ t) (λ lt. absurd (omega arith)) (λ _. refl)
 
   -- an empty range shows that no number of it is free
   range_emptied : (S : State) (ws : List ℕ) (n i : ℕ) → i < t → Counters t S ws n → get_or ws (range_at i) 0 / high_half ≤ get_or ws (range_at i) 0 % high_half
@@ -35,11 +35,11 @@ module _ (t : ℕ) where
   range_emptied S ws n i low c empty = ⊎_elim inr (λ going. inl (λ k f is. ⊎_elim
       (λ (z : (j : ℕ) × (j < t) × InRange ws j k). let y = subst (λ (a : ℕ). InRange ws a k) (sym (c.home going z.0 k z.1 z.2) ∙ is) z.2 in let y₀ = y.0 in
       let y₁ = y.1 in omega arith)
-      (λ (z : InRemainder ws n k). let h : t ≡ i = sym (rest_home ws n k c.few z) ∙ is in omega arith) (c.free k f))) (stopped_or (now S).stopped)
+      (λ (z : InRemainder ws n k). let h : t ≡ i = sym (remainder_home ws n k c.few z) ∙ is in omega arith) (c.free k f))) (stopped_or (now S).stopped)
 
   -- a remainder of 0 shows the same of the remainder
-  rest_emptied : (S : State) (ws : List ℕ) (n : ℕ) → Counters t S ws n → get_or ws remainder_at 0 ≡ 0 → IsEmptied t n S t
-  rest_emptied S ws n c empty = ⊎_elim inr (λ going. inl (λ k f is. ⊎_elim
+  remainder_emptied : (S : State) (ws : List ℕ) (n : ℕ) → Counters t S ws n → get_or ws remainder_at 0 ≡ 0 → IsEmptied t n S t
+  remainder_emptied S ws n c empty = ⊎_elim inr (λ going. inl (λ k f is. ⊎_elim
       (λ (z : (j : ℕ) × (j < t) × InRange ws j k). let lt = z.1 in let h : z.0 ≡ t = sym (c.home going z.0 k z.1 z.2) ∙ is in omega arith)
       (λ (z : InRemainder ws n k). let z₀ = z.0 in let z₁ = z.1 in omega arith) (c.free k f))) (stopped_or (now S).stopped)
 
@@ -151,48 +151,61 @@ module _ {X N : Type 0} (D : Discipline X N) (law : Lawful D) (t : ℕ) where
       unread_yet k none_shown = ⊎_elim (λ (z : (m : ℕ) × (me.0.known.number ≡ Some m)). let a = (k.number z.0 z.1).0 in
           absurd cc) k.unread (number_or_none me.0.known.number)
 
-  -- a range or the remainder is read
-  reads : (id : ℕ) (me : SeatOf D t) (word i : ℕ) (empty : Bool) (run : List Event) (s : table.State X (View N)) (r : Rule D t run s)
+  -- what a seat knows once a range or the remainder is read
+  reading_shows : (id : ℕ) (me : SeatOf D t) (word i : ℕ) (empty : Bool) (run : List Event) (s : table.State X (View N)) (r : Rule D t run s)
       → get_elem? s.views id ≡ some me.0 → ((n : ℕ) → (state run).published ≡ Some n → empty ≡ true → IsEmptied t n (state run) i)
-      → Rule D t run (stepped s word (get_or s.words word 0) id me.1 (reading word i empty (get_or s.words word 0) me.0) keeps)
-  reads id me word i empty run s r at teaches = let S : State = state run in let seat = r.seats id me.0 at in let shows = seat.0 in
-      stays D law t run s r word id me (reading word i empty (get_or s.words word 0) me.0) at (refl, refl, refl)
-      record {
-        stands = shows.stands;
-        leads = shows.leads;
-        claim = shows.claim;
-        share = shows.share;
-        inside = λ q e. let k = shows.inside q e in record {
-          number = k.number;
-          unpublished = k.unpublished;
-          seen = k.seen;
-          emptied = λ n j e' l. listed me.0.known.number n i empty me.0.known.emptied (IsEmptied me.0.threads n S) e'
-              (λ z. subst (λ (a : ℕ). IsEmptied a n S i) (sym seat.2) (teaches n (k.number n e').0 z)) (λ j' l'. k.emptied n j' e' l') j l;
-          unread = λ z. unlisted me.0.known.number i empty me.0.known.emptied z (k.unread z);
-        };
-      } refl refl (inr refl) refl
+      → Shows (state run) id (reading word i empty (get_or s.words word 0) me.0)
+  reading_shows id me word i empty run s r at teaches = let S : State = state run in let seat = r.seats id me.0 at in let shows = seat.0 in record {
+    stands = shows.stands;
+    leads = shows.leads;
+    claim = shows.claim;
+    share = shows.share;
+    inside = λ q e. let k = shows.inside q e in record {
+      number = k.number;
+      unpublished = k.unpublished;
+      seen = k.seen;
+      emptied = λ n j e' l. listed me.0.known.number n i empty me.0.known.emptied (IsEmptied me.0.threads n S) e'
+          (λ z. subst (λ (a : ℕ). IsEmptied a n S i) (sym seat.2) (teaches n (k.number n e').0 z)) (λ j' l'. k.emptied n j' e' l') j l;
+      unread = λ z. unlisted me.0.known.number i empty me.0.known.emptied z (k.unread z);
+    };
+  }
+
+  -- once a range is read
+  pub search_shows : (id : ℕ) (me : SeatOf D t) (i : ℕ) → i < t → (run : List Event) (s : table.State X (View N)) → Rule D t run s
+      → get_elem? s.views id ≡ some me.0 → Shows (state run) id (searching i (get_or s.words (range_at i) 0) me.0)
+  search_shows id me i low run s r at = let x : ℕ = get_or s.words (range_at i) 0 in
+      let empty : Bool = if nat_lt (x % high_half) (x / high_half) then false else true in let c = r.words.counters in
+      reading_shows id me (range_at i) i empty run s r at (λ n shown e. range_emptied t (state run) s.words n i low (c n shown)
+      (by_less (x % high_half) (x / high_half) (λ b. (if b then false else true) ≡ true → x / high_half ≤ x % high_half) (λ _ z. absurd cc) (λ le _. le) e))
+
+  -- once the remainder is read
+  pub remainder_shows : (id : ℕ) (me : SeatOf D t) (run : List Event) (s : table.State X (View N)) → Rule D t run s → get_elem? s.views id ≡ some me.0
+      → Shows (state run) id (reading_remainder (get_or s.words remainder_at 0) me.0)
+  remainder_shows id me run s r at = let x : ℕ = get_or s.words remainder_at 0 in let seat = r.seats id me.0 at in
+      reading_shows id me remainder_at me.0.threads (x == 0) run s r at
+      (λ n shown e. subst (λ (a : ℕ). IsEmptied t n (state run) a) (sym seat.2)
+      (remainder_emptied t (state run) s.words n (r.words.counters n shown) (by_equal x 0 (λ b. b ≡ true → x ≡ 0) (λ z _. z) (λ _ z. absurd cc) e)))
 
   -- a range is read
   pub searches : (slots id : ℕ) (me : SeatOf D t) (i : ℕ) → i < t → PlainLoad D t slots id me (range_at i) SearchTells
   searches slots id me i low = record {
-    shows = λ run s r _ at _. let x : ℕ = get_or s.words (range_at i) 0 in let empty : Bool = if nat_lt (x % high_half) (x / high_half) then false else true in
-        let c = r.words.counters in let a = reads id me (range_at i) i empty run s r at
-        (λ n shown e. range_emptied t (state run) s.words n i low (c n shown)
-        (by_less (x % high_half) (x / high_half) (λ b. (if b then false else true) ≡ true → x / high_half ≤ x % high_half) (λ _ z. absurd cc)
-        (λ le _. le) e)) in
-        (searching i x me.0, keeps, tt, a, (refl, λ j same. let ij : i ≡ j = omega arith in ap (λ (z : ℕ). searching z x me.0) ij));
+    shows = λ run s r _ at _. let x : ℕ = get_or s.words (range_at i) 0 in (
+      searching i x me.0,
+      keeps,
+      tt,
+      stays D law t run s r (range_at i) id me (searching i x me.0) at (refl, refl, refl) (search_shows id me i low run s r at) refl refl (inr refl) refl,
+      (refl, λ j same. let ij : i ≡ j = omega arith in ap (λ (z : ℕ). searching z x me.0) ij),
+    );
   }
 
   -- the remainder is read, which is no more than the number
-  pub rest_reads : (slots id : ℕ) (me : SeatOf D t) → PlainLoad D t slots id me remainder_at RemainderReadTells
-  rest_reads slots id me = record {
+  pub remainder_reads : (slots id : ℕ) (me : SeatOf D t) → PlainLoad D t slots id me remainder_at RemainderReadTells
+  remainder_reads slots id me = record {
     shows = λ run s r _ at _. let x : ℕ = get_or s.words remainder_at 0 in let seat = r.seats id me.0 at in (
       reading_remainder x me.0,
       keeps,
       tt,
-      reads id me remainder_at me.0.threads (x == 0) run s r at
-          (λ n shown e. subst (λ (a : ℕ). IsEmptied t n (state run) a) (sym seat.2)
-          (rest_emptied t (state run) s.words n (r.words.counters n shown) (by_equal x 0 (λ b. b ≡ true → x ≡ 0) (λ z _. z) (λ _ z. absurd cc) e))),
+      stays D law t run s r remainder_at id me (reading_remainder x me.0) at (refl, refl, refl) (remainder_shows id me run s r at) refl refl (inr refl) refl,
       (
         refl,
         refl,

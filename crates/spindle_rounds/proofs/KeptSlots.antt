@@ -26,7 +26,7 @@ use Rattle.spindle_rounds.specs.RoundConditions.{MayTakeOut, MayPutAll, MayGiveB
 use Rattle.spindle_rounds.specs.RoundRuns.{PlainLoad}
 use Rattle.spindle_rounds.specs.SpotPlaces.{spot_else}
 use Rattle.spindle_rounds.proofs.RoundMoves.{Rule, SeatOf, moves_with, still_laid}
-use Rattle.spindle_rounds.proofs.PlainRounds.{at_rest, shown_plain, plain_finished}
+use Rattle.spindle_rounds.proofs.PlainRounds.{at_rest, was_shown, plain_finished}
 
 module _ {A : Type 0} where
   first_set : (l : List A) (u v : A) → get_elem? l 0 ≡ some v → get_elem? (set l 0 u) 0 ≡ some u
@@ -149,7 +149,7 @@ module _ {X N : Type 0} (D : Discipline X N) (law : Lawful D) where
     sure_finished run s r id me q at l k spot.Vacant z = z
     sure_finished run s r id me q at l k spot.Out z = z
     sure_finished run s r id me q at l k (spot.Filled j x) z =
-        let plain = shown_plain id run r.is_run j z.0 (subst (IsDeed (Showed j z.0 false)) (r.seats id me.0 at).1 z.2) in
+        let plain = was_shown false id run r.is_run j z.0 (subst (IsDeed (Showed j z.0 false)) (r.seats id me.0 at).1 z.2) in
         plain_finished (state run) (sound run r.is_run) l.hidden l.open_now j z.0 k plain z.1
 
     pub takes_out : (slots id : ℕ) (me : SeatOf D t) → MayTakeOut D slots me.0 → PlainLoad D t slots id me 8 (TakeOutTells D)

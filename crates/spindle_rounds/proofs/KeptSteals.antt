@@ -100,9 +100,9 @@ module _ {X N : Type 0} (D : Discipline X N) (law : Lawful D) (t : ℕ) where
       (takes D law t slots id me may.0.0 may.1.0 word old (rest (stolen_from old)) (stolen_from old) (stolen_from old + 1) (end_of old) (last_half old)
       (half t may.1.0 i old low small left) may.0.1 may.1.1 may.0.2 may.0.3 may.2))
 
-  pub rests : (slots id : ℕ) (me : SeatOf D t) (old : ℕ) → MayClaim me.0 → 0 < old
+  pub remainder_claims : (slots id : ℕ) (me : SeatOf D t) (old : ℕ) → MayClaim me.0 → 0 < old
       → let k : ℕ = number_or me.0.known.number - old in Exchange D t slots id me remainder_at old (old - 1) (claim_of id k (only k)) (RemainderClaimTells D)
-  rests slots id me old may some = let n : ℕ = number_or me.0.known.number in let is : n ≡ may.1.0 = ap number_or may.1.1 in
+  remainder_claims slots id me old may some = let n : ℕ = number_or me.0.known.number in let is : n ≡ may.1.0 = ap number_or may.1.1 in
       begins_by D law t slots id me remainder_at old (old - 1) (claim_of id (n - old) (only (n - old))) (λ found. n - found) (claiming_remainder n)
       (takes D law t slots id me may.0.0 may.1.0 32 old (old - 1) (n - old) me.0.from me.0.to (only (n - old))
       (last_one t may.1.0 old me.0.from me.0.to (n - old) (ap (λ (z : ℕ). z - old) is) some may.0.3) may.0.1 may.1.1 may.0.2 may.0.3 may.2)

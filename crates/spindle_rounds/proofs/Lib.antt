@@ -20,6 +20,7 @@ pub mod PlainRounds
 pub mod KeptSlots
 pub mod SlotsTold
 pub mod PieceClients
+pub mod RoundOnward
 pub mod RoundClients
 pub mod KeptLeaving
 pub mod KeptEnding
@@ -28,4 +29,6 @@ pub mod Workers
 pub mod PartyWork
 pub mod PieceRounds
 pub mod SlotLoops
+pub mod KeptLeftovers
+pub mod Leftovers
 pub mod SlotHands

@@ -17,7 +17,8 @@ use Rattle.spindle_rounds.specs.Seating.{IsSameSeat}
 use Rattle.spindle_rounds.specs.Sources.{HasEmptied}
 use Rattle.spindle_rounds.specs.Working.{IsIdle}
 use Rattle.spindle_rounds.specs.PartyWork.{IsAtTask, WentOn, HasTaken}
-use Rattle.spindle_rounds.proofs.RoundClients.{onward_same, onward_then, still_at_work, may_claim, all_empty}
+use Rattle.spindle_rounds.proofs.RoundClients.{all_empty}
+use Rattle.spindle_rounds.proofs.RoundOnward.{onward_same, onward_then, still_at_work, may_claim}
 
 -- who shares as before has no number left where it had none
 pub still_idle : {N : Type 0} (v w : View N) → IsIdle v → SharesAsBefore v w → w.claim ≡ None → IsIdle w

@@ -1,4 +1,4 @@
--- What a plain publish of the leader says of its round ever after, and what is so while nothing is published.
+-- What a publish of the leader says of its round ever after, and what is so while nothing is published.
 use Rattle.std.proofs.Common.{◌≡◌, ◌≢◌, ◌⊎◌, inl, inr, ⊎_elim, ℕ, zero, suc, ◌+◌, ◌<◌, ◌≤◌, Bool, true, false, eq-eqb, ne_eqb, List, [], ◌∷◌, ◌++◌}
 use Rattle.std.proofs.Common.{sym, refl, ap, ◌∙◌, subst, arith, Option, Some, None, if◌then◌else◌, ◌==◌}
 use mathlib.Core.Logic.{dite}
@@ -33,122 +33,130 @@ at_rest s h hid open_now = let all = none_begun h.fate (now s) s.parties h.work 
       ∙ sym (ap (λ (z : Round). times k z.begun) e)) (apart r s.round n));
 }
 
--- in the round r, which goes on or has ended, n jobs were published plainly
-pub record Plain (s : State) (r n : ℕ) : Type 0 where
-  pub jobs : (s.rounds r).jobs ≡ n
-  pub plain : (s.rounds r).stoppable ≡ false
-  pub some : 2 ≤ n
-  pub past : r ≤ s.round
+module _ (b : Bool) where
+  -- in the round r, which goes on or has ended, n jobs were published, and b says whether it may stop
+  pub record WasShown (s : State) (r n : ℕ) : Type 0 where
+    pub jobs : (s.rounds r).jobs ≡ n
+    pub may_stop : (s.rounds r).stoppable ≡ b
+    pub some : 2 ≤ n
+    pub past : r ≤ s.round
 
-same_plain : (s s' : State) (r n : ℕ) → s'.rounds ≡ s.rounds → s.round ≤ s'.round → Plain s r n → Plain s' r n
-same_plain s s' r n e le w = let a = w.past in record {
-  jobs = ap (λ (f : ℕ → Round). (f r).jobs) e ∙ w.jobs;
-  plain = ap (λ (f : ℕ
-      → Round). (f r).stoppable) e ∙ w.plain;
-  some = w.some;
-  past = omega arith;
-}
+  same_shown : (s s' : State) (r n : ℕ) → s'.rounds ≡ s.rounds → s.round ≤ s'.round → WasShown s r n → WasShown s' r n
+  same_shown s s' r n e le w = let a = w.past in record {
+    jobs = ap (λ (f : ℕ → Round). (f r).jobs) e ∙ w.jobs;
+    may_stop = ap (λ (f : ℕ
+        → Round). (f r).stoppable) e ∙ w.may_stop;
+    some = w.some;
+    past = omega arith;
+  }
 
-put_plain : (s s' : State) (x : Round) (r n : ℕ) → s'.rounds ≡ put s.rounds s.round x → s'.round ≡ s.round → x.jobs ≡ (now s).jobs
-    → x.stoppable ≡ (now s).stoppable → Plain s r n → Plain s' r n
-put_plain s s' x r n e same j b w = let a = w.past in record {
-  jobs = ap (λ (f : ℕ → Round). (f r).jobs) e ∙ (put_all (λ i (z : Round). z.jobs ≡ (s.rounds i).jobs) s.rounds s.round x j (λ i n. refl) r ∙ w.jobs);
-  plain = ap (λ (f : ℕ → Round). (f r).stoppable) e ∙ (put_all (λ i (z : Round). z.stoppable ≡ (s.rounds i).stoppable) s.rounds s.round x b (λ i n. refl) r
-      ∙ w.plain);
-  some = w.some;
-  past = omega arith;
-}
+  put_shown : (s s' : State) (x : Round) (r n : ℕ) → s'.rounds ≡ put s.rounds s.round x → s'.round ≡ s.round → x.jobs ≡ (now s).jobs
+      → x.stoppable ≡ (now s).stoppable → WasShown s r n → WasShown s' r n
+  put_shown s s' x r n e same j b w = let a = w.past in record {
+    jobs = ap (λ (f : ℕ → Round). (f r).jobs) e ∙ (put_all (λ i (z : Round). z.jobs ≡ (s.rounds i).jobs) s.rounds s.round x j (λ i n. refl) r ∙ w.jobs);
+    may_stop = ap (λ (f : ℕ → Round). (f r).stoppable) e ∙ (put_all (λ i (z : Round). z.stoppable ≡ (s.rounds i).stoppable) s.rounds s.round x b (λ i n. refl) r
+        ∙ w.may_stop);
+    some = w.some;
+    past = omega arith;
+  }
 
--- another publish is of another round
-publish_plain : (s s' : State) (x : Round) → s'.rounds ≡ put s.rounds s.round x → s'.round ≡ s.round → (now s).jobs ≡ 0 → (r n : ℕ) → Plain s r n
-    → Plain s' r n
-publish_plain s s' x e same none_yet r n w = let other : r ≢ s.round = (λ z. let a = ap (λ (i : ℕ). (s.rounds i).jobs) z in let b = w.jobs in
-    let c = w.some in omega arith) in let a = w.past in record {
-      jobs = ap (λ (f : ℕ → Round). (f r).jobs) e ∙ (ap (λ (z : Round). z.jobs) (put_else s.rounds s.round x r other) ∙ w.jobs);
-      plain = ap (λ (f : ℕ → Round). (f r).stoppable) e ∙ (ap (λ (z : Round). z.stoppable) (put_else s.rounds s.round x r other) ∙ w.plain);
-      some = w.some;
-      past = omega arith;
-    }
+  -- another publish is of another round
+  publish_shown : (s s' : State) (x : Round) → s'.rounds ≡ put s.rounds s.round x → s'.round ≡ s.round → (now s).jobs ≡ 0 → (r n : ℕ) → WasShown s r n
+      → WasShown s' r n
+  publish_shown s s' x e same none_yet r n w = let other : r ≢ s.round = (λ z. let a = ap (λ (i : ℕ). (s.rounds i).jobs) z in let b = w.jobs in
+      let c = w.some in omega arith) in let a = w.past in record {
+        jobs = ap (λ (f : ℕ → Round). (f r).jobs) e ∙ (ap (λ (z : Round). z.jobs) (put_else s.rounds s.round x r other) ∙ w.jobs);
+        may_stop = ap (λ (f : ℕ → Round). (f r).stoppable) e ∙ (ap (λ (z : Round). z.stoppable) (put_else s.rounds s.round x r other) ∙ w.may_stop);
+        some = w.some;
+        past = omega arith;
+      }
 
-keeps_plain : (s : State) → Sound s → (e : Event) → Allowed s e → (r n : ℕ) → Plain s r n → Plain (after s e) r n
-keeps_plain s h (Join p) ok r n w = same_plain s (after s (Join p)) r n refl (omega arith) w
-keeps_plain s h (Publish p m) ok r n w = publish_plain s (after s (Publish p m)) (record (now s) { jobs = m; stoppable = false }) refl refl
-    (h.gate.hidden ok.2 (no_closer s h p ok.1)) r n w
-keeps_plain s h (PublishTry p m) ok r n w = publish_plain s (after s (PublishTry p m)) (record (now s) { jobs = m; stoppable = true }) refl refl
-    (h.gate.hidden ok.2 (no_closer s h p ok.1)) r n w
-keeps_plain s h (Take p f) ok r n w = same_plain s (after s (Take p f)) r n refl (omega arith) w
-keeps_plain s h (Begin p k) ok r n w = put_plain s (after s (Begin p k)) (record (now s) { begun = (now s).begun ++ k ∷ [] }) r n refl refl refl refl w
-keeps_plain s h (Finish p) ok r n w = put_plain s (after s (Finish p)) (record (now s) {
-  finished = (now s).finished ++ ended_by
-      (party s p).running;
-}) r n refl refl refl refl w
-keeps_plain s h (Stop p) ok r n w = put_plain s (after s (Stop p)) (record (now s) {
-  stopped = true;
-  seen = put
-      (now s).seen p true;
-}) r n refl refl refl refl w
-keeps_plain s h (See p) ok r n w = put_plain s (after s (See p)) (record (now s) { seen = put (now s).seen p true }) r n refl refl refl refl w
-keeps_plain s h (PutBack p) ok r n w = same_plain s (after s (PutBack p)) r n refl (omega arith) w
-keeps_plain s h (Arrive p) ok r n w = same_plain s (after s (Arrive p)) r n refl (omega arith) w
-keeps_plain s h (Leave p) ok r n w = same_plain s (after s (Leave p)) r n refl (omega arith) w
-keeps_plain s h (Exit p) ok r n w = let ps : List Party = put_party s.parties p (with_status Out (party s p)) in dite (ℕ_discrete (members ps) 0)
-    (λ e. subst (λ (b : Bool). Plain
-    (if b then record { round = s.round + 1; parties = ps; closer = s.closer; published = s.published; rounds = s.rounds } else arrived s p ps) r n) (sym
-    (eq-eqb (members ps) 0 e))
-    (same_plain s (record { round = s.round + 1; parties = ps; closer = s.closer; published = s.published; rounds = s.rounds }) r n refl (omega arith) w))
-    (λ ne. subst (λ (b : Bool). Plain
-    (if b then record { round = s.round + 1; parties = ps; closer = s.closer; published = s.published; rounds = s.rounds } else arrived s p ps) r n) (sym
-    (ne_eqb (members ps) 0 ne)) (same_plain s (arrived s p ps) r n refl (omega arith) w))
-keeps_plain s h (Clear p) ok r n w = same_plain s (after s (Clear p)) r n refl (omega arith) w
-keeps_plain s h (End p) ok r n w = same_plain s (after s (End p)) r n refl (omega arith) w
+  keeps_shown : (s : State) → Sound s → (e : Event) → Allowed s e → (r n : ℕ) → WasShown s r n → WasShown (after s e) r n
+  keeps_shown s h (Join p) ok r n w = same_shown s (after s (Join p)) r n refl (omega arith) w
+  keeps_shown s h (Publish p m) ok r n w = publish_shown s (after s (Publish p m)) (record (now s) { jobs = m; stoppable = false }) refl refl
+      (h.gate.hidden ok.2 (no_closer s h p ok.1)) r n w
+  keeps_shown s h (PublishTry p m) ok r n w = publish_shown s (after s (PublishTry p m)) (record (now s) { jobs = m; stoppable = true }) refl refl
+      (h.gate.hidden ok.2 (no_closer s h p ok.1)) r n w
+  keeps_shown s h (Take p f) ok r n w = same_shown s (after s (Take p f)) r n refl (omega arith) w
+  keeps_shown s h (Begin p k) ok r n w = put_shown s (after s (Begin p k)) (record (now s) { begun = (now s).begun ++ k ∷ [] }) r n refl refl refl refl w
+  keeps_shown s h (Finish p) ok r n w = put_shown s (after s (Finish p)) (record (now s) {
+    finished = (now s).finished ++ ended_by
+        (party s p).running;
+  }) r n refl refl refl refl w
+  keeps_shown s h (Stop p) ok r n w = put_shown s (after s (Stop p)) (record (now s) {
+    stopped = true;
+    seen = put
+        (now s).seen p true;
+  }) r n refl refl refl refl w
+  keeps_shown s h (See p) ok r n w = put_shown s (after s (See p)) (record (now s) { seen = put (now s).seen p true }) r n refl refl refl refl w
+  keeps_shown s h (PutBack p) ok r n w = same_shown s (after s (PutBack p)) r n refl (omega arith) w
+  keeps_shown s h (Arrive p) ok r n w = same_shown s (after s (Arrive p)) r n refl (omega arith) w
+  keeps_shown s h (Leave p) ok r n w = same_shown s (after s (Leave p)) r n refl (omega arith) w
+  keeps_shown s h (Exit p) ok r n w = let ps : List Party = put_party s.parties p (with_status Out (party s p)) in dite (ℕ_discrete (members ps) 0)
+      (λ e. subst (λ (b : Bool). WasShown
+      (if b then record { round = s.round + 1; parties = ps; closer = s.closer; published = s.published; rounds = s.rounds } else arrived s p ps) r n) (sym
+      (eq-eqb (members ps) 0 e))
+      (same_shown s (record { round = s.round + 1; parties = ps; closer = s.closer; published = s.published; rounds = s.rounds }) r n refl (omega arith) w))
+      (λ ne. subst (λ (b : Bool). WasShown
+      (if b then record { round = s.round + 1; parties = ps; closer = s.closer; published = s.published; rounds = s.rounds } else arrived s p ps) r n) (sym
+      (ne_eqb (members ps) 0 ne)) (same_shown s (arrived s p ps) r n refl (omega arith) w))
+  keeps_shown s h (Clear p) ok r n w = same_shown s (after s (Clear p)) r n refl (omega arith) w
+  keeps_shown s h (End p) ok r n w = same_shown s (after s (End p)) r n refl (omega arith) w
 
-new_plain : (s : State) (e : Event) → Allowed s e → (r n : ℕ) → IsDeed (Showed r n false) (deed s e) → Plain (after s e) r n
-new_plain s (Join p) ok r n d = absurd d
-new_plain s (Publish p k) ok r n d = let one : Showed s.round k false ≡ Showed r n false = ⊎_elim (λ z. z) (λ z. absurd z) d in let rr : s.round ≡ r = cc in
-    let kn : k ≡ n = cc in let x : Round = record (now s) { jobs = k; stoppable = false } in
-    subst (λ (z : ℕ × ℕ). Plain (after s (Publish p k)) z.0 z.1) (λ i. (rr i, kn i)) record {
-      jobs = ap (λ (z : Round). z.jobs) (put_here s.rounds s.round x);
-      plain = ap (λ (z : Round). z.stoppable) (put_here s.rounds s.round x);
-      some = ok.3;
-      past = omega arith;
-    }
-new_plain s (PublishTry p k) ok r n d = let one : Showed s.round k true ≡ Showed r n false = ⊎_elim (λ z. z) (λ z. absurd z) d in absurd cc
-new_plain s (Take p f) ok r n d = absurd d
-new_plain s (Begin p k) ok r n d = let one : Began s.round k ≡ Showed r n false = ⊎_elim (λ z. z) (λ z. absurd z) d in absurd cc
-new_plain s (Finish p) ok r n d = absurd (no_end s.round (party s p).running d)
-  where
-    no_end : (q : ℕ) (o : Option ℕ) → IsDeed (Showed r n false) (ended_in q o) → ⊥
-    no_end q None z = z
-    no_end q (Some k) z = let one : Ended q k ≡ Showed r n false = ⊎_elim (λ y. y) (λ y. absurd y) z in cc
-new_plain s (Stop p) ok r n d = absurd d
-new_plain s (See p) ok r n d = absurd d
-new_plain s (PutBack p) ok r n d = absurd d
-new_plain s (Arrive p) ok r n d = absurd d
-new_plain s (Leave p) ok r n d = absurd d
-new_plain s (Exit p) ok r n d = absurd d
-new_plain s (Clear p) ok r n d = absurd d
-new_plain s (End p) ok r n d = absurd d
+  new_shown : (s : State) (e : Event) → Allowed s e → (r n : ℕ) → IsDeed (Showed r n b) (deed s e) → WasShown (after s e) r n
+  new_shown s (Join p) ok r n d = absurd d
+  new_shown s (Publish p k) ok r n d = let one : Showed s.round k false ≡ Showed r n b = ⊎_elim (λ z. z) (λ z. absurd z) d in let rr : s.round ≡ r = cc in
+      let kn : k ≡ n = cc in let plain : false ≡ b = cc in let x : Round = record (now s) { jobs = k; stoppable = false } in
+      subst (λ (z : ℕ × ℕ). WasShown (after s (Publish p k)) z.0 z.1) (λ i. (rr i, kn i)) record {
+        jobs = ap (λ (z : Round). z.jobs) (put_here s.rounds s.round x);
+        may_stop = ap (λ (z : Round). z.stoppable) (put_here s.rounds s.round x) ∙ plain;
+        some = ok.3;
+        past = omega arith;
+      }
+  new_shown s (PublishTry p k) ok r n d = let one : Showed s.round k true ≡ Showed r n b = ⊎_elim (λ z. z) (λ z. absurd z) d in let rr : s.round ≡ r = cc in
+      let kn : k ≡ n = cc in let tried : true ≡ b = cc in let x : Round = record (now s) { jobs = k; stoppable = true } in
+      subst (λ (z : ℕ × ℕ). WasShown (after s (PublishTry p k)) z.0 z.1) (λ i. (rr i, kn i)) record {
+        jobs = ap (λ (z : Round). z.jobs) (put_here s.rounds s.round x);
+        may_stop = ap (λ (z : Round). z.stoppable) (put_here s.rounds s.round x) ∙ tried;
+        some = ok.3;
+        past = omega arith;
+      }
+  new_shown s (Take p f) ok r n d = absurd d
+  new_shown s (Begin p k) ok r n d = let one : Began s.round k ≡ Showed r n b = ⊎_elim (λ z. z) (λ z. absurd z) d in absurd cc
+  new_shown s (Finish p) ok r n d = absurd (no_end s.round (party s p).running d)
+    where
+      no_end : (q : ℕ) (o : Option ℕ) → IsDeed (Showed r n b) (ended_in q o) → ⊥
+      no_end q None z = z
+      no_end q (Some k) z = let one : Ended q k ≡ Showed r n b = ⊎_elim (λ y. y) (λ y. absurd y) z in cc
+  new_shown s (Stop p) ok r n d = absurd d
+  new_shown s (See p) ok r n d = absurd d
+  new_shown s (PutBack p) ok r n d = absurd d
+  new_shown s (Arrive p) ok r n d = absurd d
+  new_shown s (Leave p) ok r n d = absurd d
+  new_shown s (Exit p) ok r n d = absurd d
+  new_shown s (Clear p) ok r n d = absurd d
+  new_shown s (End p) ok r n d = absurd d
 
-in_either : (d : Deed) (xs ys : List Deed) → IsDeed d (xs ++ ys) → IsDeed d xs ⊎ IsDeed d ys
-in_either d [] ys e = inr e
-in_either d (x ∷ xs) ys e = ⊎_elim (λ (z : x ≡ d). inl (inl z)) (λ z. ⊎_elim (λ y. inl (inr y)) inr (in_either d xs ys z)) e
+  in_either : (d : Deed) (xs ys : List Deed) → IsDeed d (xs ++ ys) → IsDeed d xs ⊎ IsDeed d ys
+  in_either d [] ys e = inr e
+  in_either d (x ∷ xs) ys e = ⊎_elim (λ (z : x ≡ d). inl (inl z)) (λ z. ⊎_elim (λ y. inl (inr y)) inr (in_either d xs ys z)) e
 
-in_own : (d : Deed) (b : Bool) (xs : List Deed) → IsDeed d (if b then xs else []) → IsDeed d xs
-in_own d true xs e = e
-in_own d false xs e = absurd e
+  in_own : (d : Deed) (b : Bool) (xs : List Deed) → IsDeed d (if b then xs else []) → IsDeed d xs
+  in_own d true xs e = e
+  in_own d false xs e = absurd e
 
--- a round that a party has published plainly stays so
-pub shown_plain : (p : ℕ) (es : List Event) → IsRun es → (r n : ℕ) → IsDeed (Showed r n false) (deeds p es) → Plain (state es) r n
-shown_plain p [] ok r n d = absurd d
-shown_plain p (e ∷ es) ok r n d = let s : State = state es in ⊎_elim (λ own. new_plain s e ok.0 r n (in_own (Showed r n false) (by e == p) (deed s e) own))
-    (λ old. keeps_plain s (sound es ok.1) e ok.0 r n (shown_plain p es ok.1 r n old)) (in_either (Showed r n false) (if by e == p then deed s e else [])
-    (deeds p es) d)
+  -- a round that a party has published stays so
+  pub was_shown : (p : ℕ) (es : List Event) → IsRun es → (r n : ℕ) → IsDeed (Showed r n b) (deeds p es) → WasShown (state es) r n
+  was_shown p [] ok r n d = absurd d
+  was_shown p (e ∷ es) ok r n d = let s : State = state es in ⊎_elim (λ own. new_shown s e ok.0 r n (in_own (Showed r n b) (by e == p) (deed s e) own))
+      (λ old. keeps_shown s (sound es ok.1) e ok.0 r n (was_shown p es ok.1 r n old)) (in_either (Showed r n b) (if by e == p then deed s e else [])
+      (deeds p es) d)
 
 -- and while nothing is published, and nobody closes, each of its numbers has finished
-pub plain_finished : (s : State) → Sound s → s.published ≡ None → s.closer ≡ None → (r n k : ℕ) → Plain s r n → k < n → 0 < times k (s.rounds r).finished
+pub plain_finished : (s : State) → Sound s → s.published ≡ None → s.closer ≡ None → (r n k : ℕ) → WasShown false s r n → k < n → 0 < times k (s.rounds r).finished
 plain_finished s h hid open_now r n k w lt = let none_yet = h.gate.hidden hid open_now in
     let other : r ≢ s.round = (λ z. let a = ap (λ (i : ℕ). (s.rounds i).jobs) z in let b = w.jobs in let c = w.some in omega arith) in
     let past : r < s.round = (let a = w.past in ⊎_elim (λ (z : r < s.round). z) (λ (z : s.round < r). absurd (omega arith)) (apart r s.round other)) in
     let c = h.ended r past in
-    let going : (s.rounds r).stopped ≡ false = untrue (s.rounds r).stopped (λ e. let a = c.stops e in let b = w.plain in cc) in
+    let going : (s.rounds r).stopped ≡ false = untrue (s.rounds r).stopped (λ e. let a = c.stops e in let b = w.may_stop in cc) in
     let full = c.full going k (let j = w.jobs in omega arith) in let same = c.same k in omega arith

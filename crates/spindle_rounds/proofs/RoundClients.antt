@@ -1,5 +1,5 @@
 -- What the calls of a round leave a party, for the loops of those who call them.
-use Rattle.std.proofs.Common.{◌≡◌, ◌≢◌, inl, inr, ℕ, zero, suc, ◌+◌, ◌-◌, ◌*◌, ◌%◌, ◌<◌, ◌≤◌, Bool, true, false, List, [], ◌∷◌, ◌++◌, length, get_or, append_assoc, sym, refl, ap, ◌∙◌, subst, arith, Option, Some, None, if◌then◌else◌, nat_lt, ◌==◌}
+use Rattle.std.proofs.Common.{◌≡◌, ◌≢◌, inr, ℕ, ◌+◌, ◌-◌, ◌%◌, ◌<◌, ◌≤◌, Bool, true, false, ◌∷◌, get_or, sym, refl, ap, ◌∙◌, subst, arith, Some, None, if◌then◌else◌, nat_lt}
 use mathlib.Core.Logic.{dite}
 use native.Mathlib.Decide.{ℕ_discrete}
 use Rattle.atomic_table.specs.Table.{Me}
@@ -14,251 +14,16 @@ use Rattle.spindle_rounds.specs.declared.round.stopping.PutBack.TheVariants as b
 use Rattle.spindle_rounds.specs.Spans.{Span}
 use Rattle.spindle_rounds.specs.RoundSlots.{Discipline}
 use Rattle.spindle_rounds.specs.RoundRule.{Showed, IsListed}
-use Rattle.spindle_rounds.specs.Words.{remainder_at, range_at, high_half, most_jobs, start_of, end_of, range_word}
-use Rattle.spindle_rounds.specs.RoundSteps.{round_of, missing, learning, publishing, list_empty, searching, reading_remainder, recalling, beginning, claiming, stealing, claiming_remainder, sharing, finishing, stopping, seeing, putting_back}
-use Rattle.spindle_rounds.specs.RoundConditions.{MayPublish, MayClaim, MayBegin, MayFinish, MayPutBack, MayArrive, IsItsShare, IsDone}
-use Rattle.spindle_rounds.specs.RoundAnswers.{searching_all, OwnClaimedBy, StolenBy, RemainderClaimedBy, SharedBy, FinishedBy, SeenBy, LeftOverBy, PutBy, FilledBy}
-use Rattle.spindle_rounds.specs.RoundViews.{shown_of, published_of, AtWork, Onward, SeesAsBefore, SharesAsBefore, AfterClaim, AfterSteal}
+use Rattle.spindle_rounds.specs.Words.{remainder_at, range_at, high_half, most_jobs, start_of, range_word}
+use Rattle.spindle_rounds.specs.RoundSteps.{round_of, missing, learning, publishing, searching, reading_remainder, recalling, claiming, stealing, claiming_remainder, stopping, putting_back}
+use Rattle.spindle_rounds.specs.RoundConditions.{MayPublish, MayClaim, MayBegin, MayFinish, MayPutBack, IsItsShare, IsDone}
+use Rattle.spindle_rounds.specs.RoundAnswers.{searching_all, OwnClaimedBy, StolenBy, RemainderClaimedBy, SharedBy, FinishedBy, SeenBy, PutBy, FilledBy}
+use Rattle.spindle_rounds.specs.Leftovers.{finding, LeftOverBy}
+use Rattle.spindle_rounds.specs.RoundViews.{published_of, AtWork, Onward, SeesAsBefore, SharesAsBefore, AfterClaim, AfterSteal}
 use Rattle.spindle_rounds.proofs.RoundWords.{by_less, by_equal}
 use Rattle.spindle_rounds.proofs.RoundSearch.{may_still}
 use Rattle.spindle_rounds.proofs.RoundFilled.{filled_stands, filled_quiet}
-
--- Going on.
-
-pub onward_same : {N : Type 0} (v : View N) → Onward v v
-onward_same v = record {
-  leader = refl;
-  threads = refl;
-  standing = refl;
-  number = refl;
-  may_stop = refl;
-  unpublished = refl;
-  emptied = λ i l. l;
-  laid = refl;
-  board = refl;
-  published = refl;
-}
-
-pub onward_then : {N : Type 0} (u v w : View N) → Onward u v → Onward v w → Onward u w
-onward_then u v w a b = record {
-  leader = b.leader ∙ a.leader;
-  threads = b.threads ∙ a.threads;
-  standing = b.standing ∙ a.standing;
-  number = b.number ∙ a.number;
-  may_stop = b.may_stop ∙ a.may_stop;
-  unpublished = b.unpublished ∙ a.unpublished;
-  emptied = λ i l. b.emptied i (a.emptied i l);
-  laid = b.laid ∙ a.laid;
-  board = b.board ∙ a.board;
-  published = b.published ∙ a.published;
-}
-
-pub still_at_work : {N : Type 0} (n : ℕ) (b : Bool) (v w : View N) → AtWork n b v → Onward v w → AtWork n b w
-still_at_work n b v w a o = record { inside = (a.inside.0, o.standing ∙ a.inside.1); number = o.number ∙ a.number; may_stop = o.may_stop ∙ a.may_stop }
-
--- who is at work, has no claim and no share, and hasn't seen the stop, may claim
-pub may_claim : {N : Type 0} (n : ℕ) (b : Bool) (v : View N) → AtWork n b v → v.claim ≡ None → v.to ≤ v.from → v.known.seen_stop ≡ false → MayClaim v
-may_claim n b v a idle empty unseen = ((a.inside.0, a.inside.1, idle, empty), (n, a.number), unseen)
-
--- Reads.
-
-more_listed : (o : Option ℕ) (b : Bool) (i j : ℕ) (l : List ℕ) → IsListed j l → IsListed j (list_empty o b i l)
-more_listed None b i j l h = h
-more_listed (Some n) true i j l h = inr h
-more_listed (Some n) false i j l h = h
-
-now_listed : (o : Option ℕ) (n i : ℕ) (b : Bool) (l : List ℕ) → o ≡ Some n → b ≡ true → IsListed i (list_empty o b i l)
-now_listed None n i b l e is = absurd cc
-now_listed (Some m) n i true l e is = inl refl
-now_listed (Some m) n i false l e is = absurd cc
-
-read_empty : (x : ℕ) → end_of x ≤ start_of x → (if nat_lt (start_of x) (end_of x) then false else true) ≡ true
-read_empty x le = by_less (start_of x) (end_of x) (λ b. (if b then false else true) ≡ true) (λ lt. absurd (omega arith)) (λ _. refl)
-
-module _ {N : Type 0} where
-  pub searched_on : (i x : ℕ) (v : View N) → Onward v (searching i x v)
-  searched_on i x v = record {
-    leader = refl;
-    threads = refl;
-    standing = refl;
-    number = refl;
-    may_stop = refl;
-    unpublished = refl;
-    emptied = λ j l. more_listed v.known.number (if nat_lt (start_of x) (end_of x) then false else true) i j v.known.emptied l;
-    laid = refl;
-    board = refl;
-    published = refl;
-  }
-
-  -- an empty range is listed
-  pub searched_empty : (n i x : ℕ) (v : View N) → v.known.number ≡ Some n → end_of x ≤ start_of x → IsListed i (searching i x v).known.emptied
-  searched_empty n i x v known le = now_listed v.known.number n i (if nat_lt (start_of x) (end_of x) then false else true) v.known.emptied known
-      (read_empty x le)
-
-  pub rest_on : (x : ℕ) (v : View N) → Onward v (reading_remainder x v)
-  rest_on x v = record {
-    leader = refl;
-    threads = refl;
-    standing = refl;
-    number = refl;
-    may_stop = refl;
-    unpublished = refl;
-    emptied = λ j l. more_listed v.known.number (x == 0) v.threads j v.known.emptied l;
-    laid = refl;
-    board = refl;
-    published = refl;
-  }
-
-  -- and an empty remainder
-  pub rest_empty : (n x : ℕ) (v : View N) → v.known.number ≡ Some n → x ≡ 0 → IsListed v.threads (reading_remainder x v).known.emptied
-  rest_empty n x v known zero_read = now_listed v.known.number n v.threads (x == 0) v.known.emptied known (ap (λ (z : ℕ). z == 0) zero_read)
-
-  pub all_searched_on : (i : ℕ) (xs : List ℕ) (v : View N) → Onward v (searching_all i xs v) × SeesAsBefore v (searching_all i xs v) × SharesAsBefore v
-      (searching_all i xs v) × ((searching_all i xs v).claim ≡ v.claim)
-  all_searched_on i [] v = (onward_same v, refl, (refl, refl), refl)
-  all_searched_on i (x ∷ xs) v = let r = all_searched_on (i + 1) xs (searching i x v) in
-      (onward_then v (searching i x v) (searching_all (i + 1) xs (searching i x v)) (searched_on i x v) r.0, r.1, r.2, r.3)
-
-  -- where all were read as empty, all are listed
-  pub all_listed : (n i : ℕ) (xs : List ℕ) (v : View N) → v.known.number ≡ Some n →
-      ((j : ℕ) → j < length xs → end_of (get_or xs j 0) ≤ start_of (get_or xs j 0)) → (j : ℕ) → j < length xs → IsListed (i + j)
-      (searching_all i xs v).known.emptied
-  all_listed n i [] v known empty j lt = absurd (omega arith)
-  all_listed n i (x ∷ xs) v known empty zero lt = let here : i + 0 ≡ i = omega arith in
-      subst (λ (a : ℕ). IsListed a (searching_all (i + 1) xs (searching i x v)).known.emptied) (sym here)
-      ((all_searched_on (i + 1) xs (searching i x v)).0.emptied i (searched_empty n i x v known (empty zero (omega arith))))
-  all_listed n i (x ∷ xs) v known empty (suc j) lt = let there : i + 1 + j ≡ i + suc j = omega arith in
-      subst (λ (a : ℕ). IsListed a (searching_all (i + 1) xs (searching i x v)).known.emptied) there
-      (all_listed n (i + 1) xs (searching i x v) known (λ k l. empty (suc k) (omega arith)) j (omega arith))
-
--- Steps that leave what is known.
-
-module _ {N : Type 0} where
-  pub missed_on : (i found : ℕ) (v : View N) → Onward v (missing i found v)
-  missed_on i found v = record {
-    leader = refl;
-    threads = refl;
-    standing = refl;
-    number = refl;
-    may_stop = refl;
-    unpublished = refl;
-    emptied = λ i l. l;
-    laid = refl;
-    board = refl;
-    published = refl;
-  }
-
-  pub began_on : (i k found new : ℕ) (x : Option N) (v : View N) → Onward v (beginning i k found new x v)
-  began_on i k found new x v = record {
-    leader = refl;
-    threads = refl;
-    standing = refl;
-    number = refl;
-    may_stop = refl;
-    unpublished = refl;
-    emptied = λ i l. l;
-    laid = refl;
-    board = refl;
-    published = refl;
-  }
-
-  pub stole_on : (i found : ℕ) (x : Option N) (v : View N) → Onward v (stealing i found x v)
-  stole_on i found x v = record {
-    leader = refl;
-    threads = refl;
-    standing = refl;
-    number = refl;
-    may_stop = refl;
-    unpublished = refl;
-    emptied = λ i l. l;
-    laid = refl;
-    board = refl;
-    published = refl;
-  }
-
-  pub shared_on : (i stored : ℕ) (x : Option N) (v : View N) → Onward v (sharing i stored x v)
-  shared_on i stored x v = record {
-    leader = refl;
-    threads = refl;
-    standing = refl;
-    number = refl;
-    may_stop = refl;
-    unpublished = refl;
-    emptied = λ i l. l;
-    laid = refl;
-    board = refl;
-    published = refl;
-  }
-
-  pub recalled_on : (n : ℕ) (v : View N) → Onward v (recalling n v)
-  recalled_on n v = record {
-    leader = refl;
-    threads = refl;
-    standing = refl;
-    number = refl;
-    may_stop = refl;
-    unpublished = refl;
-    emptied = λ i l. l;
-    laid = refl;
-    board = refl;
-    published = refl;
-  }
-
-  pub finished_on : (found : ℕ) (v : View N) → Onward v (finishing found v)
-  finished_on found v = record {
-    leader = refl;
-    threads = refl;
-    standing = refl;
-    number = refl;
-    may_stop = refl;
-    unpublished = refl;
-    emptied = λ i l. l;
-    laid = refl;
-    board = refl;
-    published = refl;
-  }
-
-  pub stopped_on : (stored : ℕ) (v : View N) → Onward v (stopping stored v)
-  stopped_on stored v = record {
-    leader = refl;
-    threads = refl;
-    standing = refl;
-    number = refl;
-    may_stop = refl;
-    unpublished = refl;
-    emptied = λ i l. l;
-    laid = refl;
-    board = refl;
-    published = refl;
-  }
-
-  pub saw_on : (found : ℕ) (v : View N) → Onward v (seeing found v)
-  saw_on found v = record {
-    leader = refl;
-    threads = refl;
-    standing = refl;
-    number = refl;
-    may_stop = refl;
-    unpublished = refl;
-    emptied = λ i l. l;
-    laid = refl;
-    board = refl;
-    published = refl;
-  }
-
-  pub put_on : (i found : ℕ) (v : View N) → Onward v (putting_back i found v)
-  put_on i found v = record {
-    leader = refl;
-    threads = refl;
-    standing = refl;
-    number = refl;
-    may_stop = refl;
-    unpublished = refl;
-    emptied = λ i l. l;
-    laid = refl;
-    board = refl;
-    published = refl;
-  }
+use Rattle.spindle_rounds.proofs.RoundOnward.{onward_then, searched_on, remainder_on, remainder_empty, all_searched_on, all_listed, missed_on, began_on, stole_on, shared_on, recalled_on, finished_on, stopped_on, saw_on, put_on, found_on}
 
 -- Claims.
 
@@ -284,26 +49,22 @@ module _ {S N : Type 0} (D : Discipline S N) (m w : Me S (View N)) (may : MayCla
         may,
       )
 
-  pub rest_claimed : (n : ℕ) (r : Claim) → RemainderClaimedBy D n r m w → AfterClaim r m.0 w.0
-  rest_claimed n (claim.Job c) a = let v : View N = reading_remainder a.0 m.0 in let u : View N = recalling n v in
+  pub remainder_claimed : (n : ℕ) (r : Claim) → RemainderClaimedBy D n r m w → AfterClaim r m.0 w.0
+  remainder_claimed n (claim.Job c) a = let v : View N = reading_remainder a.0 m.0 in let u : View N = recalling n v in
       let z : View N = claiming_remainder n a.0 a.1 u in subst (AfterClaim (claim.Job c) m.0) (sym a.2) (
-        onward_then m.0 v z (rest_on a.0 m.0) (onward_then v u z (recalled_on n v) (began_on 32 (n - a.0) a.0 (a.0 - 1) a.1 u)),
+        onward_then m.0 v z (remainder_on a.0 m.0) (onward_then v u z (recalled_on n v) (began_on 32 (n - a.0) a.0 (a.0 - 1) a.1 u)),
         refl,
         (refl, refl),
         (inside, ap (λ (k : ℕ). Some k) (sym a.4)),
       )
-  rest_claimed n claim.Nothing a = subst (AfterClaim claim.Nothing m.0) (sym (ap (λ z. z.0) a.1)) (rest_on a.0 m.0, refl, (refl, refl), may)
-  rest_claimed n claim.Again a = let v : View N = reading_remainder a.0 m.0 in let u : View N = recalling n v in let z : View N = missing remainder_at a.1 u in
+  remainder_claimed n claim.Nothing a = subst (AfterClaim claim.Nothing m.0) (sym (ap (λ z. z.0) a.1)) (remainder_on a.0 m.0, refl, (refl, refl), may)
+  remainder_claimed n claim.Again a = let v : View N = reading_remainder a.0 m.0 in let u : View N = recalling n v in let z : View N = missing remainder_at a.1 u in
       subst (AfterClaim claim.Again m.0) (sym (ap (λ y. y.0) a.2))
-      (onward_then m.0 v z (rest_on a.0 m.0) (onward_then v u z (recalled_on n v) (missed_on 32 a.1 u)), refl, (refl, refl), may)
-
-  -- the range was read as empty
-  pub own_nothing : (i : ℕ) → OwnClaimedBy D i claim.Nothing m w → IsListed i w.0.known.emptied
-  own_nothing i a = subst (λ (v : View N). IsListed i v.known.emptied) (sym (ap (λ z. z.0) a.1)) (searched_empty may.1.0 i a.0 m.0 may.1.1 a.2)
+      (onward_then m.0 v z (remainder_on a.0 m.0) (onward_then v u z (recalled_on n v) (missed_on 32 a.1 u)), refl, (refl, refl), may)
 
   -- the remainder was read as empty
-  pub rest_nothing : (n : ℕ) → RemainderClaimedBy D n claim.Nothing m w → IsListed w.0.threads w.0.known.emptied
-  rest_nothing n a = subst (λ (v : View N). IsListed v.threads v.known.emptied) (sym (ap (λ z. z.0) a.1)) (rest_empty may.1.0 a.0 m.0 may.1.1 a.2)
+  pub remainder_nothing : (n : ℕ) → RemainderClaimedBy D n claim.Nothing m w → IsListed w.0.threads w.0.known.emptied
+  remainder_nothing n a = subst (λ (v : View N). IsListed v.threads v.known.emptied) (sym (ap (λ z. z.0) a.1)) (remainder_empty may.1.0 a.0 m.0 may.1.1 a.2)
 
   pub stolen : (t : ℕ) (r : Steal) → StolenBy D t r m w → AfterSteal t r m.0 w.0
   stolen t (steal.Job c share) a = let v : View N = searching_all 0 a.0 m.0 in let b = all_searched_on 0 a.0 m.0 in let x : ℕ = get_or a.0 a.1 0 in
@@ -380,8 +141,12 @@ share_put {N = N} m w i back.Again share left may own a = let v : View N = searc
 pub left_seen : {S N : Type 0} (m w : Me S (View N)) (t i found : ℕ) → i ≤ t → LeftOverBy t i found m w → Onward m.0 w.0 × SeesAsBefore m.0 w.0
     × SharesAsBefore m.0 w.0 × (w.0.claim ≡ m.0.claim)
 left_seen {N = N} m w t i found le a = let P : View N → Type 0 = λ u. Onward m.0 u × SeesAsBefore m.0 u × SharesAsBefore m.0 u × (u.claim ≡ m.0.claim) in
-    dite (ℕ_discrete i t) (λ here. subst P (sym (ap (λ z. z.0) (a.1 here))) (rest_on found m.0, refl, (refl, refl), refl))
-    (λ apart. subst P (sym (ap (λ z. z.0) (a.0 (omega arith)))) (searched_on i found m.0, refl, (refl, refl), refl))
+    let u : View N = searching i found m.0 in let w' : View N = reading_remainder found m.0 in
+    dite (ℕ_discrete i t)
+    (λ here. subst P (sym (ap (λ z. z.0) (a.1 here)))
+    (onward_then m.0 w' (finding remainder_at found w') (remainder_on found m.0) (found_on remainder_at found w'), refl, (refl, refl), refl))
+    (λ apart. subst P (sym (ap (λ z. z.0) (a.0 (omega arith))))
+    (onward_then m.0 u (finding (range_at i) found u) (searched_on i found m.0) (found_on (range_at i) found u), refl, (refl, refl), refl))
 
 -- Arriving.
 
@@ -394,10 +159,6 @@ all_empty n b v a ranges rest = inr (inr (inr (
   λ i le. dite (ℕ_discrete i v.threads)
       (λ e. subst (λ (j : ℕ). IsListed j v.known.emptied) (sym e) rest) (λ apart. ranges i (omega arith)),
 )))
-
--- and so for who has seen the stop
-pub may_arrive : {N : Type 0} (n : ℕ) (b : Bool) (v : View N) → AtWork n b v → v.claim ≡ None → v.to ≤ v.from → IsDone v → MayArrive v
-may_arrive n b v a idle empty done = ((a.inside.0, a.inside.1, idle, empty), done)
 
 -- The leader.
 

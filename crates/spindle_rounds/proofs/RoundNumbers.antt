@@ -98,8 +98,8 @@ module _ (S : State) (id k : ℕ) (some : ℕ → Bool) (mine : some k ≡ true)
         barrier = other barrier_at (omega arith) ∙ (w.barrier ∙ same_word);
         published = other published_at (omega arith) ∙ (w.published ∙ sym (ap (λ (z : Round). number_of S.published z.stoppable) last_round));
         finished = λ some. other finished_at (omega arith) ∙ (w.finished some ∙ sym (ap (λ (z : Round). length z.finished) last_round));
-        stopped = λ some. let e = ap (λ (z : Round). z.stopped) last_round in
-            ((λ on. other stopped_at (omega arith) ∙ (w.stopped some).0 (sym e ∙ on)), (λ on. other stopped_at (omega arith) ∙ (w.stopped some).1 (sym e ∙ on)));
+        stopped = λ some. let e = ap (λ (z : Round). z.stopped) last_round in let word = other stopped_at (omega arith) in
+            ((λ on. word ∙ (w.stopped some).0 (sym e ∙ on)), (λ on. word ∙ (w.stopped some).1 (sym e ∙ on)));
         counters = counters;
         barren = w.barren;
       }

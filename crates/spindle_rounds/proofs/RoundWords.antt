@@ -73,7 +73,8 @@ module _ (t : ℕ) where
         finished = λ some. other finished_at (λ e. omega arith) ∙ (w.finished (λ e. some (shown ∙ e)) ∙ ap (λ (r : Round). length r.finished) (sym round));
         stopped = λ some. let old = w.stopped (λ e. some (shown ∙ e)) in let same = ap (λ (r : Round). r.stopped) (sym round) in
             ((λ e. other stopped_at (λ e. omega arith) ∙ old.0 (same ∙ e)), (λ e. other stopped_at (λ e. omega arith) ∙ old.1 (same ∙ e)));
-        counters = λ n e. counters_stay t s s' ws (set ws barrier_at x) n (other remainder_at (λ z. omega arith)) (λ i lt. other (range_at i) (λ z. omega arith))
+        counters = λ n e. counters_stay t s s' ws (set ws barrier_at x) n
+            (other remainder_at (λ z. omega arith)) (λ i lt. other (range_at i) (λ z. omega arith))
             (λ k f. freed s s' (sym round) taken k f) (λ k f. freed s' s round (λ a k. sym (taken a k)) k f)
             (λ e. sym (ap (λ (r : Round). r.stopped) round) ∙ e) (w.counters n (sym shown ∙ e));
         barren = λ z. shown ∙ w.barren z;

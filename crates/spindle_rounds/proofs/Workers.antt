@@ -1,5 +1,5 @@
 -- What a round that has ended leaves a party which worked in it.
-use Rattle.std.proofs.Common.{◌≡◌, ℕ, ◌+◌, ◌∷◌, false, ap, ◌∙◌, arith}
+use Rattle.std.proofs.Common.{◌≡◌, ℕ, ◌+◌, ◌∷◌, Bool, false, ap, ◌∙◌, arith}
 use Rattle.atomic_table.specs.Table.{Me}
 use Rattle.spindle_rounds.specs.declared.round_table.view.Known.{Known}
 use Rattle.spindle_rounds.specs.declared.round_table.view.Standing.{Standing}
@@ -9,7 +9,7 @@ use Rattle.spindle_rounds.specs.RoundRule.{Showed}
 use Rattle.spindle_rounds.specs.RoundSteps.{unknown, round_of}
 use Rattle.spindle_rounds.specs.RoundViews.{Onward, shown_of, published_of}
 use Rattle.spindle_rounds.specs.Passing.{InNext}
-use Rattle.spindle_rounds.specs.Working.{IsIdle, HasPassed, PlayedRound}
+use Rattle.spindle_rounds.specs.Working.{IsIdle, HasPassed, PlayedRoundOf}
 use Rattle.spindle_rounds.proofs.BarrierClients.{moved_standing, moved_known, moved_claim, moved_leader, moved_deeds}
 
 -- the round's end, after work in the round
@@ -25,7 +25,7 @@ passed_after v u w on idle next = let st : Standing = Inside (round_of u.0.stand
     }
 
 -- and after a publish before it
-pub played_after : {S N : Type 0} (n : ℕ) (m v : View N) (u w : Me S (View N)) → (v.standing ≡ m.standing) ×
-    (published_of v.trail ≡ Showed (round_of m.standing) n false ∷ published_of m.trail) → Onward v u.0 → IsIdle u.0 → InNext u w → PlayedRound n m w.0
-played_after n m v u w shown on idle next = let h = passed_after v u w on idle next in
+pub played_after : {S N : Type 0} (n : ℕ) (may_stop : Bool) (m v : View N) (u w : Me S (View N)) → (v.standing ≡ m.standing) ×
+    (published_of v.trail ≡ Showed (round_of m.standing) n may_stop ∷ published_of m.trail) → Onward v u.0 → IsIdle u.0 → InNext u w → PlayedRoundOf n may_stop m w.0
+played_after n may_stop m v u w shown on idle next = let h = passed_after v u w on idle next in
     (h.published ∙ shown.1, h.standing ∙ ap (λ (z : Standing). Inside (round_of z + 1)) shown.0)

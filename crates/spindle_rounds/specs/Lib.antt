@@ -24,4 +24,5 @@ pub mod PartyWork
 pub mod Parties
 pub mod PieceRounds
 pub mod SlotLoops
+pub mod Leftovers
 pub mod SlotHands

@@ -156,10 +156,6 @@ module _ {S N : Type 0} where
   abbrev pub SeenBy : Bool → Me S (View N) → Me S (View N) → Type 0
   SeenBy stopped m w = w ≡ (seeing (if stopped then 1 else 0) m.0, m.1)
 
-  -- what is left: the i-th range, or the remainder where i is t
-  abbrev pub LeftOverBy : ℕ → ℕ → ℕ → Me S (View N) → Me S (View N) → Type 0
-  LeftOverBy t i found m w = (i < t → w ≡ (searching i found m.0, m.1)) × (i ≡ t → w ≡ (reading_remainder found m.0, m.1))
-
   -- a share goes back into the range i
   abbrev pub PutBy : ℕ → PutBack → Span → Span → Me S (View N) → Me S (View N) → Type 0
   PutBy i back.Put share left m w = (n : ℕ) × (w ≡ (putting_back (range_at i) n (searching i n m.0), m.1)) × (end_of n ≤ start_of n) × (left.from ≡ share.to) ×

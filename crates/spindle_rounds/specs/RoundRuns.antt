@@ -18,6 +18,7 @@ use Rattle.spindle_rounds.specs.Words.{one_member, one_party, high_half, most_pa
 use Rattle.spindle_rounds.specs.Words.{count_of, most_of, sense_of, start_of, end_of, range_word}
 use Rattle.spindle_rounds.specs.RoundSteps.{outsider, new_view, exit_word, turned_word, stolen_from, number_or}
 use Rattle.spindle_rounds.specs.RoundTells as tells
+use Rattle.spindle_rounds.specs.Leftovers.{FindTells, FindRestTells}
 use Rattle.spindle_rounds.specs.RoundConditions.{MayFill, MayPublish, MayClaim, MayBegin, MayFinish, MayGive}
 use Rattle.spindle_rounds.specs.SlotSteps.{TakeOutTells, GiveBackTells}
 use Rattle.spindle_rounds.specs.RoundConditions.{MayTakeOut, MayGiveBack}
@@ -97,9 +98,9 @@ module _ {S N : Type 0} (D : Discipline S N) (t slots id : ℕ) (me : Me S (View
         Exchange (range_at i) range (range_word (start_of range) k)
         (claim_of id k (last_half range)) (tells.StealTells D)
     -- the last number of the remainder
-    pub claim_rest : (rest : ℕ) → 0 < rest → MayClaim me.0
-        → let k : ℕ = number_or me.0.known.number - rest in
-        Exchange remainder_at rest (rest - 1) (claim_of id k (only k)) (tells.RemainderClaimTells D)
+    pub claim_remainder : (left : ℕ) → 0 < left → MayClaim me.0
+        → let k : ℕ = number_or me.0.known.number - left in
+        Exchange remainder_at left (left - 1) (claim_of id k (only k)) (tells.RemainderClaimTells D)
     -- it begins the first number of its share, and finishes a number
     pub begin_share : (i x : ℕ) → t ≤ i → me.0.from < me.0.to → MayBegin me.0
         → Store (range_at i) x (Begin id me.0.from ∷ []) (tells.ShareTells D)
@@ -132,6 +133,9 @@ module _ {S N : Type 0} (D : Discipline S N) (t slots id : ℕ) (me : Me S (View
     pub recall : PlainLoad published_at tells.RecallTells
     pub search : (i : ℕ) → i < t → PlainLoad (range_at i) tells.SearchTells
     pub read_rest : PlainLoad remainder_at tells.RemainderReadTells
+    -- anyone asks what is left in a range, or in the remainder
+    pub find : (i : ℕ) → i < t → PlainLoad (range_at i) FindTells
+    pub find_rest : PlainLoad remainder_at FindRestTells
     -- anyone splits a seat off, and the table shows the same run
     pub split : (run : List Event) → Splits (ShownBy D t run) id me.0 me.0 (new_view me.0)
 

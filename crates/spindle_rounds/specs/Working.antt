@@ -14,9 +14,14 @@ OnTask n may_stop v = AtWork n may_stop v × (may_stop ≡ false → v.known.see
 abbrev pub IsIdle : {N : Type 0} → View N → Type 0
 IsIdle v = (v.claim ≡ None) × (v.to ≤ v.from)
 
--- one round more was published, of n jobs, and it has ended
+-- one round more was published, of n jobs, which may stop or not, and it has ended
+abbrev pub PlayedRoundOf : {N : Type 0} → ℕ → Bool → View N → View N → Type 0
+PlayedRoundOf n may_stop v w = (published_of w.trail ≡ Showed (round_of v.standing) n may_stop ∷ published_of v.trail)
+    × (w.standing ≡ Inside (round_of v.standing + 1))
+
+-- the same of a round that can't stop
 abbrev pub PlayedRound : {N : Type 0} → ℕ → View N → View N → Type 0
-PlayedRound n v w = (published_of w.trail ≡ Showed (round_of v.standing) n false ∷ published_of v.trail) × (w.standing ≡ Inside (round_of v.standing + 1))
+PlayedRound n v w = PlayedRoundOf n false v w
 
 -- its round has ended: it is inside the next with nothing to finish, and nothing more was published
 pub record HasPassed {N : Type 0} (v w : View N) : Type 0 where

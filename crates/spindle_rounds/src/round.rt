@@ -14,6 +14,7 @@ pub mod claiming;
 pub mod collecting;
 pub mod finishing;
 pub mod holding;
+pub mod leftovers;
 pub mod party;
 pub mod pieces;
 pub mod publishing;

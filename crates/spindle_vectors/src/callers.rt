@@ -3,16 +3,14 @@ ghost use Rattle.std.specs.Prelude.{◌≡◌, ◌+◌, ◌*◌, ◌<◌, ◌≤
 ghost use Rattle.std.specs.List.{AllZip};
 ghost use Rattle.std.proofs.Common.{rules};
 ghost use Rattle.spindle.specs.Rounds.{job_count};
-ghost use Rattle.spindle_parts.specs.Pieces.{joined};
-ghost use Rattle.spindle_vectors.specs.Callers.{AreAllOf, IsFunction, PublishedTwice, JobsDiffer};
+ghost use Rattle.spindle_vectors.specs.Callers.{IsFunction, PublishedTwice, JobsDiffer};
 
 use crate::chunks::AddOne;
-use spindle::cut::piece_lengths;
 use spindle::lock::{End, Gate, Job, JobCx, Leader, Limits, Nest, NoGate, Opens, Pool};
 use spindle::round_table::runs::every_moment;
 use spindle::round_table::slots::Slots;
-use spindle::{Fault, ListRun, SharedList, for_each, with_lock};
-use std::alloc::{AllocError, Global};
+use spindle::{Fault, SharedList, for_each, gathered, with_lock};
+use std::alloc::Global;
 use std::sync::Wait;
 use std::thread::Threads;
 
@@ -100,30 +98,9 @@ pub fn one_more_each<G: Gate + Sync, H: Threads + Wait + Sync>(
     requires { 0 < jobs }
     ensures { IfOk result (λ sums. sums.items ≡ map (λ x. x + 1) numbers.items) }
 {
-    let chunks = chunks_of(alloc, numbers, jobs)?;
+    let chunks = SharedList::from_vec(alloc, numbers)?.share_out_evenly(alloc, jobs)?;
     let sums = outputs_of::<AddOne, _, _>(rt, alloc, pool, jobs, chunks)?;
-    all_numbers(alloc, sums)
-}
-
-/// The numbers as chunks of one shared list, as many as jobs; no number is copied.
-fn chunks_of(alloc: Global, numbers: Vec<u32>, jobs: usize) -> Result<Vec<ListRun<u32>>, Fault>
-    requires { 0 < jobs }
-    ensures { IfOk result (λ chunks. joined chunks.items ≡ numbers.items) }
-{
-    let lengths = piece_lengths(alloc, numbers.len(), jobs)?;
-    let table = SharedList::from_vec(alloc, numbers)?;
-    table.share_out(alloc, lengths.as_slice())
-}
-
-/// The numbers of all the lists, in order, or the first refusal among them.
-fn all_numbers(alloc: Global, lists: Vec<Result<Vec<u64>, AllocError>>) -> Result<Vec<u64>, Fault>
-    ensures { IfOk result (λ numbers. AreAllOf lists.items numbers.items) }
-{
-    let mut all = Vec::new(alloc);
-    for list in lists {
-        all.append(&mut list?)?;
-    }
-    Ok(all)
+    Ok(gathered(alloc, sums)??)
 }
 
 /// The outputs of a list in a lock of one thread, and those of an equal list in a lock of the pool. Where each input has

@@ -1,27 +1,32 @@
-//! Rows of what gates see of jobs: each job has its two calls once, in their order, and the jobs of one round meet where
-//! there are threads for them.
+//! Rows of what gates see of jobs: each job runs between its two calls, which it has once and in their order, and the
+//! jobs of one round meet where there are threads for them.
 
-use crate::gates::{Marks, Meeting, Watching};
+use crate::gates::{Marks, Meetings, Noted, Noting, Watching};
 use crate::jobs::{Place, Square};
 use spindle::lock::{Limits, Pool};
-use spindle::{DEFAULT_PAUSE_LIMIT, DEFAULT_SPIN_LIMIT, Fault, with_lock};
-use std::sync::atomic::{AtomicUsize, Ordering};
+use spindle::{Fault, with_lock};
+use std::alloc::Global;
+use std::sync::Arc;
 
-const LIMITS: Limits = Limits {
-    spin: DEFAULT_SPIN_LIMIT,
-    pause: DEFAULT_PAUSE_LIMIT,
-};
+// Four jobs, each of which notes its run.
+fn four_jobs(alloc: Global, marks: &Arc<Marks>) -> Result<Vec<Noted>, Fault> {
+    let mut jobs = Vec::with_capacity(alloc, 4)?;
+    for number in 0..4 {
+        jobs.push(Noted::new(marks.clone()?, number))?;
+    }
+    Ok(jobs)
+}
 
 #[test]
-fn each_job_begins_before_it_is_done(rt: HostRuntime) -> Result<(), Fault> {
+fn each_job_runs_between_its_calls(rt: HostRuntime) -> Result<(), Fault> {
     let alloc = rt.alloc();
     for threads in [1, 4] {
-        let marks = Marks::new();
-        let pool = Pool::new(4, LIMITS, Watching { marks: &marks });
-        with_lock::<Square, _, _, _, _, _>(&rt, alloc, &pool, threads, |leader| {
+        let marks = Arc::new(alloc, Marks::new())?;
+        let pool = Pool::new(4, Limits::new(), Watching { marks: &*marks });
+        with_lock::<Noting, _, _, _, _, _>(&rt, alloc, &pool, threads, |leader| {
             for round in 1..=25usize {
-                let squares = leader.for_each_raw(&rt, alloc, 4)?;
-                assert_eq!(rt; squares, vec![in alloc; 0, 1, 4, 9]?);
+                let numbers = leader.for_each(&rt, alloc, 4, four_jobs(alloc, &marks)?)?;
+                assert_eq!(rt; numbers, vec![in alloc; 0, 1, 2, 3]?);
                 for job in 0..4 {
                     assert_eq!(rt; marks.runs_of(job), round);
                 }
@@ -36,15 +41,8 @@ fn each_job_begins_before_it_is_done(rt: HostRuntime) -> Result<(), Fault> {
 #[test]
 fn eight_jobs_of_eight_threads_run_at_once(rt: HostRuntime) -> Result<(), Fault> {
     let alloc = rt.alloc();
-    let begun = AtomicUsize::new(0);
-    let missed = AtomicUsize::new(0);
-    let gate = Meeting {
-        jobs: 8,
-        begun: &begun,
-        missed: &missed,
-    };
-    let pool = Pool::new(8, LIMITS, gate);
-    with_lock::<Place, _, _, _, _, _>(&rt, alloc, &pool, 8, |leader| {
+    let meetings = Meetings::new();
+    with_lock::<Place, _, _, _, _, _>(&rt, alloc, &meetings.pool(8), 8, |leader| {
         for _ in 0..3 {
             let places = leader.for_each_raw(&rt, alloc, 8)?;
             for thread in 0..8 {
@@ -54,23 +52,15 @@ fn eight_jobs_of_eight_threads_run_at_once(rt: HostRuntime) -> Result<(), Fault>
         }
         Ok::<(), Fault>(())
     })??;
-    assert_eq!(rt; begun.load(Ordering::SeqCst), 24);
-    assert_eq!(rt; missed.load(Ordering::SeqCst), 0);
+    assert_eq!(rt; meetings.counts(), (24, 0));
     Ok(())
 }
 
 #[test]
 fn helpers_stay_after_a_hundred_rounds(rt: HostRuntime) -> Result<(), Fault> {
     let alloc = rt.alloc();
-    let begun = AtomicUsize::new(0);
-    let missed = AtomicUsize::new(0);
-    let gate = Meeting {
-        jobs: 4,
-        begun: &begun,
-        missed: &missed,
-    };
-    let pool = Pool::new(4, LIMITS, gate);
-    with_lock::<Square, _, _, _, _, _>(&rt, alloc, &pool, 4, |leader| {
+    let meetings = Meetings::new();
+    with_lock::<Square, _, _, _, _, _>(&rt, alloc, &meetings.pool(4), 4, |leader| {
         for _ in 0..101 {
             let squares = leader.for_each_raw(&rt, alloc, 4)?;
             assert_eq!(rt; squares, vec![in alloc; 0, 1, 4, 9]?);
@@ -78,7 +68,6 @@ fn helpers_stay_after_a_hundred_rounds(rt: HostRuntime) -> Result<(), Fault> {
         }
         Ok::<(), Fault>(())
     })??;
-    assert_eq!(rt; begun.load(Ordering::SeqCst), 404);
-    assert_eq!(rt; missed.load(Ordering::SeqCst), 0);
+    assert_eq!(rt; meetings.counts(), (404, 0));
     Ok(())
 }

@@ -1,9 +1,17 @@
-//! Gates that see how jobs run: one at which the jobs of a round meet, and one that notes each job's calls.
+//! Gates that see how jobs run: one at which the jobs of a round meet, and one that notes each job's calls, with a job
+//! that notes its own run between them.
+ghost use Rattle.std.specs.Prelude.{◌≡◌, ℕ, ◌<◌, ◌==◌};
+ghost use Rattle.std.specs.Cmp.Rules.{comparing};
+ghost use Rattle.std.proofs.Common.{rules};
 
-use spindle::lock::Gate;
+use spindle::lock::{End, Gate, Job, JobCx, Limits, Pool};
+use std::alloc::Global;
 use std::hint::spin_loop;
+use std::marker::Model;
 use std::sync::atomic::{AtomicUsize, Ordering};
+use std::sync::{Arc, Wait};
 use std::thread;
+use std::thread::Threads;
 
 /// A thread waits for the others for at most so many turns.
 const MOST_TURNS: usize = 10000000;
@@ -11,21 +19,57 @@ const MOST_TURNS: usize = 10000000;
 /// After so many of them it gives its core to the others.
 const TURNS_BEFORE_A_YIELD: usize = 1000;
 
+/// How many jobs have begun at a gate where they meet, and how many of them waited for the others in vain.
+#[derive(Drop)]
+pub struct Meetings {
+    begun: AtomicUsize,
+    missed: AtomicUsize,
+}
+
+impl Meetings {
+    /// No job has begun.
+    pub fn new() -> Meetings {
+        Meetings {
+            begun: AtomicUsize::new(0),
+            missed: AtomicUsize::new(0),
+        }
+    }
+
+    /// The gate at which so many jobs of a round meet.
+    pub fn of_jobs(&self, jobs: usize) -> Meeting {
+        Meeting { jobs, counts: self }
+    }
+
+    /// A pool of so many threads, at whose gate as many jobs of a round meet.
+    pub fn pool(&self, threads: usize) -> Pool<Meeting>
+        requires { 0 < threads }
+    {
+        Pool::new(threads, Limits::new(), self.of_jobs(threads))
+    }
+
+    /// The jobs that have begun, and those of them that missed the others.
+    pub fn counts(&self) -> (usize, usize) {
+        (
+            self.begun.load(Ordering::SeqCst),
+            self.missed.load(Ordering::SeqCst),
+        )
+    }
+}
+
 /// A gate at which the jobs of a round wait until all of them have begun.
 #[derive(Drop)]
 pub struct Meeting<'a> {
-    pub jobs: usize,
-    pub begun: &'a AtomicUsize,
-    pub missed: &'a AtomicUsize,
+    jobs: usize,
+    counts: &'a Meetings,
 }
 
 impl<'a> Gate for Meeting<'a> {
     fn begun(&self, _number: usize) {
         let jobs = self.jobs.max(1);
-        let before = self.begun.fetch_add(1, Ordering::SeqCst);
+        let before = self.counts.begun.fetch_add(1, Ordering::SeqCst);
         let all = (before / jobs).wrapping_add(1).wrapping_mul(jobs);
         for turn in 0..MOST_TURNS {
-            if self.begun.load(Ordering::SeqCst) >= all {
+            if self.counts.begun.load(Ordering::SeqCst) >= all {
                 return;
             }
             if turn % TURNS_BEFORE_A_YIELD == 0 {
@@ -33,31 +77,38 @@ impl<'a> Gate for Meeting<'a> {
             }
             spin_loop();
         }
-        self.missed.fetch_add(1, Ordering::SeqCst);
+        self.counts.missed.fetch_add(1, Ordering::SeqCst);
     }
 
     fn done(&self, _number: usize) {}
 }
 
-/// What was noted of four jobs: whether each runs now, and how often it did; and how often that was wrong.
+/// What was noted of four jobs: where each stands, and how often it was done; and how often a note was out of order.
 #[derive(Drop)]
 pub struct Marks {
-    running: [AtomicUsize; 4],
+    stages: [AtomicUsize; 4],
     runs: [AtomicUsize; 4],
     faults: AtomicUsize,
 }
+
+// The stages of a job: it doesn't run, its gate was told that it begins, and it has noted that it runs.
+const IDLE: usize = 0;
+
+const BEGUN: usize = 1;
+
+const RUN: usize = 2;
 
 impl Marks {
     /// No job has run.
     pub fn new() -> Marks {
         Marks {
-            running: zeros(),
+            stages: zeros(),
             runs: zeros(),
             faults: AtomicUsize::new(0),
         }
     }
 
-    /// How many calls came out of their order, or for another job than these four.
+    /// How many notes came out of their order, or for another job than these four.
     pub fn faults(&self) -> usize {
         self.faults.load(Ordering::SeqCst)
     }
@@ -68,15 +119,11 @@ impl Marks {
         runs[number.min(3)].load(Ordering::SeqCst)
     }
 
-    // The job goes from one state to another: 0 where it doesn't run, 1 where it does.
+    // The job goes from one stage to the next; a fault where it stood at another.
     fn turn(&self, number: usize, from: usize, to: usize) {
-        let running = &self.running[..];
-        let found = running[number.min(3)].swap(to, Ordering::SeqCst);
-        self.expect(number <= 3 && found == from);
-    }
-
-    fn expect(&self, right: bool) {
-        if !right {
+        let stages = &self.stages[..];
+        let found = stages[number.min(3)].swap(to, Ordering::SeqCst);
+        if number > 3 || found != from {
             self.faults.fetch_add(1, Ordering::SeqCst);
         }
     }
@@ -91,7 +138,8 @@ fn zeros() -> [AtomicUsize; 4] {
     ]
 }
 
-/// A gate that notes its calls: a `done` before its `begun`, and a second call of either, is a fault.
+/// A gate that notes its calls. A job's note that isn't between its `begun` and its `done` is a fault, and so is a
+/// `done` before its `begun`, and a second one of either.
 #[derive(Drop)]
 pub struct Watching<'a> {
     pub marks: &'a Marks,
@@ -99,11 +147,73 @@ pub struct Watching<'a> {
 
 impl<'a> Gate for Watching<'a> {
     fn begun(&self, number: usize) {
-        self.marks.turn(number, 0, 1);
+        self.marks.turn(number, IDLE, BEGUN);
     }
 
     fn done(&self, number: usize) {
-        self.marks.turn(number, 1, 0);
+        self.marks.turn(number, RUN, IDLE);
         self.marks.runs[..][number.min(3)].fetch_add(1, Ordering::SeqCst);
     }
+}
+
+/// A job's number, and where the job notes that it runs. Contracts see the number alone.
+#[derive(Clone, Drop)]
+pub struct Noted {
+    marks: Arc<Marks>,
+    number: usize,
+}
+
+impl Model for Noted {
+    ghost Value = { ℕ };
+
+    ghost view = { λ noted. noted.number };
+}
+
+impl Noted {
+    /// The job of this number, which notes its run there.
+    pub fn new(marks: Arc<Marks>, number: usize) -> Noted
+        ensures { result ≡ number }
+    {
+        Noted { marks, number }
+    }
+}
+
+impl PartialEq for Noted {
+    ghost eq = { ◌==◌ };
+
+    ghost laws = { Prim.search (comparing, rules) };
+
+    fn eq(&self, other: &Noted) -> bool {
+        self.number == other.number
+    }
+}
+
+impl Eq for Noted {
+    ghost laws = { Prim.search (comparing, rules) };
+}
+
+/// Notes that it runs, and answers its number.
+pub struct Noting;
+
+impl Job for Noting {
+    type In = Noted;
+
+    type Out = usize;
+
+    type Inner = End;
+
+    ghost meets = { λ x y. y ≡ x };
+
+    fn run<H: Threads + Wait + Sync>(
+        _rt: &H,
+        _alloc: Global,
+        input: &Noted,
+        _cx: &mut JobCx<End>,
+    ) -> usize {
+        let marks: &Marks = &*input.marks;
+        marks.turn(input.number, BEGUN, RUN);
+        input.number
+    }
+
+    ghost equal_is_same = { Prim.search rules };
 }

@@ -45,7 +45,8 @@ impl Job for Place {
 
     ghost use Rattle.std.specs.Prelude.{◌<◌, ◌≤◌, IfSome};
 
-    ghost meets = { λ _ place. (0 < place.1) × (place.1 ≤ place.2) × IfSome place.0 (λ i. i < place.2) };
+    ghost meets = { λ _ place. (0 < place.1) × (place.1 ≤ place.2)
+        × IfSome place.0 (λ i. i < place.2) };
 
     fn run<H: Threads + Wait + Sync>(
         _rt: &H,

@@ -3,18 +3,13 @@
 use crate::callers;
 use crate::jobs::{Calls, Counting, Nothing, Place, Square, Zero};
 use spindle::lock::{Limits, NoGate, Pool};
-use spindle::{DEFAULT_PAUSE_LIMIT, DEFAULT_SPIN_LIMIT, Fault, with_lock};
-
-const LIMITS: Limits = Limits {
-    spin: DEFAULT_SPIN_LIMIT,
-    pause: DEFAULT_PAUSE_LIMIT,
-};
+use spindle::{Fault, with_lock};
 
 #[test]
 fn ten_numbers_are_squared(rt: HostRuntime) -> Result<(), Fault> {
     let alloc = rt.alloc();
     for (threads, jobs) in [(4, 4), (1, 4), (4, 1), (4, 10), (4, 11), (64, 3)] {
-        let pool = Pool::new(threads, LIMITS, NoGate);
+        let pool = Pool::new(threads, Limits::new(), NoGate);
         let numbers = vec![in alloc; 0, 1, 2, 3, 4, 5, 6, 7, 8, 9]?;
         let squares = callers::squares(&rt, alloc, &pool, jobs, numbers)?;
         assert_eq!(rt;
@@ -28,7 +23,7 @@ fn ten_numbers_are_squared(rt: HostRuntime) -> Result<(), Fault> {
 #[test]
 fn a_lock_in_a_lock_answers_128_zeros(rt: HostRuntime) -> Result<(), Fault> {
     let alloc = rt.alloc();
-    let pool = Pool::new(16, LIMITS, NoGate);
+    let pool = Pool::new(16, Limits::new(), NoGate);
     let ones = Vec::from_elem(alloc, 1u64, 128)?;
     let zeros = with_lock::<Zero, _, _, _, _, _>(&rt, alloc, &pool, 16, |leader| {
         leader.with_lock(4, |leader| leader.for_each(&rt, alloc, 4, ones))
@@ -40,7 +35,7 @@ fn a_lock_in_a_lock_answers_128_zeros(rt: HostRuntime) -> Result<(), Fault> {
 #[test]
 fn two_units_answer_two_units(rt: HostRuntime) -> Result<(), Fault> {
     let alloc = rt.alloc();
-    let pool = Pool::new(16, LIMITS, NoGate);
+    let pool = Pool::new(16, Limits::new(), NoGate);
     let units = with_lock::<Nothing, _, _, _, _, _>(&rt, alloc, &pool, 8, |leader| {
         leader.for_each(&rt, alloc, 2, vec![in alloc; (), ()]?)
     })??;
@@ -53,7 +48,7 @@ fn a_leader_has_no_number_between_rounds_nor_in_a_round_of_one_job(
     rt: HostRuntime,
 ) -> Result<(), Fault> {
     let alloc = rt.alloc();
-    let pool = Pool::with_starts(4, LIMITS, NoGate, 0);
+    let pool = Pool::with_starts(4, Limits::new(), NoGate, 0);
     with_lock::<Place, _, _, _, _, _>(&rt, alloc, &pool, 16, |leader| {
         assert_eq!(rt; leader.max_num_threads(), 4);
         assert_eq!(rt; leader.current_thread_index(), None);
@@ -68,7 +63,7 @@ fn a_leader_has_no_number_between_rounds_nor_in_a_round_of_one_job(
 #[test]
 fn a_leader_alone_has_number_0_in_a_round_of_two_jobs(rt: HostRuntime) -> Result<(), Fault> {
     let alloc = rt.alloc();
-    let pool = Pool::new(16, LIMITS, NoGate);
+    let pool = Pool::new(16, Limits::new(), NoGate);
     let places = with_lock::<Place, _, _, _, _, _>(&rt, alloc, &pool, 1, |leader| {
         assert_eq!(rt; leader.current_num_threads(), 1);
         leader.for_each(&rt, alloc, 2, vec![in alloc; 0, 1]?)
@@ -81,7 +76,7 @@ fn a_leader_alone_has_number_0_in_a_round_of_two_jobs(rt: HostRuntime) -> Result
 fn one_item_is_one_direct_job(rt: HostRuntime) -> Result<(), Fault> {
     let alloc = rt.alloc();
     let calls = Calls::new();
-    let pool = Pool::with_starts(16, LIMITS, Counting { calls: &calls }, 0);
+    let pool = Pool::with_starts(16, Limits::new(), Counting { calls: &calls }, 0);
     let squares = with_lock::<Square, _, _, _, _, _>(&rt, alloc, &pool, 16, |leader| {
         leader.for_each(&rt, alloc, 8, vec![in alloc; 7]?)
     })??;
@@ -99,7 +94,7 @@ fn one_item_is_one_direct_job(rt: HostRuntime) -> Result<(), Fault> {
 fn more_jobs_than_items_are_as_many_as_items(rt: HostRuntime) -> Result<(), Fault> {
     let alloc = rt.alloc();
     let calls = Calls::new();
-    let pool = Pool::new(16, LIMITS, Counting { calls: &calls });
+    let pool = Pool::new(16, Limits::new(), Counting { calls: &calls });
     let squares = with_lock::<Square, _, _, _, _, _>(&rt, alloc, &pool, 16, |leader| {
         leader.for_each(&rt, alloc, usize::MAX, vec![in alloc; 1, 2, 3]?)
     })??;
@@ -112,7 +107,7 @@ fn more_jobs_than_items_are_as_many_as_items(rt: HostRuntime) -> Result<(), Faul
 fn the_gate_is_called_once_before_and_once_after_each_job(rt: HostRuntime) -> Result<(), Fault> {
     let alloc = rt.alloc();
     let calls = Calls::new();
-    let pool = Pool::new(4, LIMITS, Counting { calls: &calls });
+    let pool = Pool::new(4, Limits::new(), Counting { calls: &calls });
     let numbers = vec![in alloc; 0, 1, 2, 3, 4, 5, 6, 7, 8, 9]?;
     with_lock::<Square, _, _, _, _, _>(&rt, alloc, &pool, 4, |leader| {
         leader.for_each(&rt, alloc, 4, numbers)
@@ -127,7 +122,7 @@ fn the_gate_is_called_once_before_and_once_after_each_job(rt: HostRuntime) -> Re
 #[test]
 fn numbers_alone_are_items_from_0(rt: HostRuntime) -> Result<(), Fault> {
     let alloc = rt.alloc();
-    let pool = Pool::new(2, LIMITS, NoGate);
+    let pool = Pool::new(2, Limits::new(), NoGate);
     with_lock::<Square, _, _, _, _, _>(&rt, alloc, &pool, 2, |leader| {
         let squares = leader.for_each_raw(&rt, alloc, 4)?;
         assert_eq!(rt; squares, vec![in alloc; 0, 1, 4, 9]?);
@@ -144,7 +139,7 @@ fn a_lock_has_the_least_of_three_numbers_of_threads(rt: HostRuntime) -> Result<(
         (40000, 40000, 32767),
         (1, 1, 1),
     ] {
-        let pool = Pool::with_starts(pool_threads, LIMITS, NoGate, 0);
+        let pool = Pool::with_starts(pool_threads, Limits::new(), NoGate, 0);
         assert_eq!(rt; pool.current_num_threads(), pool_threads);
         assert_eq!(rt; pool.max_num_threads(), pool_threads);
         assert_eq!(rt; pool.current_thread_index(), None);
@@ -160,7 +155,7 @@ fn a_lock_has_the_least_of_three_numbers_of_threads(rt: HostRuntime) -> Result<(
 fn fewer_starts_change_no_answer(rt: HostRuntime) -> Result<(), Fault> {
     let alloc = rt.alloc();
     for starts in 0..4 {
-        let pool = Pool::with_starts(4, LIMITS, NoGate, starts);
+        let pool = Pool::with_starts(4, Limits::new(), NoGate, starts);
         let numbers = vec![in alloc; 0, 1, 2, 3, 4, 5, 6, 7, 8, 9]?;
         let squares = callers::squares(&rt, alloc, &pool, 4, numbers)?;
         assert_eq!(rt;
@@ -174,7 +169,7 @@ fn fewer_starts_change_no_answer(rt: HostRuntime) -> Result<(), Fault> {
 #[test]
 fn chunks_of_a_list_become_one_more(rt: HostRuntime) -> Result<(), Fault> {
     let alloc = rt.alloc();
-    let pool = Pool::new(4, LIMITS, NoGate);
+    let pool = Pool::new(4, Limits::new(), NoGate);
     let numbers = vec![in alloc; 3, 1, 4, 1, 5, u32::MAX, 2]?;
     let sums = callers::one_more_each(&rt, alloc, &pool, 3, numbers)?;
     assert_eq!(rt; sums, vec![in alloc; 4, 2, 5, 2, 6, 4294967296, 3]?);
@@ -186,7 +181,7 @@ fn chunks_of_a_list_become_one_more(rt: HostRuntime) -> Result<(), Fault> {
 #[test]
 fn one_thread_and_many_answer_alike(rt: HostRuntime) -> Result<(), Fault> {
     let alloc = rt.alloc();
-    let pool = Pool::new(4, LIMITS, NoGate);
+    let pool = Pool::new(4, Limits::new(), NoGate);
     let numbers = vec![in alloc; 2, 3, 5]?;
     let equal_numbers = vec![in alloc; 2, 3, 5]?;
     let (by_one, by_many) = callers::outputs_twice::<Square, _, _>(
@@ -205,7 +200,7 @@ fn one_thread_and_many_answer_alike(rt: HostRuntime) -> Result<(), Fault> {
 #[test]
 fn two_rounds_of_one_leader_answer_both_lists(rt: HostRuntime) -> Result<(), Fault> {
     let alloc = rt.alloc();
-    let pool = Pool::new(4, LIMITS, NoGate);
+    let pool = Pool::new(4, Limits::new(), NoGate);
     let (first, second) = with_lock::<Square, _, _, _, _, _>(&rt, alloc, &pool, 4, |leader| {
         let first = vec![in alloc; 2, 3, 5]?;
         let second = vec![in alloc; 7, 11]?;

@@ -7,17 +7,12 @@ ghost use Rattle.std.specs.Prelude.{◌<◌};
 
 use crate::jobs::{Calls, Counting, Square};
 use spindle::lock::{Leader, Limits, Pool};
-use spindle::{DEFAULT_PAUSE_LIMIT, DEFAULT_SPIN_LIMIT, Fault, with_lock};
+use spindle::{Fault, with_lock};
 use std::alloc::Global;
 use std::process::Abort;
 use std::sync::Wait;
 use std::sync::atomic::{AtomicUsize, Ordering};
 use std::thread::Threads;
-
-const LIMITS: Limits = Limits {
-    spin: DEFAULT_SPIN_LIMIT,
-    pause: DEFAULT_PAUSE_LIMIT,
-};
 
 /// The items of a round; where memory for them is refused once, it is asked for again.
 pub fn seven_items(alloc: Global) -> Result<Vec<usize>, Fault> {
@@ -34,17 +29,51 @@ pub fn are_seven_squares(squares: &[u128]) -> bool {
 
 #[test]
 fn refused_round_has_run_no_job(rt: HostRuntime) -> Result<(), Fault> {
-    let alloc = rt.alloc();
     let calls = Calls::new();
+    let pool = Pool::new(4, Limits::new(), Counting { calls: &calls });
+    square_in_three_rounds(&rt, rt.alloc(), &calls, pool, 4)
+}
+
+#[test]
+fn refused_round_of_one_thread_has_run_no_job(rt: HostRuntime) -> Result<(), Fault> {
+    let calls = Calls::new();
+    let pool = Pool::new(4, Limits::new(), Counting { calls: &calls });
+    square_in_three_rounds(&rt, rt.alloc(), &calls, pool, 1)
+}
+
+#[test]
+fn refused_round_has_run_no_job_where_fewer_threads_start(rt: HostRuntime) -> Result<(), Fault> {
+    let calls = Calls::new();
+    let pool = Pool::with_starts(4, Limits::new(), Counting { calls: &calls }, 1);
+    square_in_three_rounds(&rt, rt.alloc(), &calls, pool, 4)
+}
+
+#[test]
+fn refused_round_has_run_no_job_where_no_thread_starts(rt: HostRuntime) -> Result<(), Fault> {
+    let calls = Calls::new();
+    let pool = Pool::with_starts(4, Limits::new(), Counting { calls: &calls }, 0);
+    square_in_three_rounds(&rt, rt.alloc(), &calls, pool, 4)
+}
+
+// Three rounds in a lock of the pool with so many threads at most, whose jobs the pool's gate counts.
+fn square_in_three_rounds<H: Threads + Wait + Abort + Sync>(
+    rt: &H,
+    alloc: Global,
+    calls: &Calls,
+    pool: Pool<Counting>,
+    most: usize,
+) -> Result<(), Fault>
+    requires { 0 < most }
+{
     let opened = AtomicUsize::new(0);
-    let pool = Pool::new(4, LIMITS, Counting { calls: &calls });
-    let answer = with_lock::<Square, _, _, _, _, _>(&rt, alloc, &pool, 4, |leader| {
+    let answer = with_lock::<Square, _, _, _, _, _>(rt, alloc, &pool, most, |leader| {
         opened.fetch_add(1, Ordering::SeqCst);
-        square_seven_items(&rt, alloc, &calls, leader, 1)?;
-        square_seven_items(&rt, alloc, &calls, leader, 3)?;
-        square_seven_items(&rt, alloc, &calls, leader, 7)
+        for jobs in [1, 3, 7] {
+            square_seven_items(rt, alloc, calls, leader, jobs)?;
+        }
+        Ok::<(), Fault>(())
     });
-    unopened_or(&rt, &opened, answer)
+    unopened_or(rt, &opened, answer)
 }
 
 // What the rounds of a lock answered; where the lock was refused, its closure wasn't run.
@@ -69,7 +98,7 @@ fn refused_lock_opens_when_asked_again(rt: HostRuntime) -> Result<(), Fault> {
     let alloc = rt.alloc();
     let calls = Calls::new();
     let opened = AtomicUsize::new(0);
-    let pool = Pool::new(4, LIMITS, Counting { calls: &calls });
+    let pool = Pool::new(4, Limits::new(), Counting { calls: &calls });
     for _ in 0..2 {
         let before = opened.load(Ordering::SeqCst);
         let answer = with_lock::<Square, _, _, _, _, _>(&rt, alloc, &pool, 4, |leader| {
@@ -118,7 +147,7 @@ fn refused_round_over_numbers_has_run_no_job(rt: HostRuntime) -> Result<(), Faul
     let alloc = rt.alloc();
     let calls = Calls::new();
     let opened = AtomicUsize::new(0);
-    let pool = Pool::new(4, LIMITS, Counting { calls: &calls });
+    let pool = Pool::new(4, Limits::new(), Counting { calls: &calls });
     let answer = with_lock::<Square, _, _, _, _, _>(&rt, alloc, &pool, 4, |leader| {
         opened.fetch_add(1, Ordering::SeqCst);
         let squares = match leader.for_each_raw(&rt, alloc, 7) {
@@ -140,7 +169,7 @@ fn refused_round_over_numbers_has_run_no_job(rt: HostRuntime) -> Result<(), Faul
 fn more_numbers_than_memory_holds_are_refused(rt: HostRuntime) -> Result<(), Fault> {
     let alloc = rt.alloc();
     let calls = Calls::new();
-    let pool = Pool::new(4, LIMITS, Counting { calls: &calls });
+    let pool = Pool::new(4, Limits::new(), Counting { calls: &calls });
     with_lock::<Square, _, _, _, _, _>(&rt, alloc, &pool, 4, |leader| {
         let refused = leader.for_each_raw(&rt, alloc, usize::MAX);
         assert!(rt; matches!(refused, Err(Fault::Memory)));
@@ -157,7 +186,7 @@ fn refused_nothing_where_nothing_is_run(rt: HostRuntime) -> Result<(), Fault> {
     let alloc = rt.alloc();
     let calls = Calls::new();
     let opened = AtomicUsize::new(0);
-    let pool = Pool::new(4, LIMITS, Counting { calls: &calls });
+    let pool = Pool::new(4, Limits::new(), Counting { calls: &calls });
     let answer = with_lock::<Square, _, _, _, _, _>(&rt, alloc, &pool, 4, |leader| {
         opened.fetch_add(1, Ordering::SeqCst);
         for jobs in [0, 1, 4, usize::MAX] {

@@ -8,16 +8,11 @@ ghost use Rattle.std.specs.Prelude.{◌<◌};
 
 use crate::jobs::Length;
 use spindle::lock::{Leader, Limits, NoGate, Pool};
-use spindle::{DEFAULT_PAUSE_LIMIT, DEFAULT_SPIN_LIMIT, Fault, SharedList, with_lock};
+use spindle::{Fault, SharedList, with_lock};
 use std::alloc::Global;
 use std::process::Abort;
 use std::sync::Wait;
 use std::thread::Threads;
-
-const LIMITS: Limits = Limits {
-    spin: DEFAULT_SPIN_LIMIT,
-    pause: DEFAULT_PAUSE_LIMIT,
-};
 
 fn three_numbers(alloc: Global) -> Result<SharedList<usize>, Fault> {
     let numbers = vec![in alloc; 5, 6, 7]?;
@@ -81,13 +76,13 @@ fn lists_come_out_again<H: Threads + Wait + Abort + Sync>(
 
 #[test]
 fn refused_items_are_kept_by_no_tray(rt: HostRuntime) -> Result<(), Fault> {
-    let pool = Pool::new(4, LIMITS, NoGate);
+    let pool = Pool::new(4, Limits::new(), NoGate);
     lists_come_out_again(&rt, rt.alloc(), &pool, 4)
 }
 
 #[test]
 fn refused_items_are_kept_by_no_leader_alone(rt: HostRuntime) -> Result<(), Fault> {
-    let pool = Pool::new(4, LIMITS, NoGate);
+    let pool = Pool::new(4, Limits::new(), NoGate);
     lists_come_out_again(&rt, rt.alloc(), &pool, 1)
 }
 
@@ -95,12 +90,12 @@ fn refused_items_are_kept_by_no_leader_alone(rt: HostRuntime) -> Result<(), Faul
 fn refused_items_are_kept_by_no_tray_where_fewer_threads_start(
     rt: HostRuntime,
 ) -> Result<(), Fault> {
-    let pool = Pool::with_starts(4, LIMITS, NoGate, 1);
+    let pool = Pool::with_starts(4, Limits::new(), NoGate, 1);
     lists_come_out_again(&rt, rt.alloc(), &pool, 4)
 }
 
 #[test]
 fn refused_items_are_kept_by_no_tray_where_no_thread_starts(rt: HostRuntime) -> Result<(), Fault> {
-    let pool = Pool::with_starts(4, LIMITS, NoGate, 0);
+    let pool = Pool::with_starts(4, Limits::new(), NoGate, 0);
     lists_come_out_again(&rt, rt.alloc(), &pool, 4)
 }

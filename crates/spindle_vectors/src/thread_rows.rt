@@ -2,16 +2,10 @@
 //! some of whose threads can't be started.
 
 use crate::callers;
-use crate::gates::Meeting;
+use crate::gates::Meetings;
 use crate::jobs::{Calls, Counting, Place, Square};
 use spindle::lock::{Limits, NoGate, Pool};
-use spindle::{DEFAULT_PAUSE_LIMIT, DEFAULT_SPIN_LIMIT, Fault, with_lock};
-use std::sync::atomic::{AtomicUsize, Ordering};
-
-const LIMITS: Limits = Limits {
-    spin: DEFAULT_SPIN_LIMIT,
-    pause: DEFAULT_PAUSE_LIMIT,
-};
+use spindle::{Fault, with_lock};
 
 #[test]
 fn threads_that_sleep_at_once_miss_no_round(rt: HostRuntime) -> Result<(), Fault> {
@@ -47,7 +41,7 @@ fn many_threads_that_sleep_at_once_miss_no_round(rt: HostRuntime) -> Result<(), 
 fn each_job_of_many_threads_passes_the_gate_once(rt: HostRuntime) -> Result<(), Fault> {
     let alloc = rt.alloc();
     let calls = Calls::new();
-    let pool = Pool::new(4, LIMITS, Counting { calls: &calls });
+    let pool = Pool::new(4, Limits::new(), Counting { calls: &calls });
     let numbers = vec![in alloc; 0, 1, 2, 3, 4, 5, 6, 7, 8, 9]?;
     let squares = with_lock::<Square, _, _, _, _, _>(&rt, alloc, &pool, 4, |leader| {
         leader.for_each(&rt, alloc, 4, numbers)
@@ -66,14 +60,8 @@ fn each_job_of_many_threads_passes_the_gate_once(rt: HostRuntime) -> Result<(), 
 #[test]
 fn four_jobs_of_each_round_run_at_once(rt: HostRuntime) -> Result<(), Fault> {
     let alloc = rt.alloc();
-    let begun = AtomicUsize::new(0);
-    let missed = AtomicUsize::new(0);
-    let gate = Meeting {
-        jobs: 4,
-        begun: &begun,
-        missed: &missed,
-    };
-    let pool = Pool::new(4, LIMITS, gate);
+    let meetings = Meetings::new();
+    let pool = meetings.pool(4);
     with_lock::<Square, _, _, _, _, _>(&rt, alloc, &pool, 4, |leader| {
         for _ in 0..3 {
             let squares = leader.for_each(&rt, alloc, 4, vec![in alloc; 0, 1, 2, 3]?)?;
@@ -81,26 +69,19 @@ fn four_jobs_of_each_round_run_at_once(rt: HostRuntime) -> Result<(), Fault> {
         }
         Ok::<(), Fault>(())
     })??;
-    assert_eq!(rt; begun.load(Ordering::SeqCst), 12);
-    assert_eq!(rt; missed.load(Ordering::SeqCst), 0);
+    assert_eq!(rt; meetings.counts(), (12, 0));
     Ok(())
 }
 
 #[test]
 fn four_threads_at_once_have_four_numbers(rt: HostRuntime) -> Result<(), Fault> {
     let alloc = rt.alloc();
-    let begun = AtomicUsize::new(0);
-    let missed = AtomicUsize::new(0);
-    let gate = Meeting {
-        jobs: 4,
-        begun: &begun,
-        missed: &missed,
-    };
-    let pool = Pool::new(4, LIMITS, gate);
+    let meetings = Meetings::new();
+    let pool = meetings.pool(4);
     let places = with_lock::<Place, _, _, _, _, _>(&rt, alloc, &pool, 4, |leader| {
         leader.for_each(&rt, alloc, 4, vec![in alloc; 0, 1, 2, 3]?)
     })??;
-    assert_eq!(rt; missed.load(Ordering::SeqCst), 0);
+    assert_eq!(rt; meetings.counts(), (4, 0));
     for thread in 0..4 {
         let here = places.iter().filter(|place| place.0 == Some(thread));
         assert_eq!(rt; here.count(), 1, "thread {thread}");
@@ -136,7 +117,7 @@ fn a_leader_with_helpers_has_no_number_outside_a_published_round(
     rt: HostRuntime,
 ) -> Result<(), Fault> {
     let alloc = rt.alloc();
-    let pool = Pool::new(4, LIMITS, NoGate);
+    let pool = Pool::new(4, Limits::new(), NoGate);
     with_lock::<Place, _, _, _, _, _>(&rt, alloc, &pool, 16, |leader| {
         for _ in 0..100 {
             assert_eq!(rt; leader.max_num_threads(), 4);
@@ -156,19 +137,13 @@ fn a_leader_with_helpers_has_no_number_outside_a_published_round(
 #[test]
 fn two_jobs_wait_for_each_other(rt: HostRuntime) -> Result<(), Fault> {
     let alloc = rt.alloc();
-    let begun = AtomicUsize::new(0);
-    let missed = AtomicUsize::new(0);
-    let gate = Meeting {
-        jobs: 2,
-        begun: &begun,
-        missed: &missed,
-    };
-    let pool = Pool::new(2, LIMITS, gate);
+    let meetings = Meetings::new();
+    let pool = meetings.pool(2);
     let squares = with_lock::<Square, _, _, _, _, _>(&rt, alloc, &pool, 2, |leader| {
         leader.for_each(&rt, alloc, 2, vec![in alloc; 5, 6]?)
     })??;
     assert_eq!(rt; squares, vec![in alloc; 25, 36]?);
-    assert_eq!(rt; missed.load(Ordering::SeqCst), 0);
+    assert_eq!(rt; meetings.counts(), (2, 0));
     Ok(())
 }
 
@@ -176,7 +151,7 @@ fn two_jobs_wait_for_each_other(rt: HostRuntime) -> Result<(), Fault> {
 fn threads_that_cannot_be_started_change_no_answer(rt: HostRuntime) -> Result<(), Fault> {
     let alloc = rt.alloc();
     for starts in 0..4 {
-        let pool = Pool::with_starts(4, LIMITS, NoGate, starts);
+        let pool = Pool::with_starts(4, Limits::new(), NoGate, starts);
         let numbers = vec![in alloc; 0, 1, 2, 3, 4, 5, 6, 7, 8, 9]?;
         let squares = with_lock::<Square, _, _, _, _, _>(&rt, alloc, &pool, 4, |leader| {
             assert_eq!(rt; leader.max_num_threads(), 4);
@@ -187,7 +162,7 @@ fn threads_that_cannot_be_started_change_no_answer(rt: HostRuntime) -> Result<()
             vec![in alloc; 0, 1, 4, 9, 16, 25, 36, 49, 64, 81]?
         );
     }
-    let pool = Pool::with_starts(4, LIMITS, NoGate, 0);
+    let pool = Pool::with_starts(4, Limits::new(), NoGate, 0);
     with_lock::<Square, _, _, _, _, _>(&rt, alloc, &pool, 4, |leader| {
         assert_eq!(rt; leader.max_num_threads(), 4);
         assert_eq!(rt; leader.current_num_threads(), 1);
@@ -198,26 +173,20 @@ fn threads_that_cannot_be_started_change_no_answer(rt: HostRuntime) -> Result<()
 #[test]
 fn without_helpers_jobs_cannot_meet(rt: HostRuntime) -> Result<(), Fault> {
     let alloc = rt.alloc();
-    let begun = AtomicUsize::new(0);
-    let missed = AtomicUsize::new(0);
-    let gate = Meeting {
-        jobs: 2,
-        begun: &begun,
-        missed: &missed,
-    };
-    let pool = Pool::with_starts(2, LIMITS, gate, 0);
+    let meetings = Meetings::new();
+    let pool = Pool::with_starts(2, Limits::new(), meetings.of_jobs(2), 0);
     let squares = with_lock::<Square, _, _, _, _, _>(&rt, alloc, &pool, 2, |leader| {
         leader.for_each(&rt, alloc, 2, vec![in alloc; 5, 6]?)
     })??;
     assert_eq!(rt; squares, vec![in alloc; 25, 36]?);
-    assert_eq!(rt; missed.load(Ordering::SeqCst), 1);
+    assert_eq!(rt; meetings.counts(), (2, 1));
     Ok(())
 }
 
 #[test]
 fn ten_thousand_rounds_in_one_lock(rt: HostRuntime) -> Result<(), Fault> {
     let alloc = rt.alloc();
-    let pool = Pool::new(3, LIMITS, NoGate);
+    let pool = Pool::new(3, Limits::new(), NoGate);
     with_lock::<Square, _, _, _, _, _>(&rt, alloc, &pool, 3, |leader| {
         for _ in 0..10000 {
             let squares = leader.for_each(&rt, alloc, 3, vec![in alloc; 1, 2, 3]?)?;
@@ -230,7 +199,7 @@ fn ten_thousand_rounds_in_one_lock(rt: HostRuntime) -> Result<(), Fault> {
 #[test]
 fn a_thousand_locks_in_turn(rt: HostRuntime) -> Result<(), Fault> {
     let alloc = rt.alloc();
-    let pool = Pool::new(2, LIMITS, NoGate);
+    let pool = Pool::new(2, Limits::new(), NoGate);
     for _ in 0..1000 {
         let squares = callers::squares(&rt, alloc, &pool, 2, vec![in alloc; 3, 4]?)?;
         assert_eq!(rt; squares, vec![in alloc; 9, 16]?);
@@ -242,7 +211,7 @@ fn a_thousand_locks_in_turn(rt: HostRuntime) -> Result<(), Fault> {
 fn sixty_four_threads_on_few_processors(rt: HostRuntime) -> Result<(), Fault> {
     let alloc = rt.alloc();
     for limits in [
-        LIMITS,
+        Limits::new(),
         Limits { spin: 0, pause: 0 },
         Limits {
             spin: u32::MAX,
@@ -269,7 +238,7 @@ fn sixty_four_threads_on_few_processors(rt: HostRuntime) -> Result<(), Fault> {
 #[test]
 fn a_lock_in_which_nothing_is_published(rt: HostRuntime) -> Result<(), Fault> {
     let alloc = rt.alloc();
-    let pool = Pool::new(4, LIMITS, NoGate);
+    let pool = Pool::new(4, Limits::new(), NoGate);
     let answer = with_lock::<Square, _, _, _, _, _>(&rt, alloc, &pool, 4, |_leader| 7)?;
     assert_eq!(rt; answer, 7);
     Ok(())
@@ -278,7 +247,7 @@ fn a_lock_in_which_nothing_is_published(rt: HostRuntime) -> Result<(), Fault> {
 #[test]
 fn a_closure_that_returns_early_closes_its_lock(rt: HostRuntime) -> Result<(), Fault> {
     let alloc = rt.alloc();
-    let pool = Pool::new(4, LIMITS, NoGate);
+    let pool = Pool::new(4, Limits::new(), NoGate);
     let last = with_lock::<Square, _, _, _, _, _>(&rt, alloc, &pool, 4, |leader| {
         for round in 0..100 {
             let squares = leader.for_each(&rt, alloc, 4, vec![in alloc; 1, 2, 3, 4]?)?;

@@ -1,9 +1,9 @@
 //! What a lock's threads announce to each other: that all rest until the next round, that the helpers end, and how many
 //! helpers nested locks ask for.
-ghost use Rattle.std.specs.Prelude.{◌≡◌, ◌<◌, [], if◌then◌else◌};
-ghost use Rattle.spindle_parts.specs.LedgerSeats.{IsSeatOf, IsSameSeat, slot_count};
+ghost use Rattle.std.specs.Prelude.{◌≡◌, ◌<◌, []};
+ghost use Rattle.spindle_parts.specs.LedgerSeats.{IsSeatOf, slot_count};
 ghost use Rattle.spindle_parts.specs.LedgerSteps.{blank};
-ghost use Rattle.spindle.specs.Notices.{requests_word, exit_word, rest_word, Read, AnnouncedExit, AnnouncedRest, EndedRest, TookPlace};
+ghost use Rattle.spindle.specs.Notices.{requests_word, Read, ReadExit, ReadRest, AnnouncedExit, AnnouncedRest, EndedRest, TookPlace};
 
 use crate::crew::asking::Asked;
 use spindle_parts::requests::{Requests, Seat, TakePlace};
@@ -92,7 +92,7 @@ impl<'a> Notices<'a> {
 
     /// Whether the helpers are to end.
     pub(crate) fn is_exit_announced(&mut self) -> bool
-        ensures read { Read exit_word (if result then 1 else 0) (account_of self.old) (account_of self.new) }
+        ensures read { ReadExit result (account_of self.old) (account_of self.new) }
     {
         self.ledger.exit_announced(&mut self.seat)
     }
@@ -106,7 +106,7 @@ impl<'a> Notices<'a> {
 
     /// Whether idle threads are to sleep at once.
     pub(crate) fn is_rest_announced(&mut self) -> bool
-        ensures read { Read rest_word (if result then 1 else 0) (account_of self.old) (account_of self.new) }
+        ensures read { ReadRest result (account_of self.old) (account_of self.new) }
     {
         self.ledger.rest_announced(&mut self.seat)
     }

@@ -24,8 +24,11 @@ impl<J: Job> Model for Finished<J> {
 
     ghost Value = { Done J.In J.Out };
 
-    ghost view = { λ piece.
-        record { number = piece.number; inputs = inputs_of piece.inputs; outputs = piece.outputs.items } };
+    ghost view = { λ piece. record {
+      number = piece.number;
+      inputs = inputs_of piece.inputs;
+      outputs = piece.outputs.items;
+    } };
 
     ghost invariant = { λ piece. AllZip J.meets (inputs_of piece.inputs) piece.outputs.items };
 }

@@ -25,7 +25,11 @@ impl<J: Job> Model for Place<J> {
 
     ghost Value = { PlaceView J.In J.Out };
 
-    ghost view = { λ place. record { number = place.number; ready = place.ready; finished = place.finished } };
+    ghost view = { λ place. record {
+      number = place.number;
+      ready = place.ready;
+      finished = place.finished;
+    } };
 
     ghost invariant = { λ place. IfSome place.ready (λ piece. piece.number ≡ place.number)
         × IfSome place.finished (λ piece. piece.number ≡ place.number) };

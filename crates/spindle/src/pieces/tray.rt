@@ -8,7 +8,7 @@ ghost use Rattle.spindle_parts.specs.Pieces.{counted, dealt};
 ghost use Rattle.spindle.specs.PieceRuns.{items_before};
 ghost use Rattle.spindle.specs.Rounds.{AddsAnswers};
 ghost use Rattle.spindle.specs.Outputs.{IsDoneOf};
-ghost use Rattle.spindle.specs.Trays.{ready_at, finished_at, number_at, AwaitsAll, HoldsDone, IsFirstMissing};
+ghost use Rattle.spindle.specs.Trays.{ready_at, finished_at, number_at, AwaitsHand, HoldsDone, IsFirstMissing};
 
 use crate::job::Job;
 use crate::pieces::address::{Address, hand_length};
@@ -47,8 +47,8 @@ impl<J: Job> Tray<J> {
 
     /// Puts what the thread number is dealt of the pieces into its places. After a refusal there are none.
     pub(crate) fn refill(&mut self, alloc: Global, pieces: &Pieces<J::In>) -> Result<(), AllocError>
-        ensures waits { OnOk result (AwaitsAll pieces.now.items pieces.now.count
-            (dealt (counted 0 pieces.now.count) self.old.threads self.old.thread) self.new.places.items) }
+        ensures waits { OnOk result (AwaitsHand pieces.now.items pieces.now.count
+            self.old.threads self.old.thread self.new.places.items) }
     {
         let count = pieces.count();
         let thread = self.thread;
@@ -123,10 +123,10 @@ impl<J: Job> Tray<J> {
         ensures answers { OnOk result (AllZip J.meets
             (items_before pieces.now.items pieces.now.count (number + count)) outputs.new.items) }
         ensures room { length pieces.now.items ≤ vec_capacity outputs.new }
-        ensures complete { IsOk result ↔ HoldsDone pieces.now.items pieces.now.count number from count
-            self.old.places.items }
-        ensures lost { IfErr result (IsFirstMissing pieces.now.items pieces.now.count number from count
-            self.old.places.items) }
+        ensures complete { IsOk result
+            ↔ HoldsDone pieces.now.items pieces.now.count number from count self.old.places.items }
+        ensures lost { IfErr result (IsFirstMissing pieces.now.items pieces.now.count
+            number from count self.old.places.items) }
         ensures within { IfErr result (λ k. k < pieces.now.count) }
     {
         for at in 0..count {

@@ -16,8 +16,8 @@ impl Registers {
     pub fn publish(&mut self, party: u32, count: u32, stoppable: bool) -> Result<(), Why>
         requires reached { IsReached (shown self.old) }
         requires tidy { IsTidy self.old }
-        ensures served { let m = shown self.old in
-            Judges (publish_tests m party count) self.old (publishing m count stoppable) self.new result }
+        ensures served { let m = shown self.old in Judges (publish_tests m party count)
+            self.old (publishing m count stoppable) self.new result }
         ensures known { KeepsKnown self.old.entries self.new.entries }
         ensures range { IfOk result (λ _. count ≤ 4294967295) }
         ensures tidy { IsTidy self.new }

@@ -1,13 +1,14 @@
 //! Rounds that may stop: who runs a failed job stops the round, and who sees it begins nothing more.
 ghost use Rattle.std.specs.Prelude.{◌≡◌, ◌+◌, ◌<◌, ◌≤◌, ℕ, IsTrue, ◌↔◌, ◌==◌};
 ghost use Rattle.spindle_rounds.specs.RoundSteps.{stopping, seeing};
-ghost use Rattle.spindle_rounds.specs.RoundAnswers.{LeftOverBy, SeenBy, PutBy};
+ghost use Rattle.spindle_rounds.specs.RoundAnswers.{SeenBy, PutBy};
+ghost use Rattle.spindle_rounds.specs.Leftovers.{LeftOverBy};
 ghost use Rattle.spindle_rounds.specs.RoundConditions.{MayStop, MaySee, MayPutBack, IsItsShare};
 ghost use Rattle.spindle_rounds.specs.Seating.{IsSeatAt, IsSameSeat};
 
 use crate::round::Round;
 use crate::round::claim::{Claimed, Share};
-use crate::round_table::plays::{PutsBack, ReadsRemainder, Searches, Sees, Stops};
+use crate::round_table::plays::{Finds, FindsRemainder, PutsBack, Searches, Sees, Stops};
 use crate::round_table::slots::Slots;
 use crate::round_table::{APART, HIGH, RANGES, REMAINDER, STOPPED, Seat};
 
@@ -43,7 +44,8 @@ impl<D: Slots> Round<D> {
         self.init.table.shared.load::<Sees>(seat, STOPPED) == 1
     }
 
-    /// What is left: the range of thread t, or the remainder where t is the number of threads.
+    /// What is left: the range of thread t, or the remainder where t is the number of threads. Between rounds the leader
+    /// knows these words from then on; `mark_left` says what they tell of the numbers that began.
     pub fn left(&self, seat: &mut Seat<D>, t: usize) -> u64
         requires seated { IsSeatAt self.now.init seat.old }
         requires there { t ≤ self.now.init.threads }
@@ -52,9 +54,9 @@ impl<D: Slots> Round<D> {
     {
         let words = &self.init.table.shared;
         if t < self.init.threads {
-            words.load::<Searches>(seat, RANGES + APART * t)
+            words.load::<Finds>(seat, RANGES + APART * t)
         } else {
-            words.load::<ReadsRemainder>(seat, REMAINDER)
+            words.load::<FindsRemainder>(seat, REMAINDER)
         }
     }
 

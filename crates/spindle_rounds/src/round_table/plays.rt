@@ -2,6 +2,7 @@
 ghost use Rattle.spindle_rounds.specs.RoundSteps.{same_view, new_view};
 ghost use Rattle.spindle_rounds.specs.RoundTells.{LoadTells, JoinTells, ArrivalTells, LookTells, LeaveTells, ExitTells, CloserReadTells, ClearTells, EndTells, LearnTells, FillTells, PublishTells, PublishTryTells, SearchTells, RemainderReadTells, RecallTells, ClaimTells, StealTells, RemainderClaimTells, ShareTells, FinishTells, StopTells, SeeTells, PutBackTells};
 ghost use Rattle.spindle_rounds.specs.SlotSteps.{TakeOutTells, GiveBackTells};
+ghost use Rattle.spindle_rounds.specs.Leftovers.{FindTells, FindRestTells};
 
 use crate::round_table::slots::Slots;
 use crate::round_table::view::View;
@@ -111,6 +112,20 @@ pub(crate) struct ReadsRemainder;
 
 impl<S, N> Play<S, View<N>> for ReadsRemainder {
     ghost then = { RemainderReadTells };
+}
+
+/// A range is read, for what is left in it.
+pub(crate) struct Finds;
+
+impl<S, N> Play<S, View<N>> for Finds {
+    ghost then = { FindTells };
+}
+
+/// The remainder is read, for what is left in it.
+pub(crate) struct FindsRemainder;
+
+impl<S, N> Play<S, View<N>> for FindsRemainder {
+    ghost then = { FindRestTells };
 }
 
 /// A member that knows the number reads the published word.

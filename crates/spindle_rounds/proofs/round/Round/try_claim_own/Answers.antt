@@ -10,10 +10,6 @@ pub load-range-requires : goal.load-range-requires
 load-range-requires g c = (search rules, omega arith, kept (searches g.D.Slots.discipline g.met.D.Slots.lawful _ _ _ _ _ (omega arith)))
 
 pub compare_exchange-found-requires : goal.compare_exchange-found-requires
-compare_exchange-found-requires g c = (
-  search rules,
-  omega arith,
-  kept
-      (claims g.D.Slots.discipline g.met.D.Slots.lawful _ _ _ _ _ _ (omega arith) (subst MayClaim (sym (c.load-range.ensures.2.1 c.args.t refl)) c.requires.free)
-      (omega arith) (omega arith)),
-)
+compare_exchange-found-requires g c =
+    let free = subst MayClaim (sym (c.load-range.ensures.2.1 c.args.t refl)) c.requires.free in
+    (search rules, omega arith, kept (claims g.D.Slots.discipline g.met.D.Slots.lawful _ _ _ _ _ _ (omega arith) free (omega arith) (omega arith)))

@@ -4,20 +4,20 @@ use Rattle.spindle_rounds.specs.RoundConditions.{MayClaim}
 use Rattle.spindle_rounds.specs.Words.{remainder_at}
 use Rattle.spindle_rounds.specs.RoundSteps.{missing, claiming_remainder, number_or}
 use Rattle.spindle_rounds.proofs.RoundMoves.{kept}
-use Rattle.spindle_rounds.proofs.KeptLoads.{rest_reads, recalls}
-use Rattle.spindle_rounds.proofs.KeptSteals.{rests}
+use Rattle.spindle_rounds.proofs.KeptLoads.{remainder_reads, recalls}
+use Rattle.spindle_rounds.proofs.KeptSteals.{remainder_claims}
 use Rattle.spindle_rounds.proofs.RoundSearch.{took_at, recalled_view}
 use Rattle.spindle_rounds.proofs.round.Round.try_claim_rest.Goals as goal
 
 pub load-rest-requires : goal.load-rest-requires
-load-rest-requires g c = (search rules, omega arith, kept (rest_reads g.D.Slots.discipline g.met.D.Slots.lawful _ _ _ _))
+load-rest-requires g c = (search rules, omega arith, kept (remainder_reads g.D.Slots.discipline g.met.D.Slots.lawful _ _ _ _))
 
 pub load-jobs-requires : goal.load-jobs-requires
 load-jobs-requires g c = (search rules, omega arith, kept (recalls g.D.Slots.discipline g.met.D.Slots.lawful _ _ _ _))
 
 pub compare_exchange-found-requires : goal.compare_exchange-found-requires
 compare_exchange-found-requires g c = let r = recalled_view _ _ _ _ _ c.requires.free c.load-rest.ensures.2.1 c.load-jobs.ensures.2.1 in
-    (search rules, omega arith, kept (rests g.D.Slots.discipline g.met.D.Slots.lawful _ _ _ _ _ (subst MayClaim (sym r.0) c.requires.free) (omega arith)))
+    (search rules, omega arith, kept (remainder_claims g.D.Slots.discipline g.met.D.Slots.lawful _ _ _ _ _ (subst MayClaim (sym r.0) c.requires.free) (omega arith)))
 
 pub overflow_sub-jobs : goal.overflow_sub-jobs
 overflow_sub-jobs g c = let m = c.requires.free in let r = recalled_view _ _ _ _ _ c.requires.free c.load-rest.ensures.2.1 c.load-jobs.ensures.2.1 in

@@ -2,12 +2,13 @@
 use Rattle.std.proofs.Common.{refl}
 use Rattle.spindle_rounds.specs.RoundSlots.{Lawful}
 use Rattle.spindle_rounds.proofs.RoundOpening.{opens, splits}
-use Rattle.spindle_rounds.proofs.KeptLoads.{loads, learns, searches, rest_reads, recalls}
+use Rattle.spindle_rounds.proofs.KeptLoads.{loads, learns, searches, remainder_reads, recalls}
+use Rattle.spindle_rounds.proofs.KeptLeftovers.{finds, remainder_finds}
 use Rattle.spindle_rounds.proofs.KeptBarrier.{joins, arrives, looks, closer_reads}
 use Rattle.spindle_rounds.proofs.KeptFill.{fills, publishes, publishes_try}
 use Rattle.spindle_rounds.proofs.KeptSlots.{takes_out, gives_back}
 use Rattle.spindle_rounds.proofs.KeptClaims.{claims}
-use Rattle.spindle_rounds.proofs.KeptSteals.{steals, rests}
+use Rattle.spindle_rounds.proofs.KeptSteals.{steals, remainder_claims}
 use Rattle.spindle_rounds.proofs.KeptShares.{shares}
 use Rattle.spindle_rounds.proofs.KeptFinish.{finishes}
 use Rattle.spindle_rounds.proofs.KeptStops.{halts, sees, puts}
@@ -26,7 +27,7 @@ returns g c = let D = g.D.Slots.discipline in let law : Lawful D = g.met.D.Slots
     give_slots = λ may. gives_back D law t slots id me may;
     claim_own = λ i range low small left may. claims D law t slots id me i range low may small left;
     steal = λ i range low small left may. steals D law t slots id me i range _ low may small left refl;
-    claim_rest = λ rest some may. rests D law t slots id me rest may some;
+    claim_remainder = λ rest some may. remainder_claims D law t slots id me rest may some;
     begin_share = λ i x high some may. shares D law t slots id me i x high may some;
     finish = λ k may give. finishes D law t slots id me k may give;
     stop = λ k may. halts D law t slots id me k may;
@@ -43,7 +44,9 @@ returns g c = let D = g.D.Slots.discipline in let law : Lawful D = g.met.D.Slots
     load = loads D law t slots id me;
     learn = learns D law t slots id me;
     search = λ i low. searches D law t slots id me i low;
-    read_rest = rest_reads D law t slots id me;
+    read_rest = remainder_reads D law t slots id me;
+    find = λ i low. finds D law t slots id me i low;
+    find_rest = remainder_finds D law t slots id me;
     recall = recalls D law t slots id me;
     split = splits D law t id me.0;
   },

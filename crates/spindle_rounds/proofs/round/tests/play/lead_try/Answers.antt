@@ -1,7 +1,8 @@
 -- The leader of a published round may claim.
 use Rattle.std.proofs.Common.{arith, ◌∙◌, true}
 use Rattle.spindle_rounds.specs.RoundSlots.{bare}
-use Rattle.spindle_rounds.proofs.RoundClients.{filled_round, round_published, may_claim}
+use Rattle.spindle_rounds.proofs.RoundClients.{filled_round, round_published}
+use Rattle.spindle_rounds.proofs.RoundOnward.{may_claim}
 use Rattle.spindle_rounds.proofs.round.tests.play.lead_try.Goals as goal
 
 pub returns-clause-free : goal.returns-clause-free

@@ -2,7 +2,8 @@
 use Rattle.std.proofs.Common.{arith, ◌∙◌, ap, sym, subst}
 use Rattle.spindle_rounds.specs.RoundSlots.{bare}
 use Rattle.spindle_rounds.specs.RoundViews.{Onward}
-use Rattle.spindle_rounds.proofs.RoundClients.{onward_then, share_next}
+use Rattle.spindle_rounds.proofs.RoundClients.{share_next}
+use Rattle.spindle_rounds.proofs.RoundOnward.{onward_then}
 use Rattle.spindle_rounds.proofs.round.tests.play.spend.Goals as goal
 use Rattle.spindle_rounds.proofs.round.tests.play.spend.Goals.{in-Some, in-None}
 

@@ -2,7 +2,8 @@
 use Rattle.std.proofs.Common.{◌∙◌}
 use Rattle.spindle_rounds.specs.declared.round.claim.Steal.TheVariants as steal
 use Rattle.spindle_rounds.specs.RoundSlots.{bare}
-use Rattle.spindle_rounds.proofs.RoundClients.{onward_then, stolen, claims_again}
+use Rattle.spindle_rounds.proofs.RoundClients.{stolen, claims_again}
+use Rattle.spindle_rounds.proofs.RoundOnward.{onward_then}
 use Rattle.spindle_rounds.proofs.round.tests.play.steal.Goals as goal
 
 pub finish-number-requires-clause-own : goal.finish-number-requires-clause-own

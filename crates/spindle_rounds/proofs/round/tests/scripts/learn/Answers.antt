@@ -2,7 +2,8 @@
 use Rattle.std.proofs.Common.{◌≡◌, ◌≢◌, ◌≤◌, arith, ◌∙◌, subst, sym, IsTrue}
 use Rattle.spindle_rounds.specs.RoundConditions.{IsFreeInside, MayClaim}
 use Rattle.spindle_rounds.proofs.RoundWords.{by_equal}
-use Rattle.spindle_rounds.proofs.RoundClients.{number_learned, may_claim}
+use Rattle.spindle_rounds.proofs.RoundClients.{number_learned}
+use Rattle.spindle_rounds.proofs.RoundOnward.{may_claim}
 use Rattle.spindle_rounds.proofs.round.tests.scripts.learn.Goals as goal
 use Rattle.spindle_rounds.specs.Words.{most_jobs}
 

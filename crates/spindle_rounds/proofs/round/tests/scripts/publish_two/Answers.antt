@@ -2,7 +2,8 @@
 use Rattle.std.proofs.Common.{arith, ◌∙◌, ap, subst, sym, false}
 use Rattle.spindle_rounds.specs.RoundConditions.{MayFill}
 use Rattle.spindle_rounds.specs.RoundSlots.{bare}
-use Rattle.spindle_rounds.proofs.RoundClients.{filled_round, round_published, may_claim}
+use Rattle.spindle_rounds.proofs.RoundClients.{filled_round, round_published}
+use Rattle.spindle_rounds.proofs.RoundOnward.{may_claim}
 use Rattle.spindle_rounds.proofs.round.tests.scripts.publish_two.Goals as goal
 
 pub returns-clause-free : goal.returns-clause-free

@@ -1,6 +1,6 @@
 -- The job may stop its round, and is finished.
 use Rattle.std.proofs.Common.{◌∙◌}
-use Rattle.spindle_rounds.proofs.RoundClients.{onward_then}
+use Rattle.spindle_rounds.proofs.RoundOnward.{onward_then}
 use Rattle.spindle_rounds.proofs.round.tests.turns.CountWorkBare.run.Goals as goal
 
 pub returns-clause-finished : goal.returns-clause-finished

@@ -1,6 +1,7 @@
 -- What is left is read place by place.
 use Rattle.std.proofs.Common.{◌≤◌, ◌∙◌, ap, arith}
-use Rattle.spindle_rounds.proofs.RoundClients.{onward_then, left_seen}
+use Rattle.spindle_rounds.proofs.RoundClients.{left_seen}
+use Rattle.spindle_rounds.proofs.RoundOnward.{onward_then}
 use Rattle.spindle_rounds.proofs.round.tests.turns.Player.count_left.Goals as goal
 
 pub loop-i-preserved : goal.loop-i-preserved
