@@ -1,6 +1,6 @@
 -- An arrival, and then the round's end or a leave.
 use Rattle.std.proofs.Common.{refl}
-use Rattle.spindle_rounds.proofs.BarrierClients.{passed_from, arrived_closes, arrived_leaves, keeps_on}
+use Rattle.spindle_rounds.proofs.BarrierClients.{passed_from, arrived_closes, keeps_on}
 use Rattle.spindle.proofs.Leaving.{arrived_out, same_thread_first}
 use Rattle.spindle.proofs.crew.phases.end_or_leave.Goals as goal
 

@@ -1,5 +1,5 @@
 -- The lengths of the pieces add up to the whole list.
-use Rattle.std.proofs.Common.{◌∙◌, sym, subst, ◌<◌, ℕ, rules}
+use Rattle.std.proofs.Common.{◌∙◌, rules}
 use Rattle.spindle.proofs.Chunks.{total-cut_lengths}
 use Rattle.spindle.proofs.lists.SharedList.share_out_evenly.Goals as goal
 

@@ -1,5 +1,5 @@
 -- One chunk more, which begins within the list.
-use Rattle.std.proofs.Common.{rules, ◌≡◌, ◌*◌, ◌++◌, ◌∷◌, [], ℕ, map, ap, ◌∙◌, subst, sym, List, arith, ◌+◌}
+use Rattle.std.proofs.Common.{rules, ◌≡◌, ◌*◌, ◌++◌, ◌∷◌, [], ℕ, map, ap, ◌∙◌, arith, ◌+◌}
 use Rattle.spindle_parts.specs.Pieces.{joined, counted}
 use Rattle.spindle_parts.proofs.Lists.{counted_snoc, map_snoc}
 use Rattle.spindle.specs.Chunks.{ChunkView, own_items, chunk_from, chunks_around}

@@ -1,5 +1,5 @@
 -- The chunks so far are those of the first numbers.
-use Rattle.std.proofs.Common.{◌≡◌, ◌*◌, length, map, vec_len, vec_capacity}
+use Rattle.std.proofs.Common.{◌≡◌, ◌*◌, map, vec_len, vec_capacity}
 use Rattle.spindle_parts.specs.Pieces.{counted}
 use Rattle.spindle.specs.Chunks.{chunk_from}
 use Rattle.spindle.proofs.lists.SharedList.share_out_overlapping.Given as goal

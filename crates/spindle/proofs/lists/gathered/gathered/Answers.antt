@@ -1,5 +1,5 @@
 -- One more list goes to the end, or the first failure is the answer.
-use Rattle.std.proofs.Common.{rules, ◌≡◌, ◌++◌, ◌∷◌, ap, sym, ◌∙◌, subst, Err, Ok}
+use Rattle.std.proofs.Common.{rules, ◌≡◌, ◌++◌, ◌∷◌, ap, sym, ◌∙◌}
 use Rattle.std.specs.Vec.Iter.{into_iter_items}
 use Rattle.spindle.proofs.GatheredLists.{gathered_snoc, gathered_failed, yielded_items}
 use Rattle.spindle.proofs.lists.gathered.gathered.Goals as goal

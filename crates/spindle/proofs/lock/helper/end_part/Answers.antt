@@ -1,5 +1,5 @@
 -- The helper is at its post, inside the next round, or out of the barrier.
-use Rattle.std.proofs.Common.{◌≡◌, ◌+◌, false, ap, refl, sym, subst, ◌∙◌}
+use Rattle.std.proofs.Common.{◌+◌, false, ap, sym, ◌∙◌}
 use Rattle.spindle.proofs.Leaving.{post_at, next_at, next_leader, next_stands, next_unpublished, out_at, left_leader}
 use Rattle.spindle_rounds.specs.RoundSteps.{round_of, unknown}
 use Rattle.spindle_rounds.specs.declared.round_table.view.Standing.TheVariants.{Inside}

@@ -1,5 +1,5 @@
 -- Neither waiting nor a round changes the helper's seat, its number and its lock.
-use Rattle.std.proofs.Common.{◌≡◌, ℕ, refl, ap, subst, ◌∙◌}
+use Rattle.std.proofs.Common.{ℕ, refl, ap, subst, ◌∙◌}
 use Rattle.spindle.specs.Helpers.{IsHelperAt}
 use Rattle.spindle.specs.Posts.{IsOut}
 use Rattle.spindle.proofs.lock.helper.live.Goals as goal
