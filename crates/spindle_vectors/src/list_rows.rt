@@ -43,6 +43,7 @@ fn chunks_have_what_stands_around_them(rt: HostRuntime) -> Result<(), Fault> {
     assert!(rt; is_chunk(&chunks[2], &[4, 5], 1, 2));
     assert!(rt; chunks[1].clone()? == chunks[1] && chunks[0] != chunks[1]);
     let wide = list.share_out_overlapping(alloc, 3, 9)?;
+    assert_eq!(rt; wide.len(), 2);
     assert!(rt; is_chunk(&wide[0], &[1, 2, 3, 4, 5], 0, 3));
     assert!(rt; is_chunk(&wide[1], &[1, 2, 3, 4, 5], 3, 5) && wide[0] != wide[1]);
     Ok(())
