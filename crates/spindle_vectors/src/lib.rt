@@ -17,6 +17,8 @@ mod jobs;
 #[cfg(test)]
 mod leader_rows;
 #[cfg(test)]
+mod list_rows;
+#[cfg(test)]
 mod refusals;
 #[cfg(test)]
 mod refused_lists;
