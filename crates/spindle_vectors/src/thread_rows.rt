@@ -93,14 +93,8 @@ fn four_threads_at_once_have_four_numbers(rt: HostRuntime) -> Result<(), Fault> 
 #[test]
 fn two_jobs_that_met_each_count_two_threads(rt: HostRuntime) -> Result<(), Fault> {
     let alloc = rt.alloc();
-    let begun = AtomicUsize::new(0);
-    let missed = AtomicUsize::new(0);
-    let gate = Meeting {
-        jobs: 2,
-        begun: &begun,
-        missed: &missed,
-    };
-    let pool = Pool::new(2, LIMITS, gate);
+    let meetings = Meetings::new();
+    let pool = meetings.pool(2);
     with_lock::<Place, _, _, _, _, _>(&rt, alloc, &pool, 2, |leader| {
         for round in 0..50 {
             let places = leader.for_each(&rt, alloc, 2, vec![in alloc; 0, 1]?)?;
@@ -108,7 +102,7 @@ fn two_jobs_that_met_each_count_two_threads(rt: HostRuntime) -> Result<(), Fault
         }
         Ok::<(), Fault>(())
     })??;
-    assert_eq!(rt; missed.load(Ordering::SeqCst), 0);
+    assert_eq!(rt; meetings.counts(), (100, 0));
     Ok(())
 }
 
