@@ -19,6 +19,10 @@ mod leader_rows;
 #[cfg(test)]
 mod list_rows;
 #[cfg(test)]
+mod nested_jobs;
+#[cfg(test)]
+mod nested_rows;
+#[cfg(test)]
 mod refusals;
 #[cfg(test)]
 mod refused_lists;

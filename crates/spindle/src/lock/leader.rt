@@ -24,7 +24,7 @@ use std::sync::Wait;
 use std::thread::Threads;
 
 /// A round has at most so many jobs, whatever a caller asks for.
-const MOST_JOBS: usize = 4294967295;
+pub(crate) const MOST_JOBS: usize = 4294967295;
 
 /// The leader of a lock over jobs of kind J, lent to the closure that the lock was opened for.
 #[derive(Drop)]

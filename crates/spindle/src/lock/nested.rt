@@ -2,5 +2,7 @@
 
 mod bench;
 mod child;
+mod opening;
+mod rounds;
 
 pub use self::child::Child;

@@ -1,0 +1,55 @@
+//! Rows of locks that jobs open: helpers move to them and run jobs there, and leaders work alone where they must.
+
+use crate::nested_jobs::{DoubleBoth, Opener, Rounds, Where};
+use spindle::lock::{Limits, NoGate, Pool};
+use spindle::{Fault, with_lock};
+
+#[test]
+fn a_helper_comes_to_a_lock_that_a_job_opens(rt: HostRuntime) -> Result<(), Fault> {
+    let alloc = rt.alloc();
+    let pool = Pool::new(2, Limits::new(), NoGate);
+    let seen = with_lock::<Opener, _, _, _, _, _>(&rt, alloc, &pool, 2, |leader| {
+        leader.for_each(&rt, alloc, 1, vec![in alloc; ()]?)
+    })??;
+    assert_eq!(rt; seen, vec![in alloc; 2]?);
+    Ok(())
+}
+
+#[test]
+fn a_helper_runs_jobs_of_a_round_in_a_job(rt: HostRuntime) -> Result<(), Fault> {
+    let alloc = rt.alloc();
+    let pool = Pool::new(2, Limits::new(), NoGate);
+    let seen = with_lock::<Rounds, _, _, _, _, _>(&rt, alloc, &pool, 2, |leader| {
+        leader.for_each(&rt, alloc, 1, vec![in alloc; ()]?)
+    })??;
+    let both = seen[0] == (Some(0), Some(1)) || seen[0] == (Some(1), Some(0));
+    assert!(rt; both, "{:?}", seen[0]);
+    Ok(())
+}
+
+#[test]
+fn locks_in_jobs_of_two_hundred_rounds(rt: HostRuntime) -> Result<(), Fault> {
+    let alloc = rt.alloc();
+    let pool = Pool::new(4, Limits::new(), NoGate);
+    with_lock::<DoubleBoth, _, _, _, _, _>(&rt, alloc, &pool, 4, |leader| {
+        for round in 0..200 {
+            let sums = leader.for_each(&rt, alloc, 4, vec![in alloc; 0, 1, 2, 3]?)?;
+            let wanted = vec![in alloc; Some(2), Some(6), Some(10), Some(14)]?;
+            assert_eq!(rt; sums, wanted, "round {round}");
+            let current = leader.current_num_threads();
+            assert!(rt; current >= 1 && current <= 4, "{current}");
+        }
+        Ok::<(), Fault>(())
+    })?
+}
+
+#[test]
+fn a_pool_of_one_thread_has_no_helpers_for_nested_locks(rt: HostRuntime) -> Result<(), Fault> {
+    let alloc = rt.alloc();
+    let pool = Pool::new(1, Limits::new(), NoGate);
+    let seen = with_lock::<Where, _, _, _, _, _>(&rt, alloc, &pool, 4, |leader| {
+        leader.for_each(&rt, alloc, 1, vec![in alloc; ()]?)
+    })??;
+    assert_eq!(rt; seen, vec![in alloc; (1, 1, 1, 1)]?);
+    Ok(())
+}
