@@ -6,8 +6,10 @@ pub mod Chunks
 pub mod Outputs
 pub mod Places
 pub mod TrayPlaces
+pub mod SlotRounds
 pub mod PieceRuns
 pub mod FreeLists
 mod Helpers
+mod SlotPosts
 mod Leaving
 mod Benches

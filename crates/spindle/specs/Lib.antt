@@ -15,4 +15,7 @@ pub mod Posts
 pub mod Notices
 pub mod Accounts
 pub mod Helpers
+pub mod SlotLeaders
+pub mod SlotRounds
+pub mod SlotPosts
 pub mod Nested

@@ -12,6 +12,8 @@ pub mod post;
 pub mod seats;
 pub mod site;
 pub mod sleep;
+pub mod slot_post;
+pub mod slot_tables;
 pub mod tables;
 
 /// A barrier holds at most so many threads, and so does a lock.

@@ -4,6 +4,8 @@
 pub mod address;
 pub mod finished;
 pub mod gathering;
+pub mod in_slots;
+pub mod of_kind;
 pub mod place;
 pub mod ready;
 pub mod runs;

@@ -2,5 +2,6 @@
 //! lock's only thread, runs them in their order.
 
 pub mod alone;
+pub mod in_slots;
 pub mod in_trays;
 pub mod runner;

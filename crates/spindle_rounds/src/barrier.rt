@@ -9,6 +9,7 @@ pub mod ending;
 pub mod joining;
 pub mod leaving;
 pub mod opening;
+pub mod stance;
 pub mod steps;
 #[cfg(test)]
 mod tests;

@@ -1,6 +1,6 @@
 //! The commands: what each makes of its numbers, its input and its output.
 use crate::output::write_line;
-use crate::squares::squares;
+use crate::squares::{squares, squares_in_slots};
 use crate::steps::play;
 use crate::stop::Stop;
 use crate::words::Command;
@@ -34,6 +34,16 @@ pub fn run<H: Threads + Wait + Sync, R: Read, W: Write>(
             jobs,
         } => {
             let squares = squares(rt, alloc, threads as usize, jobs as usize, count)?;
+            write_line(alloc, output, squares.as_slice())
+        }
+        Command::Slots {
+            count,
+            threads,
+            jobs,
+            slots,
+        } => {
+            let (threads, jobs, slots) = (threads as usize, jobs as usize, slots as usize);
+            let squares = squares_in_slots(rt, alloc, threads, jobs, slots, count)?;
             write_line(alloc, output, squares.as_slice())
         }
         Command::Steps => play(alloc, input, output),

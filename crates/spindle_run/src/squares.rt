@@ -1,12 +1,12 @@
-//! Squares of numbers, made in a lock.
-ghost use Rattle.std.specs.Prelude.{◌≡◌, ℕ, ◌*◌, ◌<◌, true, IfOk};
+//! Squares of numbers, made in a lock: out of trays, or in the slots of its round table.
+ghost use Rattle.std.specs.Prelude.{◌≡◌, ℕ, ◌*◌, ◌<◌, ◌≤◌, true, IfOk, OnErr, IsErrOf};
 ghost use Rattle.std.specs.List.{AllZip};
 ghost use Rattle.std.proofs.Common.{rules};
 ghost use Rattle.spindle_parts.specs.Pieces.{counted};
 ghost use denote.Param.Send.{IsSync};
 
 use spindle::lock::{End, Job, JobCx, Limits, NoGate, Pool};
-use spindle::{DEFAULT_PAUSE_LIMIT, DEFAULT_SPIN_LIMIT, Fault, with_lock};
+use spindle::{Fault, with_lock, with_slots};
 use std::alloc::Global;
 use std::sync::Wait;
 use std::thread::Threads;
@@ -53,9 +53,42 @@ pub fn squares<H: Threads + Wait + Sync>(
     squares_of(rt, alloc, threads, jobs, numbers)
 }
 
+/// The same squares by one round of a lock of so many slots.
+pub fn squares_in_slots<H: Threads + Wait + Sync>(
+    rt: &H,
+    alloc: Global,
+    threads: usize,
+    jobs: usize,
+    slots: usize,
+    count: u32,
+) -> Result<Vec<u64>, Fault>
+    requires threads { 0 < threads }
+    requires jobs { 0 < jobs }
+    requires slots { (1 ≤ slots) × (slots ≤ 4294967295) }
+    ensures squares { IfOk result (λ squares.
+        AllZip (λ number square. square ≡ number * number)
+        (counted 0 count) squares.items) }
+    ensures memory { OnErr result (IsErrOf result Fault.Memory) }
+{
+    let numbers = numbers_below(alloc, count)?;
+    let pool = Pool::new(threads, Limits::new(), NoGate);
+    with_slots::<Square, NoGate, Result<Vec<u64>, Fault>, _, _, H>(
+        rt,
+        alloc,
+        &pool,
+        threads,
+        slots,
+        |leader|
+            requires sync { IsSync H.row }
+            requires jobs { 0 < jobs }
+        { leader.for_each(rt, alloc, jobs, numbers) },
+    )?
+}
+
 /// The numbers from 0 to `count`, the end not included.
 fn numbers_below(alloc: Global, count: u32) -> Result<Vec<u32>, Fault>
-    ensures { IfOk result (λ numbers. numbers.items ≡ counted 0 count) }
+    ensures memory { OnErr result (IsErrOf result Fault.Memory) }
+    ensures numbers { IfOk result (λ numbers. numbers.items ≡ counted 0 count) }
 {
     let mut numbers = Vec::with_capacity(alloc, count as usize)?;
     for number in 0..count {
@@ -78,11 +111,7 @@ fn squares_of<H: Threads + Wait + Sync>(
         AllZip (λ number square. square ≡ number * number)
         numbers.items squares.items) }
 {
-    let limits = Limits {
-        spin: DEFAULT_SPIN_LIMIT,
-        pause: DEFAULT_PAUSE_LIMIT,
-    };
-    let pool = Pool::new(threads, limits, NoGate);
+    let pool = Pool::new(threads, Limits::new(), NoGate);
     with_lock::<Square, NoGate, Result<Vec<u64>, Fault>, _, _, H>(
         rt,
         alloc,

@@ -7,7 +7,7 @@ use crate::numbers::number_within;
 /// The longest list that `cut` cuts.
 const LONGEST_LIST: u32 = 1000000;
 
-/// The most items, and the most jobs, of `squares`.
+/// The most items, and the most jobs, of `squares` and of `slots`; and the most slots.
 const MOST_ITEMS: u32 = 100000;
 
 /// The most threads of a lock.
@@ -17,9 +17,23 @@ const MOST_THREADS: u32 = 64;
 #[derive(Clone, Copy, Debug, PartialEq, Eq)]
 pub enum Command {
     /// Prints the lengths of the pieces of `len` items for `jobs` jobs.
-    Cut { len: u32, jobs: u32 },
+    Cut {
+        len: u32,
+        jobs: u32,
+    },
     /// Prints the squares of the first `count` numbers, made in a lock of `threads` threads.
-    Squares { count: u32, threads: u32, jobs: u32 },
+    Squares {
+        count: u32,
+        threads: u32,
+        jobs: u32,
+    },
+    /// Prints the same squares, made in a lock of so many slots.
+    Slots {
+        count: u32,
+        threads: u32,
+        jobs: u32,
+        slots: u32,
+    },
     /// Plays the steps of the input on a fresh machine.
     Steps,
 }
@@ -33,6 +47,7 @@ impl Command {
         match name.as_str() {
             "cut" => cut(numbers),
             "squares" => squares(numbers),
+            "slots" => slots(numbers),
             "steps" if numbers.is_empty() => Some(Command::Steps),
             _ => None,
         }
@@ -61,4 +76,25 @@ fn squares(numbers: &[String]) -> Option<Command>
         threads: number_within(threads.as_str(), 1, MOST_THREADS)?,
         jobs: number_within(jobs.as_str(), 1, MOST_ITEMS)?,
     })
+}
+
+// The numbers of `squares`, and then the slots.
+fn slots(numbers: &[String]) -> Option<Command>
+    ensures { IfSome result IsInRange }
+{
+    let (slots, numbers) = numbers.split_last()?;
+    let slots = number_within(slots.as_str(), 1, MOST_ITEMS)?;
+    match squares(numbers)? {
+        Command::Squares {
+            count,
+            threads,
+            jobs,
+        } => Some(Command::Slots {
+            count,
+            threads,
+            jobs,
+            slots,
+        }),
+        _ => None,
+    }
 }

@@ -1,8 +1,10 @@
 //! The leader's post: it publishes rounds, and works in them.
 ghost use Rattle.std.specs.Prelude.{◌≡◌, true};
 ghost use Rattle.spindle.specs.Posts.{party_view};
+ghost use Rattle.spindle.specs.SlotPosts.{StandsAt};
 
 use crate::crew::post::Post;
+use spindle_rounds::barrier::stance::Stance;
 use spindle_rounds::round_table::slots::Slots;
 
 /// The post of a lock's leader, whose thread number is 0.
@@ -21,5 +23,19 @@ impl<'a, D: Slots> LeaderPost<'a, D> {
         ensures { result.post ≡ post.entry }
     {
         LeaderPost { post }
+    }
+
+    /// What the leader keeps of its own, to come back to its barrier with.
+    pub(crate) fn part(self) -> Stance<D>
+        ensures stands { StandsAt self.entry.post.tables.now result }
+        ensures seat { result.seat ≡ self.entry.post.barrier.seat }
+    {
+        let LeaderPost { post } = self;
+        let Post {
+            tables: _,
+            barrier,
+            thread: _,
+        } = post;
+        barrier.part()
     }
 }

@@ -6,7 +6,7 @@ use spindle_rounds::round_table::slots::Bare;
 
 /// Where the number of threads that take part in a lock is read.
 #[derive(Clone, Copy)]
-pub(crate) enum Members<'a> {
+pub enum Members<'a> {
     /// At the lock's barrier, at the moment when it is asked for.
     Barrier(&'a BarrierInit<Bare>),
     /// Nowhere: it was read before, and stays.

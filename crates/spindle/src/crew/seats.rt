@@ -39,6 +39,7 @@ impl<D: Slots> Tables<D> {
         requires seated { IsSeatAt round.init round_seat }
         requires outside { round_seat.me ≡ (outsider round.init.threads true, []) }
         ensures crew { IfOk result (λ t. t.0.crew ≡ crew) }
+        ensures round { IfOk result (λ t. t.0.round ≡ round) }
         ensures slots { IfOk result (λ t. t.0.child_slots ≡ child_slots) }
         ensures seats { IfOk result (λ t. AreSeatsAt t.0 t.1) }
         ensures memory { OnErr result (IsErrOf result Fault.Memory) }

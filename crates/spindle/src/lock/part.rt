@@ -11,16 +11,19 @@ use crate::crew::tables::Tables;
 use crate::job::Job;
 use crate::job::gate::Gate;
 use crate::job::nest::Nest;
+use crate::lock::slot_workspace::SlotWorkspace;
 use crate::lock::workspace::Opens;
+use crate::pieces::of_kind::PieceOf;
 use crate::work::runner::Runner;
 use spindle_rounds::round::task::Task;
+use spindle_rounds::round_table::pieces::Pieces;
 use spindle_rounds::round_table::slots::{Bare, Slots};
 use std::alloc::Global;
 use std::sync::Wait;
 use std::thread::Threads;
 
 /// A kind of job whose locks have D's slots in their round table, and a workspace of type L beside their tables.
-pub(crate) trait TakesPart<D: Slots, L>: Job {
+pub trait TakesPart<D: Slots, L>: Job {
     /// The slots for the locks that its jobs open.
     fn children(workspace: &L) -> &<Self::Inner as Nest>::Slots;
 
@@ -63,5 +66,26 @@ impl<J: Opens<L>, L> TakesPart<Bare, L> for J {
         task: Task,
     ) {
         post.take_part(rt, alloc, J::trays(workspace), runner, task);
+    }
+}
+
+impl<J: Job> TakesPart<Pieces<PieceOf<J>>, SlotWorkspace<J>> for J {
+    fn children(workspace: &SlotWorkspace<J>) -> &<J::Inner as Nest>::Slots {
+        &workspace.children
+    }
+
+    fn members<'a>(tables: &'a Tables<Pieces<PieceOf<J>>>) -> Members<'a> {
+        Members::Fixed(tables.round.init().current_num_threads())
+    }
+
+    fn take_part<'a, G: Gate, H: Threads + Wait + Sync>(
+        rt: &H,
+        alloc: Global,
+        _workspace: &SlotWorkspace<J>,
+        post: &mut Post<'a, Pieces<PieceOf<J>>>,
+        runner: &mut Runner<'_, J, G>,
+        task: Task,
+    ) {
+        post.take_part_in_slots(rt, alloc, runner, task);
     }
 }

@@ -15,7 +15,7 @@ use std::thread::Threads;
 
 /// What a thread of a lock runs jobs with.
 #[derive(Drop)]
-pub(crate) struct Runner<'a, J: Job, G: Gate> {
+pub struct Runner<'a, J: Job, G: Gate> {
     pub(crate) slots: &'a <J::Inner as Nest>::Slots,
     pub(crate) gate: &'a G,
     pub(crate) site: Site<'a>,

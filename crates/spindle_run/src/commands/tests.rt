@@ -45,8 +45,76 @@ fn squares_stand_on_one_line(rt: HostRuntime) -> Result<(), Fail> {
 }
 
 #[test]
+fn squares_of_a_lock_with_slots(rt: HostRuntime) -> Result<(), Fail> {
+    let rows: [(&[&str], &str); 7] = [
+        (
+            &["slots", "10", "4", "8", "3"],
+            "0 1 4 9 16 25 36 49 64 81\n",
+        ),
+        (
+            &["slots", "10", "4", "8", "1"],
+            "0 1 4 9 16 25 36 49 64 81\n",
+        ),
+        (&["slots", "0", "4", "8", "3"], "\n"),
+        (&["slots", "3", "64", "100000", "100000"], "0 1 4\n"),
+        (&["slots", "5", "1", "3", "2"], "0 1 4 9 16\n"),
+        (&["slots", "4", "2", "2", "100000"], "0 1 4 9\n"),
+        (&["slots", "1", "1", "1", "1"], "0\n"),
+    ];
+    for (words, text) in rows {
+        assert!(rt; outcome(&rt, words, "")?.is(text), "{words:?}");
+    }
+    let most = outcome(&rt, &["slots", "100000", "64", "100000", "100000"], "")?;
+    assert_eq!(rt; most.end, Ok(()));
+    assert!(rt; most.text.ends_with(b" 9999600004 9999800001\n"));
+    Ok(())
+}
+
+// The next of a row of numbers that look random: a xorshift generator's.
+fn next(x: u64) -> u64 {
+    let x = x ^ (x << 13);
+    let x = x ^ (x >> 7);
+    x ^ (x << 17)
+}
+
+#[test]
+fn three_hundred_rounds_in_slots_answer_the_squares(rt: HostRuntime) -> Result<(), Fail> {
+    let alloc = rt.alloc();
+    let mut random = 88172645463325252u64;
+    for _ in 0..300 {
+        random = next(random);
+        let count = random % 200;
+        let threads = 1 + random / 200 % 6;
+        let jobs = 1 + random / 1200 % 50;
+        let slots = 1 + random / 60000 % 40;
+        let numbers = [
+            format!(in alloc; "{count}")?,
+            format!(in alloc; "{threads}")?,
+            format!(in alloc; "{jobs}")?,
+            format!(in alloc; "{slots}")?,
+        ];
+        let words = [
+            "slots",
+            numbers[0].as_str(),
+            numbers[1].as_str(),
+            numbers[2].as_str(),
+            numbers[3].as_str(),
+        ];
+        let mut text = String::new(alloc);
+        for number in 0..count {
+            let space = if number == 0 { "" } else { " " };
+            let square = format!(in alloc; "{space}{}", number.wrapping_mul(number))?;
+            text.push_str(square.as_str())?;
+        }
+        text.push_str("\n")?;
+        assert!(rt; outcome(&rt, &words, "")?.is(text.as_str()), "{words:?}");
+    }
+    Ok(())
+}
+
+#[test]
 fn other_words_are_bad(rt: HostRuntime) -> Result<(), Fail> {
-    let rows: [&[&str]; 36] = [
+    let rows: [&[&str]; 43] = [
         &[],
         &[""],
         &["cut"],
@@ -78,6 +146,13 @@ fn other_words_are_bad(rt: HostRuntime) -> Result<(), Fail> {
         &["squares", "10", "4", "0"],
         &["squares", "10", "4", "100001"],
         &["squares", "0", "4", "0"],
+        &["slots"],
+        &["slots", "10", "4", "8"],
+        &["slots", "10", "4", "8", "3", "3"],
+        &["slots", "100001", "4", "8", "3"],
+        &["slots", "10", "65", "8", "3"],
+        &["slots", "10", "4", "8", "0"],
+        &["slots", "10", "4", "8", "100001"],
         &["steps", "0"],
         &["steps", ""],
         &["Steps"],
@@ -152,10 +227,15 @@ fn texts_and_statuses(rt: HostRuntime) -> Result<(), Fail> {
 
 #[test]
 fn refused_memory_leaves_no_half_line(rt: HostRuntime) -> Result<(), Fail> {
-    let rows: [(&[&str], &str); 3] = [
+    let rows: [(&[&str], &str); 5] = [
         (&["cut", "10", "4"], "3 3 2 2\n"),
         (&["squares", "10", "4", "4"], "0 1 4 9 16 25 36 49 64 81\n"),
         (&["squares", "3", "1", "1"], "0 1 4\n"),
+        (
+            &["slots", "10", "4", "8", "3"],
+            "0 1 4 9 16 25 36 49 64 81\n",
+        ),
+        (&["slots", "3", "1", "2", "2"], "0 1 4\n"),
     ];
     for (words, text) in rows {
         if let Ok(trial) = outcome(&rt, words, "") {

@@ -1,0 +1,13 @@
+-- The leader of the closure is one of this lock, with its slots.
+use Rattle.std.proofs.Common.{ap, refl, ◌∙◌}
+use Rattle.spindle.specs.declared.crew.Crew.{Crew}
+use Rattle.spindle.proofs.lock.slot_root.lead.Goals as goal
+
+pub returns : goal.returns
+returns g c = (
+  c.new-leader.result,
+  _,
+  c.new-leader.ensures.threads ∙ ap (λ (k : Crew). k.most) c.muster-post.ensures.crew,
+  ap g.J.OpensSlots.slot_count c.new-leader.ensures.post ∙ (c.settle.ensures _ refl ∙ c.new.ensures),
+  record { shown = _; shows = refl; left = _; met = c.f-answer.ensures; leaves = refl },
+)

@@ -1,0 +1,76 @@
+//! The leader of a lock whose round table has a slot for each job.
+//!
+//! It knows its post as a type P of which only the calls of `OpensSlots<P>` are known, as a leader without slots knows its
+//! workspace.
+ghost use Rattle.std.specs.Prelude.{◌≡◌, ◌<◌, ◌≤◌, IsNone};
+ghost use Rattle.spindle.specs.SlotLeaders.{threads_of, AnnouncedRest, IsAsBefore};
+
+use crate::crew::Crew;
+use crate::crew::members::Members;
+use crate::crew::slot_post::SlotPost;
+use crate::job::Job;
+use crate::job::gate::Gate;
+use crate::lock::slot_workspace::OpensSlots;
+use crate::pieces::of_kind::PieceOf;
+use crate::work::runner::Runner;
+use std::sync::Wait;
+
+/// The leader of a lock with slots over jobs of kind J, lent to the closure that the lock was opened for.
+#[derive(Drop)]
+pub struct SlotLeader<'a, J: Job, G: Gate, P = SlotPost<PieceOf<J>>> {
+    crew: Crew,
+    pub(crate) runner: Runner<'a, J, G>,
+    pub(crate) post: P,
+}
+
+impl<'a, J: OpensSlots<P>, G: Gate, P> SlotLeader<'a, J, G, P> {
+    /// The leader of a lock, which runs jobs with this, and has this post.
+    pub(crate) fn new(runner: Runner<'a, J, G>, post: P) -> SlotLeader<'a, J, G, P>
+        ensures threads { threads_of result ≡ runner.entry.site.crew.most }
+        ensures post { result.post ≡ post }
+    {
+        SlotLeader {
+            crew: runner.site.crew,
+            runner,
+            post,
+        }
+    }
+
+    /// Tells the helpers to end.
+    pub(crate) fn dismiss<H: Wait>(&mut self, rt: &H) {
+        self.runner.notices.announce_exit();
+        J::wake(rt, &self.post);
+    }
+
+    /// How many threads take part in the lock now, the leader counted.
+    pub fn current_num_threads(&self) -> usize
+        ensures leader { 0 < result }
+        ensures most { result ≤ threads_of self.now }
+    {
+        Members::Fixed(J::members(&self.post)).current(self.crew.most())
+    }
+
+    /// The lock's threads.
+    pub fn max_num_threads(&self) -> usize
+        ensures { result ≡ threads_of self.now }
+    {
+        self.crew.most()
+    }
+
+    /// None: a leader has no number between rounds.
+    pub fn current_thread_index(&self) -> Option<usize>
+        ensures { IsNone result }
+    {
+        None
+    }
+
+    /// Tells idle helpers to sleep at once until the next round.
+    pub fn relieve_workers(&mut self)
+        ensures lock { threads_of self.new ≡ threads_of self.old }
+        ensures quiet { IsAsBefore J.OpensSlots.view self.old self.new }
+        ensures slots { IsAsBefore J.OpensSlots.slot_count self.old self.new }
+        ensures rest { AnnouncedRest self.old self.new }
+    {
+        self.runner.notices.announce_rest();
+    }
+}

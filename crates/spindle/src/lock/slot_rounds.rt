@@ -1,0 +1,97 @@
+//! The rounds of a lock with slots: lists of items, each piece of which stands in a slot until its outputs do.
+//!
+//! A round goes one way: items, pieces, slots, outputs. All memory that a round takes is taken before its first job, and want
+//! of memory is the only thing that it is refused for.
+ghost use Rattle.std.specs.Prelude.{◌≡◌, ◌<◌, ◌≤◌, IfOk, OnOk, OnErr, IsOk, IsErrOf, vec_len};
+ghost use Rattle.std.specs.List.{AllZip};
+ghost use Rattle.spindle_parts.specs.Pieces.{counted};
+ghost use Rattle.spindle.specs.SlotLeaders.{threads_of, slots_of, slot_jobs, IsAsBefore, IsBetweenRounds, PlayedOnce};
+
+use crate::job::gate::Gate;
+use crate::lists::SharedList;
+use crate::lock::slot_leader::SlotLeader;
+use crate::lock::slot_workspace::OpensSlots;
+use crate::pieces::runs::Pieces;
+use spindle_parts::fault::Fault;
+use std::alloc::Global;
+use std::sync::Wait;
+use std::thread::Threads;
+
+impl<'a, J: OpensSlots<P>, G: Gate, P> SlotLeader<'a, J, G, P> {
+    /// Runs the items in `n_jobs` jobs, or in as many as there are items or slots where these are fewer. Each job runs a piece
+    /// of the items, as `cut` cuts them. Outputs stand in the order of the items.
+    ///
+    /// One job is run by the leader directly. No items are no job: that round takes no memory. After a refusal the lock
+    /// can be used further; the items are given up.
+    pub fn for_each<H: Threads + Wait + Sync>(
+        &mut self,
+        rt: &H,
+        alloc: Global,
+        n_jobs: usize,
+        items: Vec<J::In>,
+    ) -> Result<Vec<J::Out>, Fault>
+        requires jobs { 0 < vec_len items → 0 < n_jobs }
+        ensures answer { IfOk result (λ outputs. AllZip J.meets items.items outputs.items) }
+        ensures memory { OnErr result (IsErrOf result Fault.Memory) }
+        ensures empty { vec_len items ≡ 0 → IsOk result }
+        ensures played { let jobs = slot_jobs J.OpensSlots.slot_count self.old (vec_len items) n_jobs in
+            OnOk result (2 ≤ jobs → PlayedOnce J.OpensSlots.view jobs self.old self.new) }
+        ensures direct { slot_jobs J.OpensSlots.slot_count self.old (vec_len items) n_jobs ≤ 1
+            → IsAsBefore J.OpensSlots.view self.old self.new }
+        ensures left { OnErr result (IsAsBefore J.OpensSlots.view self.old self.new) }
+        ensures between { IsBetweenRounds J.OpensSlots.view self.new }
+        ensures lock { threads_of self.new ≡ threads_of self.old }
+        ensures slots { IsAsBefore J.OpensSlots.slot_count self.old self.new }
+    {
+        let slots = J::slots(&self.post);
+        if items.is_empty() {
+            return Ok(Vec::new(alloc));
+        }
+        let jobs = items.len().min(n_jobs.min(slots));
+        let mut outputs = Vec::with_capacity(alloc, items.len())?;
+        if jobs == 1 {
+            let inputs = items.as_slice();
+            let members = self.current_num_threads();
+            self.runner.site = self.runner.site.counted(members);
+            self.runner.run(rt, alloc, 0, None, inputs, &mut outputs);
+        } else {
+            let pieces = Pieces::new(SharedList::from_vec(alloc, items)?, jobs);
+            let (runner, post) = (&mut self.runner, &mut self.post);
+            J::play(rt, alloc, post, runner, &pieces, &mut outputs)?;
+        }
+        Ok(outputs)
+    }
+}
+
+impl<'a, J: OpensSlots<P, In = usize>, G: Gate, P> SlotLeader<'a, J, G, P> {
+    /// Runs the numbers from 0 up to `n_jobs`, the end not included, as `for_each` runs items in so many jobs. There are as
+    /// many slots or more.
+    pub fn for_each_raw<H: Threads + Wait + Sync>(
+        &mut self,
+        rt: &H,
+        alloc: Global,
+        n_jobs: usize,
+    ) -> Result<Vec<J::Out>, Fault>
+        requires slots { n_jobs ≤ slots_of J.OpensSlots.slot_count self.old }
+        ensures answer { IfOk result (λ outputs. AllZip J.meets (counted 0 n_jobs) outputs.items) }
+        ensures memory { OnErr result (IsErrOf result Fault.Memory) }
+        ensures empty { n_jobs ≡ 0 → IsOk result }
+        ensures played { OnOk result
+            (2 ≤ n_jobs → PlayedOnce J.OpensSlots.view n_jobs self.old self.new) }
+        ensures direct { n_jobs ≤ 1 → IsAsBefore J.OpensSlots.view self.old self.new }
+        ensures left { OnErr result (IsAsBefore J.OpensSlots.view self.old self.new) }
+        ensures between { IsBetweenRounds J.OpensSlots.view self.new }
+        ensures lock { threads_of self.new ≡ threads_of self.old }
+        ensures slots { IsAsBefore J.OpensSlots.slot_count self.old self.new }
+    {
+        let _slots = J::slots(&self.post);
+        if n_jobs == 0 {
+            return Ok(Vec::new(alloc));
+        }
+        let mut numbers = Vec::with_capacity(alloc, n_jobs)?;
+        for number in 0..n_jobs {
+            numbers.push_reserved(number);
+        }
+        self.for_each(rt, alloc, n_jobs, numbers)
+    }
+}

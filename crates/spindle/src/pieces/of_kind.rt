@@ -1,0 +1,22 @@
+//! The pieces of a lock with slots, and what answers one.
+ghost use Rattle.spindle.specs.SlotRounds.{IsAnswerTo};
+
+use crate::job::Job;
+use crate::pieces::finished::Finished;
+use crate::pieces::ready::Ready;
+use spindle_rounds::round_table::pieces::Answers;
+use std::marker::PhantomData;
+
+/// A piece of a kind of job is answered by the same piece, run: under its number, with its inputs, and with an output for each
+/// of them that meets the job's relation.
+pub struct PieceOf<J: Job> {
+    kind: PhantomData<J>,
+}
+
+impl<J: Job> Answers for PieceOf<J> {
+    type Piece = Ready<J>;
+
+    type Answer = Finished<J>;
+
+    ghost answers = { IsAnswerTo J.meets };
+}

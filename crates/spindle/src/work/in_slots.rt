@@ -1,0 +1,166 @@
+//! The work of one thread in a round whose pieces stand in the slots of the round table: whoever begins a number has its piece.
+ghost use Rattle.std.specs.Prelude.{◌≡◌, ◌≤◌, [], true, false, length, vec_capacity, OnOk, OnErr, IsErrOf};
+ghost use Rattle.std.specs.List.{AllZip};
+ghost use Rattle.std.proofs.Common.{refl, ◌∙◌};
+ghost use Rattle.spindle_rounds.specs.RoundConditions.{IsDone};
+ghost use Rattle.spindle_rounds.specs.Seating.{IsSameSeat};
+ghost use Rattle.spindle_rounds.specs.Holding.{Keeps};
+ghost use Rattle.spindle_rounds.specs.Working.{OnTask, PlayedRound};
+ghost use Rattle.spindle.specs.SlotRounds.{IsAnswerTo, LeadsIn};
+
+use crate::crew::phases::end_round;
+use crate::crew::post::Post;
+use crate::crew::slot_tables::SlotTables;
+use crate::job::Job;
+use crate::job::gate::Gate;
+use crate::pieces::finished::Finished;
+use crate::pieces::of_kind::PieceOf;
+use crate::pieces::ready::Ready;
+use crate::pieces::runs;
+use crate::work::runner::Runner;
+use spindle_parts::fault::Fault;
+use spindle_rounds::barrier::Barrier;
+use spindle_rounds::round::claim::Claimed;
+use spindle_rounds::round::party::{Party, Work};
+use spindle_rounds::round::task::Task;
+use spindle_rounds::round_table::Seat;
+use spindle_rounds::round_table::pieces::Pieces;
+use std::alloc::Global;
+use std::sync::Wait;
+use std::thread::Threads;
+
+/// What runs the pieces of slots. The leader holds no other slot meanwhile.
+#[derive(Drop)]
+struct SlotWork<'r, 'a, J: Job, G: Gate> {
+    runner: &'r mut Runner<'a, J, G>,
+    alloc: Global,
+    leads: bool,
+}
+
+impl<'a, J: Job> Post<'a, Pieces<PieceOf<J>>> {
+    /// Runs the jobs of a published round that are left for the thread.
+    pub(crate) fn take_part_in_slots<G: Gate, H: Threads + Wait + Sync>(
+        &mut self,
+        rt: &H,
+        alloc: Global,
+        runner: &mut Runner<'_, J, G>,
+        task: Task,
+    )
+        requires task { OnTask task.jobs task.may_stop self.old.barrier.seat.me.0 }
+        requires helper { self.old.barrier.seat.me.0.leader ≡ false }
+        ensures post { (self.new.tables ≡ self.old.tables) × (self.new.thread ≡ self.old.thread) }
+        ensures leader { self.new.barrier.seat.me.0.leader ≡ false }
+        ensures done { IsDone self.new.barrier.seat.me.0 }
+        ensures seat { IsSameSeat self.old.barrier.seat self.new.barrier.seat }
+    {
+        let party = Party {
+            round: &self.tables.round,
+            thread: self.thread,
+            task,
+        };
+        let work = SlotWork {
+            runner,
+            alloc,
+            leads: false,
+        };
+        drop(party.work(rt, &mut self.barrier.seat, work));
+    }
+}
+
+impl<'t, J: Job> SlotTables<'t, Pieces<PieceOf<J>>> {
+    /// A leader's round: the pieces go into the slots and are published, all threads run them, and after the round's end the
+    /// leader takes the outputs out of the slots, in order. Memory is refused before the publish alone.
+    pub(crate) fn play<G: Gate, H: Threads + Wait + Sync>(
+        &self,
+        rt: &H,
+        alloc: Global,
+        barrier: &mut Barrier<'_, Pieces<PieceOf<J>>>,
+        runner: &mut Runner<'_, J, G>,
+        pieces: &runs::Pieces<J::In>,
+        outputs: &mut Vec<J::Out>,
+    ) -> Result<(), Fault>
+        requires leads { LeadsIn self.now.tables.now barrier.old }
+        requires counted { (2 ≤ pieces.now.count) × (pieces.now.count ≤ 4294967295) }
+        requires few { pieces.now.count ≤ self.now.slots }
+        requires empty { outputs.old.items ≡ [] }
+        requires room { length pieces.now.items ≤ vec_capacity outputs.old }
+        ensures leads { LeadsIn self.now.tables.now barrier.new }
+        ensures same { Keeps barrier.old barrier.new }
+        ensures answered { OnOk result (AllZip J.meets pieces.now.items outputs.new.items) }
+        ensures played { OnOk result
+            (PlayedRound pieces.now.count barrier.old.seat.me.0 barrier.new.seat.me.0) }
+        ensures left { OnErr result (barrier.new.seat.me.0 ≡ barrier.old.seat.me.0) }
+        ensures memory { OnErr result (IsErrOf result Fault.Memory) }
+    {
+        let tables = self.tables;
+        let jobs = pieces.count() as u64;
+        self.fill(alloc, &mut barrier.seat, pieces)?;
+        runner.notices.end_rest();
+        tables.round.publish_held(&mut barrier.seat, jobs);
+        tables.sleep.wake(rt);
+        let task = Task {
+            jobs,
+            may_stop: false,
+        };
+        let party = Party {
+            round: &tables.round,
+            thread: 0,
+            task,
+        };
+        let work = SlotWork {
+            runner,
+            alloc,
+            leads: true,
+        };
+        drop(party.work(rt, &mut barrier.seat, work));
+        end_round(rt, tables, barrier);
+        tables.round.take_answered(&mut barrier.seat, jobs);
+        self.collect(&mut barrier.seat, pieces, outputs);
+        Ok(())
+    }
+}
+
+impl<'r, 'a, J: Job, G: Gate> Work<Pieces<PieceOf<J>>> for SlotWork<'r, 'a, J, G> {
+    ghost holds = { λ work hands. work.leads ≡ true → hands ≡ [] };
+
+    ghost keeps = { λ old new. new.leads ≡ old.leads };
+
+    fn run<H: Threads + Wait + Sync>(
+        &mut self,
+        rt: &H,
+        party: &Party<'_, Pieces<PieceOf<J>>>,
+        seat: &mut Seat<Pieces<PieceOf<J>>>,
+        claimed: Claimed,
+    ) {
+        let members = party.round.init().current_num_threads();
+        let piece = party.round.take_piece(seat, &claimed);
+        let finished = self.run_piece(rt, members, piece);
+        party.round.finish(seat, claimed, finished);
+    }
+
+    ghost keeps_same = { λ work. refl };
+
+    ghost keeps_then = { λ old then new a b. b ∙ a };
+}
+
+impl<'r, 'a, J: Job, G: Gate> SlotWork<'r, 'a, J, G> {
+    // Runs a piece. The lock's barrier has so many members now.
+    fn run_piece<H: Threads + Wait + Sync>(
+        &mut self,
+        rt: &H,
+        members: usize,
+        piece: Ready<J>,
+    ) -> Finished<J>
+        ensures answers { IsAnswerTo J.meets piece result }
+        ensures leads { self.new.leads ≡ self.old.leads }
+    {
+        let number = piece.number();
+        let (inputs, mut outputs) = piece.into_parts();
+        self.runner.site = self.runner.site.counted(members);
+        let index = self.runner.site.index;
+        let items = inputs.as_slice();
+        self.runner
+            .run(rt, self.alloc, number, index, items, &mut outputs);
+        Finished::new(number, inputs, outputs)
+    }
+}

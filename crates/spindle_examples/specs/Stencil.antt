@@ -1,0 +1,25 @@
+-- A three-point stencil: each value becomes the mean of itself, twice, and of its two neighbours.
+use Rattle.std.specs.Prelude.{ℕ, zero, suc, ◌+◌, ◌-◌, ◌*◌, ◌/◌, List, length, map, get_or}
+use Rattle.spindle_parts.specs.Pieces.{counted}
+
+-- the value before a place, 0 before the first
+abbrev pub before : List ℕ → ℕ → ℕ
+before values zero = 0
+before values (suc at) = get_or values at 0
+
+-- what the value at a place becomes; behind the last value stands 0
+abbrev pub smooth_at : List ℕ → ℕ → ℕ
+smooth_at values at = (before values at + 2 * get_or values at 0 + get_or values (at + 1) 0) / 4
+
+-- what the values from one place up to another become
+abbrev pub smooth_part : List ℕ → (from to : ℕ) → List ℕ
+smooth_part values from to = map (smooth_at values) (counted from (to - from))
+
+-- one pass over all values
+abbrev pub smooth : List ℕ → List ℕ
+smooth values = smooth_part values 0 (length values)
+
+-- so many passes
+abbrev pub smooth_times : ℕ → List ℕ → List ℕ
+smooth_times zero values = values
+smooth_times (suc n) values = smooth (smooth_times n values)
