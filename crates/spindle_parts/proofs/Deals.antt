@@ -1,7 +1,10 @@
 -- Dealing pieces to threads: the lengths of the lists, one list more, and that all of them hold every piece once.
-use Rattle.std.proofs.Common.{◌≡◌, ℕ, ◌+◌, ◌-◌, ◌*◌, ◌/◌, ◌%◌, ◌<◌, ◌≤◌, List, [], ◌∷◌, ◌++◌, length, min, take, drop, set, get_or, map, replicate, refl, ap, sym, ◌∙◌, arith, zero, suc, length-append, zero-add, append_assoc, inl, inr}
-use Rattle.std.proofs.lemmas.List.{get_or_append_left, get_or-append_right, get_or-replicate, length-replicate, length-map, map-set, set_at, get_or_at, map-append, drop-drop, drop-take, take-take, take-map, drop-map, take-append-drop, take_all, length-drop}
-use Rattle.std.proofs.lemmas.List.Sorted.{IsPermutation-append_left, IsPermutation-append_right, IsPermutation-append_comm, IsPermutation-trans, IsPermutation-refl}
+use Rattle.std.proofs.Common.{◌≡◌, ℕ, ◌+◌, ◌-◌, ◌*◌, ◌/◌, ◌%◌, ◌<◌, ◌≤◌, List, [], ◌∷◌, ◌++◌, length, min, take, drop, set, get_or, map, replicate, refl, ap}
+use Rattle.std.proofs.Common.{sym, ◌∙◌, arith, zero, suc, length-append, zero-add, append_assoc, inl, inr}
+use Rattle.std.proofs.lemmas.List.{get_or_append_left, get_or-append_right, get_or-replicate, length-replicate, length-map, map-set, set_at, get_or_at}
+use Rattle.std.proofs.lemmas.List.{map-append, drop-drop, drop-take, take-take, take-map, drop-map, take-append-drop, take_all, length-drop}
+use Rattle.std.proofs.lemmas.List.Sorted.{IsPermutation-append_left, IsPermutation-append_right, IsPermutation-append_comm, IsPermutation-trans}
+use Rattle.std.proofs.lemmas.List.Sorted.{IsPermutation-refl}
 use Rattle.std.proofs.lemmas.Bool.{cases_lt}
 use Rattle.std.proofs.lemmas.Nat.{div-add-mod'}
 use Rattle.std.proofs.Math.Nat.{min-le_left, min-le_right}

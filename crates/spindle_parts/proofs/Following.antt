@@ -4,9 +4,9 @@ use Rattle.std.proofs.Common.{◌∙◌, subst, arith, Option, Some, None, if◌
 use mathlib.Core.Logic.{dite}
 use native.Mathlib.Decide.{ℕ_discrete}
 use Rattle.spindle_parts.specs.State.{Status, Out, In, Arrived, Party, Round, State, put, party_of, put_party, times, is_in, is_member, weight_in}
-use Rattle.spindle_parts.specs.State.{weight_member, waking, wake, now, party, change, change_round, Free}
+use Rattle.spindle_parts.specs.State.{weight_member, waking, wake, now, party, change_round}
 use Rattle.spindle_parts.specs.State as state
-use Rattle.spindle_parts.specs.Steps.{with_status, Allowed, after, arrived, left, publish, ended_by, Event}
+use Rattle.spindle_parts.specs.Steps.{with_status, Allowed, after, arrived, left, ended_by}
 use Rattle.spindle_parts.specs.Steps as events
 use Rattle.spindle_parts.specs.Machine.{Seat, Configuration, standing, with_seen, turned, closing, effect}
 use Rattle.spindle_parts.specs.EverySchedule.{Shows, StandsFor}

@@ -1,5 +1,6 @@
 -- Every step on the ledger keeps the books in balance.
-use Rattle.std.proofs.Common.{◌≡◌, ◌≢◌, ⊎_elim, ℕ, zero, suc, ◌+◌, ◌-◌, ◌%◌, ◌^◌, ◌<◌, ◌≤◌, Bool, eq-eqb, ne_eqb, List, [], ◌∷◌, length, length-set, get_or, set, get_or-set_same, get_or-set_other, sum_by, sym, refl, ap, ◌∙◌, subst, arith, if◌then◌else◌}
+use Rattle.std.proofs.Common.{◌≡◌, ◌≢◌, ⊎_elim, ℕ, zero, suc, ◌+◌, ◌-◌, ◌%◌, ◌^◌, ◌<◌, ◌≤◌, Bool, eq-eqb, ne_eqb, List, [], ◌∷◌, length, length-set, get_or}
+use Rattle.std.proofs.Common.{set, get_or-set_same, get_or-set_other, sum_by, sym, refl, ap, ◌∙◌, subst, arith, if◌then◌else◌}
 use Rattle.std.proofs.lemmas.List.Sums.{sum_by-cons, sum_by-set}
 use mathlib.Core.Logic.{dite}
 use mathlib.Core.Option.{some, some-injective, some-ne-none}
@@ -10,7 +11,8 @@ use Rattle.atomic_table.proofs.Lists.{at_set}
 use Rattle.spindle_parts.specs.declared.trail.Trace.{Trace}
 use Rattle.spindle_parts.specs.declared.requests.plays.Kind.{Kind}
 use Rattle.spindle_parts.specs.declared.requests.plays.Account.{Account}
-use Rattle.spindle_parts.specs.Ledger.{place_word, IsFlag, gain, cost, opened, removed, IsCredit, onto, over_trails, opened_at, removed_at, unfilled, total, standing, Balanced}
+use Rattle.spindle_parts.specs.Ledger.{place_word, IsFlag, gain, cost, opened, removed, IsCredit, onto, over_trails, opened_at, removed_at, unfilled, total}
+use Rattle.spindle_parts.specs.Ledger.{standing, Balanced}
 use Rattle.spindle_parts.specs.LedgerSteps.{noted}
 
 abbrev pub Log : Type 0

@@ -1,5 +1,6 @@
 -- What the table asks of each kind of step on the ledger, of a fresh table, and of a new seat.
-use Rattle.std.proofs.Common.{◌≡◌, ◌≢◌, ⊎_elim, ℕ, zero, suc, ◌+◌, ◌-◌, ◌%◌, ◌^◌, ◌<◌, ◌≤◌, Bool, true, false, eqb, List, [], ◌∷◌, ◌++◌, length, get_or, set, get_or-set_same, get_or-set_other, sum_by, sym, refl, ap, ◌∙◌, subst, arith}
+use Rattle.std.proofs.Common.{◌≡◌, ◌≢◌, ⊎_elim, ℕ, zero, suc, ◌+◌, ◌-◌, ◌%◌, ◌^◌, ◌<◌, ◌≤◌, Bool, true, false, eqb, List, [], ◌∷◌, ◌++◌, length, get_or, set}
+use Rattle.std.proofs.Common.{get_or-set_same, get_or-set_other, sum_by, sym, refl, ap, ◌∙◌, subst, arith}
 use Rattle.std.proofs.lemmas.List.Sums.{sum_by_push}
 use mathlib.Core.Logic.{dite}
 use native.Mathlib.Decide.{ℕ_discrete}
@@ -15,7 +16,8 @@ use Rattle.spindle_parts.specs.declared.requests.plays.Kind.{Kind}
 use Rattle.spindle_parts.specs.declared.requests.plays.Kind.TheVariants.{Load, Announce, Ask, Subtract, Install, Take, Miss, Close}
 use Rattle.spindle_parts.specs.declared.requests.plays.Account.{Account}
 use Rattle.spindle_parts.specs.Ledger.{place_word, IsFlag, gain, cost, opened, removed, IsCredit, onto, opened_at, removed_at, unfilled, total}
-use Rattle.spindle_parts.specs.LedgerSteps.{noted, blank, loading, announcing, asking, subtracting, installing, taking, missing, closing, loaded, announced, asked, subtracted, installed, taken, closed}
+use Rattle.spindle_parts.specs.LedgerSteps.{noted, blank, loading, announcing, asking, subtracting, installing, taking, missing, closing, loaded, announced}
+use Rattle.spindle_parts.specs.LedgerSteps.{asked, subtracted, installed, taken, closed}
 use Rattle.spindle_parts.proofs.LedgerKept.{M, Table, Rule, total_same, elsewhere, at_slot}
 
 -- a flag as its word

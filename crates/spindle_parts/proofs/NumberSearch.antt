@@ -10,7 +10,8 @@ use Rattle.spindle_parts.specs.declared.numbers.plays.Holding.TheVariants.{Nothi
 use Rattle.spindle_parts.specs.declared.numbers.plays.View.{View}
 use Rattle.spindle_parts.specs.declared.numbers.Take.{Take}
 use Rattle.spindle_parts.specs.declared.numbers.Take.TheVariants.{Taken, AllInUse, Again}
-use Rattle.spindle_parts.specs.ThreadNumbers.{holding_after, NumberTable, IsSeatOf, IsSameSeat, loading, reading, searching, WasUsed, IsLeastUnused, IsTake, IsExchange, word_count}
+use Rattle.spindle_parts.specs.ThreadNumbers.{holding_after, NumberTable, IsSeatOf, IsSameSeat, loading, reading, searching, WasUsed, IsLeastUnused, IsTake}
+use Rattle.spindle_parts.specs.ThreadNumbers.{IsExchange, word_count}
 
 pub reading-holding : (found : ℕ → ℕ) (n : ℕ) (v : View) → (reading found n v).holding ≡ v.holding
 reading-holding found zero v = refl

@@ -7,7 +7,7 @@ use Rattle.std.proofs.Math.Nat.{mod-le}
 use Rattle.std.specs.List.{list_any, IsDistinct, AllByRecursion}
 use Rattle.std.proofs.lemmas.Map.Keys.{IsDistinct-cons}
 use Rattle.std.proofs.lemmas.Map.Steps.{length-le_from_distinct_below}
-use Rattle.spindle_parts.specs.State.{Status, Out, In, Arrived, Party, Round, State, times, is_in, is_member, weight_in, weight_member, party_of, put_party}
+use Rattle.spindle_parts.specs.State.{Out, In, Party, Round, State, times, is_in, is_member, weight_in, weight_member, party_of, put_party}
 use Rattle.spindle_parts.specs.State.{now, party}
 use Rattle.spindle_parts.specs.State as state
 use Rattle.spindle_parts.specs.Steps.{Event, Finish, ended_by, with_status}

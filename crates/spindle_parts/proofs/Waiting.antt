@@ -3,8 +3,8 @@ use Rattle.std.proofs.Common.{◌≡◌, ◌≢◌, ◌⊎◌, inl, inr, ⊎_eli
 use Rattle.std.proofs.Common.{if◌then◌else◌, ne_eqb}
 use mathlib.Core.Logic.{dite}
 use native.Mathlib.Decide.{ℕ_discrete}
-use Rattle.spindle_parts.specs.State.{Out, In, Arrived, Party, Round, State, put_party, members, now, party}
-use Rattle.spindle_parts.specs.Steps.{with_status, Allowed, after, arrived, Event, Join, Publish, PublishTry, Take, Begin, Finish, Stop, See, PutBack}
+use Rattle.spindle_parts.specs.State.{Out, In, Arrived, Party, Round, State, members, now, party}
+use Rattle.spindle_parts.specs.Steps.{Allowed, after, arrived, Event, Join, Publish, PublishTry, Take, Begin, Finish, Stop, See, PutBack}
 use Rattle.spindle_parts.specs.Steps.{Arrive, Leave, Exit, Clear, End}
 use Rattle.spindle_parts.specs.Runs.{state, IsRun}
 use Rattle.spindle_parts.specs.EveryRun.{AtEach, BeginsWithin, EndsCleared, NoneBy, sense_shown, Waits, IsWhole, EveryRun}

@@ -11,8 +11,10 @@ pub record Sight (G T : Type 0) : Type 0 where
   pub tag : G
   pub value : Option T
 
+-- a sight is coded as the pair of its tag and its value
 abbrev pub sight_code : {G T : Type 0} → Coded G → Coded T → Coded (Sight G T)
-sight_code {G} {T} g t = code_by (G × Option T) (coded× g (coded_option t)) (λ s. (s.tag, s.value)) (λ p. record { tag = p.0; value = p.1 }) (λ _. refl)
+sight_code {G} {T} g t = code_by (G × Option T) (coded× g (coded_option t)) (λ s. (s.tag, s.value))
+    (λ p. record { tag = p.0; value = p.1 }) (λ _. refl)
 
 -- the value of what a claim found, if there is one
 abbrev pub shown_value : {T : Type 0} → Option (Option T) → Option T
@@ -20,7 +22,8 @@ shown_value None = None
 shown_value (Some value) = value
 
 -- It is empty where the word is free, takes where no guard is out, and marks where guards are out
--- and may still come. Else it waits: another thread has the value, or guards are out and none may come
+-- and may still come. Else it waits: another thread has the value,
+-- or guards are out and none may come
 abbrev pub IsClearing : ℕ → Clearing → Type 0
 IsClearing word Empty = word ≡ FREE
 IsClearing word Take = (word ≢ FREE) × (word % 4 < TAKEN) × (readers word ≡ 0)

@@ -1,4 +1,5 @@
--- The parties' entries and the list of those that saw the stop, and what a write to one entry leaves of them.
+-- The parties' entries and the list of those that saw the stop,
+-- and what a write to one entry leaves of them.
 use Rattle.std.specs.Prelude.{◌≡◌, ◌≢◌, ℕ, ◌≤◌, Bool, ◌==◌, List, slice_get, Option, Some, None}
 use Rattle.std.specs.List.{IsDistinct}
 use Rattle.std.specs.Ordering.{nat_cmp}
@@ -40,8 +41,10 @@ pub record KeepsSeats (old new : BTreeMap ℕ Entry) : Type 0 where
   pub sense : (q : ℕ) → sense_of (get nat_cmp new q) ≡ sense_of (get nat_cmp old q)
   pub running : (q : ℕ) → running_of (get nat_cmp new q) ≡ running_of (get nat_cmp old q)
 
--- who saw the stop stands in its list once, at its entry's mark; there is room in it for every party that came
+-- who saw the stop stands in its list once, at its entry's mark;
+-- there is room in it for every party that came
 pub record IsMarked (entries : BTreeMap ℕ Entry) (saw : List ℕ) (capacity : ℕ) : Type 0 where
-  pub marked : (i p : ℕ) → slice_get saw i ≡ Some p → (e : Entry) × (get nat_cmp entries p ≡ Some e) × (e.mark ≡ i)
+  pub marked : (i p : ℕ) → slice_get saw i ≡ Some p → (e : Entry) × (get nat_cmp entries p ≡ Some e)
+      × (e.mark ≡ i)
   pub distinct : IsDistinct (λ p q. p == q) saw
   pub room : btree_map_len entries ≤ capacity

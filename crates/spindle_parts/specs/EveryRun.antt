@@ -1,9 +1,10 @@
 -- What is true of every run of the model, whoever makes its steps and in whichever order.
-use Rattle.std.specs.Prelude.{◌≡◌, ◌≢◌, ◌⊎◌, ◌↔◌, ℕ, ◌+◌, ◌/◌, ◌%◌, ◌<◌, ◌≤◌, true, false}
+use Rattle.std.specs.Prelude.{◌≡◌, ◌≢◌, ◌⊎◌, ◌↔◌, ℕ, ◌+◌, ◌%◌, ◌<◌, ◌≤◌, true, false}
 use Rattle.std.specs.Prelude.{List, [], ◌∷◌, ◌++◌, None}
 use Rattle.spindle_parts.specs.State.{In, Arrived, Round, State, times, now, party}
 use Rattle.spindle_parts.specs.Steps.{Event, Begin, by}
 use Rattle.spindle_parts.specs.Runs.{state, IsRun, IsOnce}
+use Rattle.spindle_parts.specs.Words.{sense_of}
 use Rattle.spindle_parts.specs.BarrierWord.{word}
 
 -- an ended round: each number begun was below its jobs and has finished once, every number has
@@ -41,7 +42,7 @@ pub record Rests (es later : List Event) (p : ℕ) : Type 0 where
 
 -- the sense that the barrier word shows
 abbrev pub sense_shown : State → ℕ
-sense_shown s = word s / 2147483648
+sense_shown s = sense_of (word s)
 
 -- the sense that a party has from its arrival in round q on: the word's while q + 1 goes on
 abbrev pub sense_after : ℕ → ℕ

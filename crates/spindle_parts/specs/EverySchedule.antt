@@ -1,14 +1,21 @@
--- What is true of the machine after any schedule: the definitions of the model of rounds hold of it.
-use Rattle.std.specs.Prelude.{◌≡◌, ◌≢◌, ◌⊎◌, ◌↔◌, ℕ, ◌+◌, ◌*◌, ◌%◌, ◌<◌, ◌≤◌, Bool, true, false, is_none, unwrap_or, List, [], ◌∷◌, ◌++◌, length, Option, Some, None, if◌then◌else◌, ◌==◌}
+-- What is true of the machine after any schedule:
+-- the definitions of the model of rounds hold of it.
+use Rattle.std.specs.Prelude.{◌≡◌, ◌≢◌, ◌⊎◌, ◌↔◌, ℕ, ◌+◌, ◌*◌, ◌%◌, ◌<◌, ◌≤◌, Bool, true, false}
+use Rattle.std.specs.Prelude.{is_none, unwrap_or, List, [], ◌∷◌, ◌++◌, length, Option, Some, None}
+use Rattle.std.specs.Prelude.{if◌then◌else◌, ◌==◌}
 use Rattle.spindle_parts.specs.State.{In, State, inside, members, now, party, Free}
 use Rattle.spindle_parts.specs.Steps.{Event, Allowed}
 use Rattle.spindle_parts.specs.Steps as events
 use Rattle.spindle_parts.specs.Runs.{state, IsRun}
 use Rattle.spindle_parts.specs.EveryRun.{RunLaws}
+use Rattle.spindle_parts.specs.Words.{most_parties, most_jobs}
 use Rattle.spindle_parts.specs.BarrierWord as barrier
-use Rattle.spindle_parts.specs.Machine.{Configuration, initial, word, counter, own, tests, first, claimed, rested, serve}
+use Rattle.spindle_parts.specs.Machine.{Configuration, initial, word, counter, own, tests, first}
+use Rattle.spindle_parts.specs.Machine.{claimed, rested, serve}
 use Rattle.spindle_parts.specs.declared.steps.Step.{Step}
-use Rattle.spindle_parts.specs.declared.steps.Step.TheVariants.{Join, Publish, PublishTry, Claim, Rest, Finish, Stop, See, Arrive, Leave, Exit, Clear, End}
+use Rattle.spindle_parts.specs.declared.steps.Step.TheVariants.{Join, Publish, PublishTry, Claim}
+use Rattle.spindle_parts.specs.declared.steps.Step.TheVariants.{Rest, Finish, Stop, See, Arrive}
+use Rattle.spindle_parts.specs.declared.steps.Step.TheVariants.{Leave, Exit, Clear, End}
 use Rattle.spindle_parts.specs.declared.steps.Why.{Why}
 use Rattle.spindle_parts.specs.declared.steps.Why.TheVariants.{Memory}
 use Rattle.spindle_parts.specs.declared.steps.Reply.TheVariants.{Refused}
@@ -18,10 +25,10 @@ pub record Call : Type 0 where
   pub step : Step
   pub granted : Bool
 
--- a number published is at most 4294967295; parties and counters are whichever numbers
+-- a number published is at most that of the most jobs; parties and counters are whichever numbers
 abbrev pub IsInRange : Step → Type 0
-IsInRange (Publish p n) = n ≤ 4294967295
-IsInRange (PublishTry p n) = n ≤ 4294967295
+IsInRange (Publish p n) = n ≤ most_jobs
+IsInRange (PublishTry p n) = n ≤ most_jobs
 IsInRange e = Unit {0}
 
 -- a schedule, the newest call first
@@ -57,16 +64,18 @@ events_of m (End p) = events.End p ∷ []
 abbrev pub refusal : Configuration → Call → Option Why
 refusal m c = first (tests m c.granted c.step)
 
--- a call whose growth is granted, and one whose growth isn't
+-- a call whose growth is granted
 abbrev pub granting : Step → Call
 granting e = record { step = e; granted = true }
 
+-- a call whose growth isn't granted
 abbrev pub refusing : Step → Call
 refusing e = record { step = e; granted = false }
 
 -- without memory the step is refused as with it, but for a join that would be accepted
 abbrev pub IsRefusedForMemory : Configuration → Step → Type 0
-IsRefusedForMemory m (Join p) = refusal m (refusing (Join p)) ≡ Some (unwrap_or (refusal m (granting (Join p))) Memory)
+IsRefusedForMemory m (Join p) =
+    refusal m (refusing (Join p)) ≡ Some (unwrap_or (refusal m (granting (Join p))) Memory)
 IsRefusedForMemory m e = refusal m (refusing e) ≡ refusal m (granting e)
 
 -- the machine after the calls, from m on
@@ -83,10 +92,12 @@ abbrev pub history : Configuration → List Call → List Event
 history m [] = []
 history m (c ∷ cs) = accepted (played m cs) c ++ history m cs
 
--- job k is among the last `count t` of the own jobs of some thread t, of which each thread has as many, or among the last
+-- job k is among the last `count t` of the own jobs of some thread t,
+-- of which each thread has as many, or among the last
 -- `rest` of all n
 abbrev pub StandsFor : (threads own : ℕ) (count : ℕ → ℕ) (rest n k : ℕ) → Type 0
-StandsFor threads own count rest n k = ((t : ℕ) × (t < threads) × (k < own * t + own) × (own * t + own ≤ k + count t))
+StandsFor threads own count rest n k = ((t : ℕ) × (t < threads) × (k < own * t + own)
+    × (own * t + own ≤ k + count t))
     ⊎ ((k < n) × (n ≤ k + rest))
 
 -- the counters and the remainder stand for job k, where n are published
@@ -123,7 +134,8 @@ pub record MayBegin (s : State) (p : ℕ) : Type 0 where
   pub idle : (party s p).running ≡ None
   pub unseen : (now s).seen p ≡ false
 
--- the definitions allow the step; for a claim: they allow to begin, and its counter is there and isn't 0
+-- the definitions allow the step; for a claim:
+-- they allow to begin, and its counter is there and isn't 0
 abbrev pub IsFair : Configuration → State → Step → Type 0
 IsFair m s (Join p) = Allowed s (events.Join p)
 IsFair m s (Publish p n) = Allowed s (events.Publish p n)
@@ -170,10 +182,13 @@ pub record Laws (threads : ℕ) (m : Configuration) (es : List Event) : Type 0 w
   -- a refused call changes nothing, and its reason is the first test that is true
   pub refused : (c : Call) (why : Why) → (serve m c.granted c.step).1 ≡ Refused why
       → (refusal m c ≡ Some why) × ((serve m c.granted c.step).0 ≡ m)
-  -- whatever calls follow, this run goes on: its laws say what a party sees that makes no step in them
+  -- whatever calls follow, this run goes on:
+  -- its laws say what a party sees that makes no step in them
   pub goes_on : (later : List Call) → IsSchedule later → GoesOn m es later
 
--- the theorem: the laws hold after every schedule, for any number of counters from 1 to 32767
+-- the theorem: the laws hold after every schedule,
+-- for any number of counters from 1 to the most parties
 abbrev pub EverySchedule : Type 0
-EverySchedule = (threads : ℕ) (calls : List Call) → 0 < threads → threads ≤ 32767 → IsSchedule calls
+EverySchedule = (threads : ℕ) (calls : List Call) → 0 < threads → threads ≤ most_parties
+    → IsSchedule calls
     → Laws threads (machine threads calls) (run_of threads calls)

@@ -1,13 +1,15 @@
 -- The ledger of helper requests: what each step moves, and what words and seats show of it.
 -- Counts are natural numbers with no upper bound; a word shows its count modulo 2^64.
-use Rattle.std.specs.Prelude.{◌≡◌, ◌⊎◌, ℕ, zero, suc, ◌+◌, ◌-◌, ◌*◌, ◌%◌, ◌^◌, ◌<◌, ◌≤◌, List, length, sum_by, slice_index, if◌then◌else◌, ◌==◌}
+use Rattle.std.specs.Prelude.{◌≡◌, ◌⊎◌, ℕ, zero, suc, ◌+◌, ◌-◌, ◌*◌, ◌%◌, ◌^◌, ◌<◌, ◌≤◌, List}
+use Rattle.std.specs.Prelude.{length, sum_by, slice_index, if◌then◌else◌, ◌==◌}
 use mathlib.Core.Option.{some}
 use lib.ListN.{get_elem?}
 use Rattle.atomic_table.specs.Table.{State}
 use Rattle.spindle_parts.specs.declared.trail.Trace.{Trace}
 use Rattle.spindle_parts.specs.declared.words.TheConstants.{LINE, REQUESTS, EXIT, REST, PLACES}
 use Rattle.spindle_parts.specs.declared.requests.plays.Kind.{Kind}
-use Rattle.spindle_parts.specs.declared.requests.plays.Kind.TheVariants.{Ask, Subtract, Install, Take, Close}
+use Rattle.spindle_parts.specs.declared.requests.plays.Kind.TheVariants.{Ask, Subtract, Install}
+use Rattle.spindle_parts.specs.declared.requests.plays.Kind.TheVariants.{Take, Close}
 use Rattle.spindle_parts.specs.declared.requests.plays.Account.{Account}
 
 -- the word of the places of the child slot i

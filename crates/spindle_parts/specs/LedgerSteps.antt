@@ -46,7 +46,8 @@ asking n found v = noted (v.credit + n) (trace REQUESTS (kind.Ask n) found ((fou
 -- after lowering requests by n
 abbrev pub subtracting : ℕ → ℕ → Account → Account
 subtracting n found v =
-    noted (v.credit - n) (trace REQUESTS (kind.Subtract n) found ((found + (2 ^ 64 - n)) % 2 ^ 64)) v
+    noted (v.credit - n) (trace REQUESTS (kind.Subtract n) found ((found + (2 ^ 64 - n)) % 2 ^ 64))
+    v
 
 -- after opening n places
 abbrev pub installing : ℕ → ℕ → ℕ → Account → Account

@@ -1,14 +1,25 @@
--- The machine as plain data: the tests of each step in order, what an accepted step changes, and what it answers.
-use Rattle.std.specs.Prelude.{ℕ, ◌+◌, ◌*◌, ◌-◌, ◌/◌, ◌%◌, Bool, true, false, not, ◌&&◌, ◌==◌, nat_lt, List, [], ◌∷◌, ◌++◌, length, sum, replicate, slice_index, slice_set, Option, Some, None, is_some, unwrap_or, if◌then◌else◌}
+-- The machine as plain data: the tests of each step in order,
+-- what an accepted step changes, and what it answers.
+use Rattle.std.specs.Prelude.{ℕ, ◌+◌, ◌*◌, ◌-◌, ◌/◌, ◌%◌, Bool, true, false, not, ◌&&◌, ◌==◌}
+use Rattle.std.specs.Prelude.{nat_lt, List, [], ◌∷◌, ◌++◌, length, sum, replicate, slice_index}
+use Rattle.std.specs.Prelude.{slice_set, Option, Some, None, is_some, unwrap_or, if◌then◌else◌}
+use Rattle.spindle_parts.specs.Words.{one_member, sense_bit, most_parties}
 use Rattle.spindle_parts.specs.State.{Status, Out, In, Arrived, put, waking}
 use Rattle.spindle_parts.specs.declared.steps.Step.{Step}
-use Rattle.spindle_parts.specs.declared.steps.Step.TheVariants.{Join, Publish, PublishTry, Claim, Rest, Finish, Stop, See, Arrive, Leave, Exit, Clear, End}
+use Rattle.spindle_parts.specs.declared.steps.Step.TheVariants.{Join, Publish, PublishTry, Claim}
+use Rattle.spindle_parts.specs.declared.steps.Step.TheVariants.{Rest, Finish, Stop, See, Arrive}
+use Rattle.spindle_parts.specs.declared.steps.Step.TheVariants.{Leave, Exit, Clear, End}
 use Rattle.spindle_parts.specs.declared.steps.Why.{Why}
-use Rattle.spindle_parts.specs.declared.steps.Why.TheVariants.{Member, Full, Closing, Memory, NotLeader, NotIn, Published, Count, NotPublished, Holding, Stopped, Range, Empty, Idle, Fixed, Going, Left, NotWaiting, Leader, NotCloser}
+use Rattle.spindle_parts.specs.declared.steps.Why.TheVariants.{Member, Full, Closing, Memory}
+use Rattle.spindle_parts.specs.declared.steps.Why.TheVariants.{NotLeader, NotIn, Published, Count}
+use Rattle.spindle_parts.specs.declared.steps.Why.TheVariants.{NotPublished, Holding, Stopped}
+use Rattle.spindle_parts.specs.declared.steps.Why.TheVariants.{Range, Empty, Idle, Fixed, Going}
+use Rattle.spindle_parts.specs.declared.steps.Why.TheVariants.{Left, NotWaiting, Leader, NotCloser}
 use Rattle.spindle_parts.specs.declared.steps.Reply.{Reply}
 use Rattle.spindle_parts.specs.declared.steps.Reply.TheVariants.{Word, Job, Refused}
 
--- what the machine knows of a party: how it stands, the job that it runs, whether it has seen the round's stop
+-- what the machine knows of a party: how it stands,
+-- the job that it runs, whether it has seen the round's stop
 pub record Seat : Type 0 where
   pub status : Status
   pub running : Option ℕ
@@ -94,7 +105,7 @@ module _ (m : Configuration) where
 
   -- the barrier word
   abbrev pub word : ℕ
-  word = m.inside + 65536 * m.members + (if m.sense then 2147483648 else 0)
+  word = m.inside + one_member * m.members + (if m.sense then sense_bit else 0)
 
   -- tests of a publish of n jobs
   abbrev pub publish_tests : ℕ → ℕ → List (Why × Bool)
@@ -108,7 +119,7 @@ module _ (m : Configuration) where
 
   -- each step's tests, in the order of the step table: the first that is true refuses the step
   abbrev pub tests : (granted : Bool) → Step → List (Why × Bool)
-  tests granted (Join p) = (Member, not (is_out (status p))) ∷ (Full, m.members == 32767)
+  tests granted (Join p) = (Member, not (is_out (status p))) ∷ (Full, m.members == most_parties)
       ∷ (Closing, is_some m.closer) ∷ (Memory, not granted) ∷ []
   tests granted (Publish p n) = publish_tests p n
   tests granted (PublishTry p n) = publish_tests p n
@@ -117,7 +128,8 @@ module _ (m : Configuration) where
   tests granted (Rest p) = claim_tests p ++ ((Empty, m.remainder == 0) ∷ [])
   tests granted (Finish p) = (Idle, not (is_running p)) ∷ []
   tests granted (Stop p) = (Idle, not (is_running p)) ∷ (Fixed, not m.stoppable) ∷ []
-  tests granted (See p) = (NotIn, not (is_inside (status p))) ∷ (NotPublished, not (is_some m.published))
+  tests granted (See p) = (NotIn, not (is_inside (status p)))
+      ∷ (NotPublished, not (is_some m.published))
       ∷ (Going, not m.stopped) ∷ []
   tests granted (Arrive p) = (NotIn, not (is_inside (status p))) ∷ (Holding, is_running p)
       ∷ (Left, is_some m.published && not m.stopped && nat_lt 0 left) ∷ []
@@ -126,7 +138,8 @@ module _ (m : Configuration) where
   tests granted (Exit p) = (NotIn, not (is_inside (status p))) ∷ (Holding, is_running p)
       ∷ (Leader, (p == 0) && is_some m.published) ∷ []
   tests granted (Clear p) = (NotCloser, not (is_party m.closer p)) ∷ []
-  tests granted (End p) = (NotCloser, not (is_party m.closer p)) ∷ (Published, is_some m.published) ∷ []
+  tests granted (End p) = (NotCloser, not (is_party m.closer p)) ∷ (Published, is_some m.published)
+      ∷ []
 
   -- the party p stands so
   abbrev pub standing : ℕ → Status → ℕ → Seat
@@ -176,19 +189,30 @@ module _ (m : Configuration) where
 module _ (m : Configuration) where
   -- the party p is gone, and the round ends where it was the last member
   abbrev pub exited : ℕ → Configuration
-  exited p = let gone : Configuration = record m { seat = standing m p Out; inside = m.inside - 1; members = m.members - 1 } in
+  exited p = let gone : Configuration = record m {
+    seat = standing m p Out;
+    inside = m.inside - 1;
+    members = m.members - 1;
+  } in
       if gone.members == 0 then turned gone else closing gone p
 
   -- what an accepted step changes
   abbrev pub effect : Step → Configuration
-  effect (Join p) = record m { seat = standing m p In; inside = m.inside + 1; members = m.members + 1 }
+  effect (Join p) = record m {
+    seat = standing m p In;
+    inside = m.inside + 1;
+    members = m.members + 1;
+  }
   effect (Publish p n) = publishing m n false
   effect (PublishTry p n) = publishing m n true
   effect (Claim p t) = record m {
     seat = with_running m p (Some (claimed m t));
     counters = slice_set m.counters t (counter m t - 1);
   }
-  effect (Rest p) = record m { seat = with_running m p (Some (rested m)); remainder = m.remainder - 1 }
+  effect (Rest p) = record m {
+    seat = with_running m p (Some (rested m));
+    remainder = m.remainder - 1;
+  }
   effect (Finish p) = record m { seat = with_running m p None; finished = m.finished + 1 }
   effect (Stop p) = record m { seat = with_seen m p; stopped = true }
   effect (See p) = record m { seat = with_seen m p }

@@ -1,10 +1,12 @@
 -- The pieces of a list.
-use Rattle.std.specs.Prelude.{ℕ, ◌+◌, ◌/◌, ◌%◌, ◌-◌, List, [], ◌∷◌, ◌++◌, ◌*◌, length, min, replicate, take, drop, zero, suc}
+use Rattle.std.specs.Prelude.{ℕ, ◌+◌, ◌/◌, ◌%◌, ◌-◌, List, [], ◌∷◌, ◌++◌, ◌*◌, length, min}
+use Rattle.std.specs.Prelude.{replicate, take, drop, zero, suc}
 
--- the lengths of the pieces: the first `len % m` are one longer, where m is the smaller of len and n_jobs
+-- the lengths of m pieces: the first `len % m` are one longer
 abbrev pub lengths_of : (len m : ℕ) → List ℕ
 lengths_of len m = replicate (len % m) (len / m + 1) ++ replicate (m - len % m) (len / m)
 
+-- the lengths of the pieces that `cut` makes: as many as jobs, but no more than elements
 abbrev pub cut_lengths : (len n_jobs : ℕ) → List ℕ
 cut_lengths len n_jobs = lengths_of len (min len n_jobs)
 
@@ -23,7 +25,8 @@ abbrev pub total : List ℕ → ℕ
 total [] = 0
 total (x ∷ xs) = x + total xs
 
--- what thread i is dealt of a list: the i-th run of n / threads elements, and the i-th of the rest where there is one
+-- what thread i is dealt of a list: the i-th run of n / threads elements,
+-- and the i-th of the rest where there is one
 abbrev pub dealt : {T : Type 0} → List T → (threads i : ℕ) → List T
 dealt xs threads i =
     let each = length xs / threads in

@@ -1,8 +1,10 @@
 -- The configuration that the machine's registers show, and what is kept of them between two steps.
-use Rattle.std.specs.Prelude.{◌≡◌, ℕ, ◌+◌, ◌<◌, ◌≤◌, Bool, true, false, ◌==◌, List, sum, Option, Some, None, vec_capacity}
+use Rattle.std.specs.Prelude.{◌≡◌, ℕ, ◌+◌, ◌<◌, ◌≤◌, Bool, true, false, ◌==◌, List, sum, Option}
+use Rattle.std.specs.Prelude.{Some, None, vec_capacity}
 use Rattle.std.specs.List.{list_any}
 use Rattle.std.specs.Ordering.{nat_cmp}
 use Rattle.std.specs.BTreeMap.{get}
+use Rattle.spindle_parts.specs.Words.{most_parties}
 use Rattle.spindle_parts.specs.State.{Status, Out, In, Arrived}
 use Rattle.spindle_parts.specs.Machine.{Configuration}
 use Rattle.spindle_parts.specs.EverySchedule.{Call, IsSchedule, machine}
@@ -42,7 +44,7 @@ pub record IsReached (m : Configuration) : Type 0 where
   pub threads : ℕ
   pub calls : List Call
   pub some : 0 < threads
-  pub few : threads ≤ 32767
+  pub few : threads ≤ most_parties
   pub schedule : IsSchedule calls
   pub leads : m ≡ machine threads calls
 
@@ -51,7 +53,7 @@ pub record IsTidy (r : Registers) : Type 0 where
   pub marks : IsMarked r.entries r.saw.items (vec_capacity r.saw)
   pub left : r.left ≡ sum r.counters.items + r.remainder
   pub inside : r.inside ≤ r.members
-  pub members : r.members ≤ 32767
+  pub members : r.members ≤ most_parties
 
 -- between two steps: tidy, where some schedule leads
 pub record IsSteady (r : Registers) : Type 0 where

@@ -15,4 +15,5 @@ IsRun (e ∷ es) = Allowed (state es) e × IsRun es
 
 -- no number stands twice in begun of any round, and none more often in finished than in begun
 abbrev pub IsOnce : State → Type 0
-IsOnce s = (q k : ℕ) → (times k (s.rounds q).begun ≤ 1) × (times k (s.rounds q).finished ≤ times k (s.rounds q).begun)
+IsOnce s = (q k : ℕ) → (times k (s.rounds q).begun ≤ 1)
+    × (times k (s.rounds q).finished ≤ times k (s.rounds q).begun)

@@ -1,5 +1,7 @@
--- The state of a round: who takes part, what each party runs and has taken, and what each round has begun and finished.
-use Rattle.std.specs.Prelude.{◌≡◌, ◌⊎◌, ℕ, zero, suc, ◌+◌, ◌<◌, Bool, true, false, ◌==◌, List, [], ◌∷◌, Option, None, if◌then◌else◌}
+-- The state of a round: who takes part, what each party runs and has taken,
+-- and what each round has begun and finished.
+use Rattle.std.specs.Prelude.{◌≡◌, ◌⊎◌, ℕ, zero, suc, ◌+◌, ◌<◌, Bool, true, false, ◌==◌, List, []}
+use Rattle.std.specs.Prelude.{◌∷◌, Option, None, if◌then◌else◌}
 
 -- how a party stands: no member, a member that hasn't arrived, a member that has
 pub data Status : Type 0 where
@@ -13,8 +15,8 @@ pub record Party : Type 0 where
   pub running : Option ℕ
   pub taken : ℕ → Bool
 
--- a round: how many jobs were published in it, whether it may be stopped, whether it was, who has seen that, and the
--- numbers begun and finished, in the order of the events
+-- a round: how many jobs were published in it, whether it may be stopped, whether it was,
+-- who has seen that, and the numbers begun and finished, in the order of the events
 pub record Round : Type 0 where
   pub jobs : ℕ
   pub stoppable : Bool
@@ -23,8 +25,8 @@ pub record Round : Type 0 where
   pub begun : List ℕ
   pub finished : List ℕ
 
--- the rounds at a moment: the round number, the parties (party p is the p-th, and one past the end is out), the closer,
--- how many jobs are published, and every round
+-- the rounds at a moment: the round number, the parties (party p is the p-th,
+-- and one past the end is out), the closer, how many jobs are published, and every round
 pub record State : Type 0 where
   pub round : ℕ
   pub parties : List Party
@@ -42,7 +44,14 @@ absent = record { status = Out; running = None; taken = no_set }
 
 -- a round in which nothing happened
 abbrev pub blank : Round
-blank = record { jobs = 0; stoppable = false; stopped = false; seen = no_set; begun = []; finished = [] }
+blank = record {
+  jobs = 0;
+  stoppable = false;
+  stopped = false;
+  seen = no_set;
+  begun = [];
+  finished = [];
+}
 
 -- the first state: nobody came, nothing happened
 abbrev pub fresh : State
@@ -125,11 +134,23 @@ module _ (s : State) where
 
   -- the state, but the party p is x
   abbrev pub change : ℕ → Party → State
-  change p x = record { round = s.round; parties = put_party s.parties p x; closer = s.closer; published = s.published; rounds = s.rounds }
+  change p x = record {
+    round = s.round;
+    parties = put_party s.parties p x;
+    closer = s.closer;
+    published = s.published;
+    rounds = s.rounds;
+  }
 
   -- the state, but the round that goes on is x
   abbrev pub change_round : Round → State
-  change_round x = record { round = s.round; parties = s.parties; closer = s.closer; published = s.published; rounds = put s.rounds s.round x }
+  change_round x = record {
+    round = s.round;
+    parties = s.parties;
+    closer = s.closer;
+    published = s.published;
+    rounds = put s.rounds s.round x;
+  }
 
   -- a number below the round's jobs that nobody has taken or begun
   abbrev pub Free : ℕ → Type 0

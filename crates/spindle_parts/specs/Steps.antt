@@ -1,9 +1,13 @@
 -- The events of a round: by whom each is, when it is allowed, and what it changes.
-use Rattle.std.specs.Prelude.{◌≡◌, ◌≢◌, ◌⊎◌, ℕ, ◌+◌, ◌<◌, ◌≤◌, Bool, true, false, ◌||◌, ◌==◌, List, [], ◌∷◌, ◌++◌, Option, Some, None, if◌then◌else◌}
-use Rattle.spindle_parts.specs.State.{Status, Out, In, Arrived, Party, State, no_set, put, put_party, inside, members, wake, now, party, change, change_round, Free}
+use Rattle.std.specs.Prelude.{◌≡◌, ◌≢◌, ◌⊎◌, ℕ, ◌+◌, ◌<◌, ◌≤◌, Bool, true, false, ◌||◌, ◌==◌, List}
+use Rattle.std.specs.Prelude.{[], ◌∷◌, ◌++◌, Option, Some, None, if◌then◌else◌}
+use Rattle.spindle_parts.specs.Words.{most_parties, most_jobs}
+use Rattle.spindle_parts.specs.State.{Status, Out, In, Arrived, Party, State, no_set, put}
+use Rattle.spindle_parts.specs.State.{put_party, inside, members, wake, now, party, change}
+use Rattle.spindle_parts.specs.State.{change_round, Free}
 
--- an event, with its party first: a publish has its number of jobs (a round published by the second kind may be stopped),
--- a take a set of numbers, a begin its number
+-- an event, with its party first: a publish has its number of jobs (a round published
+-- by the second kind may be stopped), a take a set of numbers, a begin its number
 pub data Event : Type 0 where
   Join : (p : ℕ) → Event
   Publish : (p n : ℕ) → Event
@@ -39,7 +43,8 @@ by (End p) = p
 
 -- the leader, who is in, may publish n jobs
 abbrev pub IsPublishable : State → ℕ → ℕ → Type 0
-IsPublishable s p n = (p ≡ 0) × ((party s p).status ≡ In) × (s.published ≡ None) × (2 ≤ n) × (n ≤ 4294967295)
+IsPublishable s p n = (p ≡ 0) × ((party s p).status ≡ In) × (s.published ≡ None) × (2 ≤ n)
+    × (n ≤ most_jobs)
 
 -- the party p has taken no number and runs no job
 abbrev pub IsIdle : State → ℕ → Type 0
@@ -47,18 +52,24 @@ IsIdle s p = ((k : ℕ) → (party s p).taken k ≡ false) × ((party s p).runni
 
 -- where the event is allowed
 abbrev pub Allowed : State → Event → Type 0
-Allowed s (Join p) = ((party s p).status ≡ Out) × (s.closer ≡ None) × (members s.parties < 32767)
+Allowed s (Join p) = ((party s p).status ≡ Out) × (s.closer ≡ None)
+    × (members s.parties < most_parties)
 Allowed s (Publish p n) = IsPublishable s p n
 Allowed s (PublishTry p n) = IsPublishable s p n
-Allowed s (Take p some) = (s.published ≢ None) × ((party s p).status ≡ In) × ((now s).seen p ≡ false) × ((k : ℕ) × (some k ≡ true)) ×
+Allowed s (Take p some) = (s.published ≢ None) × ((party s p).status ≡ In)
+    × ((now s).seen p ≡ false) × ((k : ℕ) × (some k ≡ true)) ×
     ((k : ℕ) → some k ≡ true → Free s k)
-Allowed s (Begin p k) = ((party s p).status ≡ In) × ((now s).seen p ≡ false) × ((party s p).running ≡ None) × ((party s p).taken k ≡ true)
+Allowed s (Begin p k) = ((party s p).status ≡ In) × ((now s).seen p ≡ false)
+    × ((party s p).running ≡ None) × ((party s p).taken k ≡ true)
 Allowed s (Finish p) = (k : ℕ) × ((party s p).running ≡ Some k)
 Allowed s (Stop p) = ((k : ℕ) × ((party s p).running ≡ Some k)) × ((now s).stoppable ≡ true)
 Allowed s (See p) = ((party s p).status ≡ In) × ((now s).stopped ≡ true)
-Allowed s (PutBack p) = ((party s p).status ≡ In) × ((now s).seen p ≡ true) × ((party s p).running ≡ None)
-Allowed s (Arrive p) = ((party s p).status ≡ In) × IsIdle s p × (s.published ≢ None → ((k : ℕ) → Free s k → ⊥) ⊎ ((now s).stopped ≡ true))
-Allowed s (Leave p) = ((party s p).status ≡ Arrived) × (s.closer ≡ None) × (p ≡ 0 → s.published ≡ None)
+Allowed s (PutBack p) = ((party s p).status ≡ In) × ((now s).seen p ≡ true)
+    × ((party s p).running ≡ None)
+Allowed s (Arrive p) = ((party s p).status ≡ In) × IsIdle s p
+    × (s.published ≢ None → ((k : ℕ) → Free s k → ⊥) ⊎ ((now s).stopped ≡ true))
+Allowed s (Leave p) = ((party s p).status ≡ Arrived) × (s.closer ≡ None)
+    × (p ≡ 0 → s.published ≡ None)
 Allowed s (Exit p) = ((party s p).status ≡ In) × IsIdle s p × (p ≡ 0 → s.published ≡ None)
 Allowed s (Clear p) = s.closer ≡ Some p
 Allowed s (End p) = (s.closer ≡ Some p) × (s.published ≡ None)
@@ -74,9 +85,16 @@ closer_after s ps p = if inside ps == 0 then Some p else s.closer
 
 -- the state with those parties, from which p has gone or arrived
 abbrev pub arrived : State → ℕ → List Party → State
-arrived s p ps = record { round = s.round; parties = ps; closer = closer_after s ps p; published = s.published; rounds = s.rounds }
+arrived s p ps = record {
+  round = s.round;
+  parties = ps;
+  closer = closer_after s ps p;
+  published = s.published;
+  rounds = s.rounds;
+}
 
--- the state with those parties, from which p has exited: where it was the last member, the round ends
+-- the state with those parties, from which p has exited:
+-- where it was the last member, the round ends
 abbrev pub left : State → ℕ → List Party → State
 left s p ps = if members ps == 0 then record {
   round = s.round + 1;
@@ -106,16 +124,32 @@ abbrev pub after : State → Event → State
 after s (Join p) = change s p (with_status In (party s p))
 after s (Publish p n) = publish s false n
 after s (PublishTry p n) = publish s true n
-after s (Take p some) = change s p (record (party s p) { taken = λ k. (party s p).taken k || some k })
+after s (Take p some) = change s p
+    (record (party s p) { taken = λ k. (party s p).taken k || some k })
 after s (Begin p k) = change (change_round s (record (now s) { begun = (now s).begun ++ k ∷ [] })) p
     (record (party s p) { running = Some k; taken = put (party s p).taken k false })
-after s (Finish p) = change (change_round s (record (now s) { finished = (now s).finished ++ ended_by (party s p).running })) p
+after s (Finish p) =
+    change (change_round s
+    (record (now s) { finished = (now s).finished ++ ended_by (party s p).running })) p
     (record (party s p) { running = None })
-after s (Stop p) = change_round s (record (now s) { stopped = true; seen = put (now s).seen p true })
+after s (Stop p) = change_round s
+    (record (now s) { stopped = true; seen = put (now s).seen p true })
 after s (See p) = change_round s (record (now s) { seen = put (now s).seen p true })
 after s (PutBack p) = change s p (record (party s p) { taken = no_set })
 after s (Arrive p) = arrived s p (put_party s.parties p (with_status Arrived (party s p)))
 after s (Leave p) = change s p (with_status Out (party s p))
 after s (Exit p) = left s p (put_party s.parties p (with_status Out (party s p)))
-after s (Clear p) = record { round = s.round; parties = s.parties; closer = s.closer; published = None; rounds = s.rounds }
-after s (End p) = record { round = s.round + 1; parties = wake s.parties; closer = None; published = s.published; rounds = s.rounds }
+after s (Clear p) = record {
+  round = s.round;
+  parties = s.parties;
+  closer = s.closer;
+  published = None;
+  rounds = s.rounds;
+}
+after s (End p) = record {
+  round = s.round + 1;
+  parties = wake s.parties;
+  closer = None;
+  published = s.published;
+  rounds = s.rounds;
+}

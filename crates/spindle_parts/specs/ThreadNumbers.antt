@@ -1,5 +1,6 @@
 -- Thread numbers: who has which, the words that show it, and what each step and each answer says.
-use Rattle.std.specs.Prelude.{◌≡◌, ◌≢◌, ℕ, zero, suc, ◌+◌, ◌-◌, ◌*◌, ◌/◌, ◌%◌, ◌^◌, ◌<◌, List, [], ◌∷◌, length, slice_index, Option, Some, None}
+use Rattle.std.specs.Prelude.{◌≡◌, ◌≢◌, ℕ, zero, suc, ◌+◌, ◌-◌, ◌*◌, ◌/◌, ◌%◌, ◌^◌, ◌<◌, List, []}
+use Rattle.std.specs.Prelude.{◌∷◌, length, slice_index, Option, Some, None}
 use Rattle.std.specs.Int.{bit_at}
 use mathlib.Core.Option.{some}
 use lib.ListN.{get_elem?}
@@ -99,7 +100,8 @@ taking t found v =
 -- the seat gives its number t
 abbrev pub giving : (t found : ℕ) → View → View
 giving t found v =
-    record (noted (trace (place_of t) kind.Give found (found - 2 ^ bit_of t)) v) { holding = Nothing }
+    record (noted (trace (place_of t) kind.Give found (found - 2 ^ bit_of t)) v)
+    { holding = Nothing }
 
 -- what a seat knows, and the slots that it holds: always none
 abbrev pub Sat : Type 0

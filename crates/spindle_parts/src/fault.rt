@@ -37,14 +37,23 @@ impl From<AllocError> for Fault {
 #[cfg(test)]
 mod tests {
     use super::*;
+    use crate::checks::is;
     use std::test::Fail;
 
     #[test]
     fn texts(rt: HostRuntime) -> Result<(), Fail> {
         let memory = Fault::Memory;
         let lost = Fault::Lost(7);
-        assert_eq!(rt; format!(in rt.alloc(); "{memory}")?.as_str(), "no memory");
-        assert_eq!(rt; format!(in rt.alloc(); "{lost}")?.as_str(), "lost piece 7");
+        is(
+            &rt,
+            format!(in rt.alloc(); "{memory}")?.as_str(),
+            "no memory",
+        );
+        is(
+            &rt,
+            format!(in rt.alloc(); "{lost}")?.as_str(),
+            "lost piece 7",
+        );
         Ok(())
     }
 }

@@ -6,6 +6,7 @@ ghost use Rattle.std.specs.Prelude.{◌≡◌, map, IfOk, vec_len};
 ghost use Rattle.spindle_parts.specs.Pieces.{counted};
 
 use super::*;
+use crate::checks::is;
 use std::alloc::AllocError;
 use std::test::Fail;
 
@@ -58,10 +59,10 @@ fn pieces_hold_the_items_in_order(rt: HostRuntime) -> Result<(), Fail> {
     let pieces = cut(rt.alloc(), &mut items, 4)?;
     assert!(rt; items.is_empty());
     let want: [&[u64]; 4] = [&[0, 1, 2], &[3, 4, 5], &[6, 7], &[8, 9]];
-    assert_eq!(rt; pieces.len(), want.len());
+    is(&rt, pieces.len(), want.len());
     for (number, (piece, run)) in pieces.iter().zip(want).enumerate() {
-        assert_eq!(rt; piece.number, number);
-        assert_eq!(rt; piece.items.as_slice(), run);
+        is(&rt, piece.number, number);
+        is(&rt, piece.items.as_slice(), run);
     }
     Ok(())
 }
@@ -88,7 +89,7 @@ fn each_thread_gets_a_run_and_one_of_the_rest(rt: HostRuntime) -> Result<(), Fai
         assert!(rt; want.len() > 0);
         let hands = deal(rt.alloc(), &mut pieces, want.len())?;
         assert!(rt; pieces.is_empty());
-        assert_eq!(rt; hands.len(), want.len());
+        is(&rt, hands.len(), want.len());
         for (hand, numbers) in hands.iter().zip(want) {
             assert!(rt; holds(hand, numbers), "{count} pieces");
         }
@@ -100,13 +101,13 @@ fn each_thread_gets_a_run_and_one_of_the_rest(rt: HostRuntime) -> Result<(), Fai
 #[test]
 fn a_million_items_make_a_million_pieces(rt: HostRuntime) -> Result<(), Fail> {
     let lengths = piece_lengths(rt.alloc(), 2_500_000, 1_000_000)?;
-    assert_eq!(rt; lengths.len(), 1_000_000);
+    is(&rt, lengths.len(), 1_000_000);
     assert!(rt; lengths.iter().take(500_000).all(|length| *length == 3));
     assert!(rt; lengths.iter().skip(500_000).all(|length| *length == 2));
     let mut pieces = singles(rt.alloc(), 1_000_000)?;
-    assert_eq!(rt; pieces.len(), 1_000_000);
+    is(&rt, pieces.len(), 1_000_000);
     let hands = deal(rt.alloc(), &mut pieces, 3)?;
-    assert_eq!(rt; hands.len(), 3);
+    is(&rt, hands.len(), 3);
     assert!(rt;
         hands
             .iter()
@@ -136,7 +137,7 @@ fn refused_lists_too_long_for_memory(rt: HostRuntime) -> Result<(), Fail> {
 #[test]
 fn refused_lengths_are_answered(rt: HostRuntime) {
     match piece_lengths(rt.alloc(), 10, 4) {
-        Ok(lengths) => assert_eq!(rt; lengths.as_slice(), [3, 3, 2, 2].as_slice()),
+        Ok(lengths) => is(&rt, lengths.as_slice(), [3, 3, 2, 2].as_slice()),
         Err(fault) => assert!(rt; matches!(fault, Fault::Memory)),
     }
 }
@@ -147,11 +148,15 @@ fn refused_cut_leaves_the_list(rt: HostRuntime) -> Result<(), Fail> {
         return Ok(());
     };
     match cut(rt.alloc(), &mut items, 4) {
-        Ok(pieces) => assert_eq!(rt; pieces.len(), 4),
+        Ok(pieces) => is(&rt, pieces.len(), 4),
         Err(fault) => {
             assert!(rt; matches!(fault, Fault::Memory));
-            assert_eq!(rt; items.as_slice(), [0, 1, 2, 3, 4, 5, 6, 7, 8, 9].as_slice());
-            assert_eq!(rt; cut(rt.alloc(), &mut items, 4)?.len(), 4);
+            is(
+                &rt,
+                items.as_slice(),
+                [0, 1, 2, 3, 4, 5, 6, 7, 8, 9].as_slice(),
+            );
+            is(&rt, cut(rt.alloc(), &mut items, 4)?.len(), 4);
         }
     }
     Ok(())
@@ -163,11 +168,11 @@ fn refused_deal_leaves_the_pieces(rt: HostRuntime) -> Result<(), Fail> {
         return Ok(());
     };
     match deal(rt.alloc(), &mut pieces, 3) {
-        Ok(hands) => assert_eq!(rt; hands.len(), 3),
+        Ok(hands) => is(&rt, hands.len(), 3),
         Err(fault) => {
             assert!(rt; matches!(fault, Fault::Memory));
             assert!(rt; holds(&pieces, &[0, 1, 2, 3, 4]));
-            assert_eq!(rt; deal(rt.alloc(), &mut pieces, 3)?.len(), 3);
+            is(&rt, deal(rt.alloc(), &mut pieces, 3)?.len(), 3);
         }
     }
     Ok(())

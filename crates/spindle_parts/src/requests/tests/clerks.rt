@@ -3,6 +3,7 @@ ghost use Rattle.std.specs.Prelude.{◌≡◌, ◌≤◌, ◌<◌};
 ghost use Rattle.spindle_parts.specs.LedgerSeats.{slot_count, IsSeatOf};
 
 use super::SLOTS;
+use crate::checks::is;
 use crate::requests::{Requests, Seat, TakePlace};
 use std::test::Fail;
 use std::thread;
@@ -188,15 +189,15 @@ fn the_books_balance_after_eight_threads(rt: HostRuntime) -> Result<(), Fail> {
     for slot in 0..SLOTS {
         leader.close(slot);
     }
-    assert_eq!(rt; standing, leader.credit);
+    is(&rt, standing, leader.credit);
     let mut last = leader.hire(0);
     let mut all = leader.leave();
-    assert_eq!(rt; last.requests(), 0);
+    is(&rt, last.requests(), 0);
     for tally in &tallies {
         all.add(tally);
     }
     assert!(rt; all.taken > 0 && all.closed > 0);
-    assert_eq!(rt; all.asked, all.subtracted);
-    assert_eq!(rt; all.installed, all.taken.wrapping_add(all.closed));
+    is(&rt, all.asked, all.subtracted);
+    is(&rt, all.installed, all.taken.wrapping_add(all.closed));
     Ok(())
 }

@@ -1,5 +1,6 @@
 //! Joins whose growth is refused, and that no other join is refused for memory.
 
+use crate::checks::is;
 use crate::steps::Step::{Arrive, Exit, Join, Leave, PublishTry, Rest, See, Stop};
 use crate::steps::tests::{accept, fresh, word};
 use crate::steps::{Machine, Reply, Why};
@@ -58,7 +59,7 @@ fn every_number_may_be_a_party(rt: HostRuntime) -> Result<(), Fail> {
     for bit in 1..32u32 {
         accept(&rt, &mut machine, &[Join(1 << bit)]);
     }
-    assert_eq!(rt; machine.step(Join(3_000_000_000)), word(0x0042_0042));
+    is(&rt, machine.step(Join(3_000_000_000)), word(0x0042_0042));
     Ok(())
 }
 
@@ -71,6 +72,6 @@ fn as_many_parties_as_come(rt: HostRuntime) -> Result<(), Fail> {
         let party = count.wrapping_mul(0x9E37_79B1);
         accept(&rt, &mut machine, &[Join(party), Exit(party)]);
     }
-    assert_eq!(rt; machine.step(Join(1)), word(0x0002_0002));
+    is(&rt, machine.step(Join(1)), word(0x0002_0002));
     Ok(())
 }

@@ -1,5 +1,6 @@
 //! Each refusal at least once, where several tests are true by the first of the step table.
 
+use crate::checks::is;
 use crate::steps::Step::{
     Arrive, Claim, Clear, End, Exit, Finish, Join, Leave, Publish, PublishTry, Rest, See, Stop,
 };
@@ -12,9 +13,10 @@ fn a_join_is_refused(rt: HostRuntime) -> Result<(), Fail> {
     let mut machine = fresh(rt.alloc())?;
     for party in 0..32767 {
         let members = party + 1;
-        assert_eq!(rt;
+        is(
+            &rt,
             machine.step(Join(party)),
-            word(members.wrapping_mul(0x0001_0001))
+            word(members.wrapping_mul(0x0001_0001)),
         );
     }
     refuse(&rt, &mut machine, Join(7), Why::Member);

@@ -1,5 +1,6 @@
 //! Worked rounds, step by step with each answer.
 
+use crate::checks::is;
 use crate::steps::Step::{
     Arrive, Claim, Clear, End, Exit, Finish, Join, Leave, Publish, PublishTry, Rest, See, Stop,
 };
@@ -169,11 +170,12 @@ fn play_with_guest(rt: &impl Abort, machine: &mut Machine, script: Script) {
     let mut before = 0u32;
     for (step, reply) in script {
         if before % 0x8000 > 0 {
-            assert_eq!(rt;
+            is(
+                rt,
                 machine.step(Join(2)),
-                word(before.wrapping_add(0x0001_0001))
+                word(before.wrapping_add(0x0001_0001)),
             );
-            assert_eq!(rt; machine.step(Exit(2)), word(before));
+            is(rt, machine.step(Exit(2)), word(before));
         }
         assert_eq!(rt; machine.step(*step), *reply, "at {step:?}");
         match reply {
@@ -238,7 +240,7 @@ fn each_counter_stands_for_its_own_jobs(rt: HostRuntime) -> Result<(), Fail> {
         (Rest(0), 9),
         (Claim(0, 3), 6),
     ] {
-        assert_eq!(rt; machine.step(step), Reply::Job(0x0001_0001, number));
+        is(&rt, machine.step(step), Reply::Job(0x0001_0001, number));
         accept(&rt, &mut machine, &[Finish(0)]);
     }
     refuse(&rt, &mut machine, Claim(0, 1), Why::Empty);
@@ -260,7 +262,7 @@ fn the_stop_is_seen_until_the_round_ends(rt: HostRuntime) -> Result<(), Fail> {
         &[Stop(0), Stop(0), See(1), See(0), See(1)],
     );
     refuse(&rt, &mut machine, Claim(1, 0), Why::Stopped);
-    assert_eq!(rt; machine.step(Claim(2, 0)), Reply::Job(0x0003_0003, 0));
+    is(&rt, machine.step(Claim(2, 0)), Reply::Job(0x0003_0003, 0));
     accept(
         &rt,
         &mut machine,

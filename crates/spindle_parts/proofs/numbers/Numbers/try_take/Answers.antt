@@ -8,7 +8,8 @@ use Rattle.spindle_parts.specs.ThreadNumbers.{IsSameSeat, loading, reading}
 use Rattle.spindle_parts.proofs.NumbersKept.{loads}
 use Rattle.spindle_parts.proofs.NumberSearch.{ReadTo, reading-holding, reading_next, read_next, try_answer, take_holding, take_below, then_same, still_seated}
 use Rattle.spindle_parts.proofs.numbers.Numbers.try_take.Goals as goal
-use Rattle.spindle_parts.proofs.numbers.Numbers.try_take.Goals.{else-unused-lt-BITS-via-then-unused-lt-BITS+else-number-self, else-unused-lt-BITS-via-else-unused-lt-BITS}
+use Rattle.spindle_parts.proofs.numbers.Numbers.try_take.Goals.{else-unused-lt-BITS-via-then-unused-lt-BITS+else-number-self}
+use Rattle.spindle_parts.proofs.numbers.Numbers.try_take.Goals.{else-unused-lt-BITS-via-else-unused-lt-BITS}
 
 pub loop-index-init : goal.loop-index-init
 loop-index-init c = record {
