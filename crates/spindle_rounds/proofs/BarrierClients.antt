@@ -1,5 +1,6 @@
 -- What the answers of a barrier's calls tell the party that asked.
-use Rattle.std.proofs.Common.{◌≡◌, ◌≢◌, ◌⊎◌, inl, inr, ⊎_elim, ℕ, ◌+◌, ◌-◌, ◌/◌, ◌%◌, ◌<◌, ◌≤◌, Bool, true, false, eq-eqb, ne_eqb, le-ltb, lt-ltb, List, [], ◌∷◌, ◌++◌, append_assoc, sym, refl, ap, ◌∙◌, subst, arith, Option, None, if◌then◌else◌, ◌==◌, ◌&&◌, nat_lt}
+use Rattle.std.proofs.Common.{◌≡◌, ◌≢◌, ◌⊎◌, inl, inr, ⊎_elim, ℕ, ◌+◌, ◌-◌, ◌/◌, ◌%◌, ◌<◌, ◌≤◌, Bool, true, false, eq-eqb, ne_eqb, le-ltb, lt-ltb, List, []}
+use Rattle.std.proofs.Common.{◌∷◌, ◌++◌, append_assoc, sym, refl, ap, ◌∙◌, subst, arith, Option, None, if◌then◌else◌, ◌==◌, ◌&&◌, nat_lt}
 use Rattle.atomic_table.specs.Table.{Me}
 use Rattle.spindle_parts.specs.declared.trail.Trace.{Trace}
 use Rattle.spindle_rounds.specs.declared.barrier.steps.JoinStep.TheVariants as join
@@ -15,8 +16,10 @@ use Rattle.spindle_rounds.specs.declared.round_table.view.View.{View}
 use Rattle.spindle_rounds.specs.RoundRule.{Deed, deed_of, deeds_of}
 use Rattle.spindle_parts.specs.Trail.{trace}
 use Rattle.spindle_rounds.specs.declared.round_table.view.Kind.TheVariants as kind
+use Rattle.spindle_rounds.specs.Seating.{IsSameSeat}
 use Rattle.spindle_rounds.specs.Words.{barrier_at, sense_bit, high_half, count_of, most_of, sense_of}
-use Rattle.spindle_rounds.specs.RoundSteps.{round_of, unknown, noted, standing, outside, loading, missing, looking, leaving, exit_word, with_word, with_clear, clearing, turned_word, after_end}
+use Rattle.spindle_rounds.specs.RoundSteps.{round_of, unknown, noted, standing, outside, loading, missing, looking, leaving, exit_word, with_word, with_clear}
+use Rattle.spindle_rounds.specs.RoundSteps.{clearing, turned_word, after_end}
 use Rattle.spindle_rounds.specs.RoundConditions.{HasSense, IsWaiting, MayLeave, MayExit}
 use Rattle.spindle_rounds.specs.Working.{IsIdle}
 use Rattle.spindle_rounds.specs.RoundAnswers.{JoinedBy, JoinRefusedBy, ArrivedBy, LookedBy, LeftBy, ExitedBy, EndedBy}
@@ -317,14 +320,13 @@ module _ {T S N : Type 0} where
 
 module _ {S N : Type 0} where
   -- a join refused for a moment leaves the seat as it was
-  pub refused_stays : (s u : Seat S (View N)) (e : JoinRefused (Seat S (View N))) → (e ≡ refused.Closing u) ⊎ (e ≡ refused.Again u) → JoinRefusedBy s e →
-      (u.table_id ≡ s.table_id) × (u.id ≡ s.id) × Stayed s.me u.me
-  refused_stays s u e why told = ⊎_elim (λ (z : e ≡ refused.Closing u). let a = subst (JoinRefusedBy s) z told in (a.0, a.1, join_closing s.me u.me a.2))
-      (λ (z : e ≡ refused.Again u). let a = subst (JoinRefusedBy s) z told in (a.0, a.1, join_again s.me u.me a.2)) why
+  pub refused_stays : (s u : Seat S (View N)) (e : JoinRefused (Seat S (View N))) → (e ≡ refused.Closing u) ⊎ (e ≡ refused.Again u) → JoinRefusedBy s e
+      → IsSameSeat s u × Stayed s.me u.me
+  refused_stays s u e why told = ⊎_elim (λ (z : e ≡ refused.Closing u). let a = subst (JoinRefusedBy s) z told in (a.0, join_closing s.me u.me a.1))
+      (λ (z : e ≡ refused.Again u). let a = subst (JoinRefusedBy s) z told in (a.0, join_again s.me u.me a.1)) why
 
-  pub refused_on : (s t u : Seat S (View N)) → (t.table_id ≡ s.table_id) × (t.id ≡ s.id) × Stayed s.me t.me → (u.table_id ≡ t.table_id) × (u.id ≡ t.id)
-      × Stayed t.me u.me → (u.table_id ≡ s.table_id) × (u.id ≡ s.id) × Stayed s.me u.me
-  refused_on s t u a b = (b.0 ∙ a.0, b.1 ∙ a.1, stayed_on s.me t.me u.me a.2 b.2)
+  pub refused_on : (s t u : Seat S (View N)) → IsSameSeat s t × Stayed s.me t.me → IsSameSeat t u × Stayed t.me u.me → IsSameSeat s u × Stayed s.me u.me
+  refused_on s t u a b = ((b.0.0 ∙ a.0.0, b.0.1 ∙ a.0.1), stayed_on s.me t.me u.me a.1 b.1)
 
 -- A party with no claim and no share, from step to step.
 module _ {S N : Type 0} (m w : Me S (View N)) where

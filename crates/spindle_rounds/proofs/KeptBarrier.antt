@@ -1,10 +1,11 @@
 -- The steps on the barrier word of parties that come and arrive, and of the closer.
-use Rattle.std.proofs.Common.{◌≡◌, ◌≢◌, ◌⊎◌, inl, inr, ⊎_elim, ℕ, suc, ◌+◌, ◌/◌, ◌%◌, ◌<◌, ◌≤◌, Bool, true, false, eq-eqb, ne_eqb, List, [], ◌∷◌, ◌++◌, get_or, sym, refl, ap, ◌∙◌, subst, arith, Option, Some, None, if◌then◌else◌, ◌==◌}
+use Rattle.std.proofs.Common.{◌≡◌, ◌≢◌, ◌⊎◌, inl, inr, ⊎_elim, ℕ, suc, ◌+◌, ◌/◌, ◌%◌, ◌<◌, ◌≤◌, Bool, true, false, eq-eqb, ne_eqb, List, [], ◌∷◌, ◌++◌, get_or}
+use Rattle.std.proofs.Common.{sym, refl, ap, ◌∙◌, subst, arith, Option, Some, None, if◌then◌else◌, ◌==◌}
 use mathlib.Core.Logic.{dite}
 use mathlib.Core.Option.{none}
 use native.Mathlib.Decide.{ℕ_discrete}
 use Rattle.atomic_table.specs.Table as table
-use Rattle.atomic_table.specs.Table.{Me, step, keeps, stepped}
+use Rattle.atomic_table.specs.Table.{step, keeps, stepped}
 use Rattle.spindle_parts.specs.State.{State, In, Arrived, Party, put_party, now, party, IsUsed, inside, members, weight_in, weight_member, is_in, is_member}
 use Rattle.spindle_parts.specs.Steps.{Event, Join, Arrive, after, Allowed, IsIdle, with_status, closer_after}
 use Rattle.spindle_parts.specs.Runs.{state}

@@ -1,9 +1,10 @@
 -- The exchanges with which numbers are claimed.
-use Rattle.std.proofs.Common.{◌≡◌, ◌≢◌, inl, inr, ⊎_elim, ℕ, ◌+◌, ◌*◌, ◌/◌, ◌%◌, ◌<◌, ◌≤◌, Bool, true, false, eq-eqb, ne_eqb, List, [], ◌∷◌, ◌++◌, length, get_or, set, sym, refl, ap, ◌∙◌, subst, arith, Option, Some, None, if◌then◌else◌}
+use Rattle.std.proofs.Common.{◌≡◌, ◌≢◌, inl, inr, ⊎_elim, ℕ, ◌+◌, ◌/◌, ◌%◌, ◌<◌, ◌≤◌, Bool, true, false, eq-eqb, ne_eqb, List, [], ◌∷◌, ◌++◌, length}
+use Rattle.std.proofs.Common.{get_or, set, sym, refl, ap, ◌∙◌, subst, arith, Option, Some, None, if◌then◌else◌}
 use mathlib.Core.Logic.{dite}
 use native.Mathlib.Decide.{ℕ_discrete}
 use Rattle.atomic_table.specs.Table as table
-use Rattle.atomic_table.specs.Table.{Me, Act, stepped, Valid, carried_after}
+use Rattle.atomic_table.specs.Table.{Act, stepped, Valid, carried_after}
 use Rattle.spindle_parts.specs.State.{State, Party, Round, put, party, Free}
 use Rattle.spindle_parts.specs.Steps.{Event, Take, Begin, Allowed}
 use Rattle.spindle_parts.specs.Runs.{state}
@@ -20,7 +21,8 @@ use Rattle.spindle_rounds.specs.RoundTells.{ClaimTells}
 use Rattle.spindle_rounds.specs.RoundConditions.{MayClaim}
 use Rattle.spindle_rounds.specs.RoundRuns.{Exchange, claim_of}
 use Rattle.spindle_rounds.proofs.RoundMoves.{Rule, SeatOf, Before, begins_by, moves_with, still_laid}
-use Rattle.spindle_rounds.proofs.RoundNumbers.{or_false, or_right, true_or, with_some, taken_first, then_begun, first_party, last_party, last_round, last_words, was_free, range_taken, begun_here}
+use Rattle.spindle_rounds.proofs.RoundNumbers.{or_false, or_right, true_or, with_some, taken_first, then_begun, first_party, last_party, last_round, last_words}
+use Rattle.spindle_rounds.proofs.RoundNumbers.{was_free, range_taken, begun_here}
 
 -- a set of free numbers, which counters that hold the word `old` lose where the word becomes `new`
 pub record Taking (t n i old new k from to : ℕ) (some : ℕ → Bool) : Type 0 where

@@ -1,11 +1,14 @@
 -- The steps that can end a round: an exit, and the closer's stores.
-use Rattle.std.proofs.Common.{◌≡◌, ◌≢◌, ◌⊎◌, inl, ⊎_elim, ℕ, ◌+◌, ◌*◌, ◌-◌, ◌<◌, ◌≤◌, Bool, true, false, eq-eqb, ne_eqb, le-ltb, lt-ltb, List, [], ◌∷◌, get_or, set, length-set, get_or-set_same, get_or-set_other, sym, refl, ap, ◌∙◌, subst, arith, Option, Some, None, if◌then◌else◌, ◌==◌, ◌&&◌}
+use Rattle.std.proofs.Common.{◌≡◌, ◌≢◌, ◌⊎◌, inl, ⊎_elim, ℕ, ◌+◌, ◌*◌, ◌-◌, ◌<◌, ◌≤◌, Bool, true, false, eq-eqb, ne_eqb, le-ltb, lt-ltb, List, [], ◌∷◌, get_or}
+use Rattle.std.proofs.Common.{set, length-set, get_or-set_same, get_or-set_other, sym, refl, ap, ◌∙◌, subst, arith, Option, Some, None, if◌then◌else◌, ◌==◌}
+use Rattle.std.proofs.Common.{◌&&◌}
 use mathlib.Core.Option.{none, some}
 use lib.ListN.{get_elem?}
 use Rattle.atomic_table.specs.Table as table
-use Rattle.atomic_table.specs.Table.{Me, step, keeps, stepped}
+use Rattle.atomic_table.specs.Table.{step, keeps, stepped}
 use Rattle.atomic_table.proofs.Lists.{at_set}
-use Rattle.spindle_parts.specs.State.{State, Out, Arrived, Party, Round, put_party, now, party, inside, members, waking, weight_in, weight_member, is_in, is_member, Free}
+use Rattle.spindle_parts.specs.State.{State, Out, Arrived, Party, Round, put_party, now, party, inside, members, waking, weight_in, weight_member, is_in}
+use Rattle.spindle_parts.specs.State.{is_member, Free}
 use Rattle.spindle_parts.specs.Steps.{Event, Exit, Clear, End, after, arrived, Allowed, with_status, closer_after}
 use Rattle.spindle_parts.specs.Runs.{state, IsRun}
 use Rattle.spindle_parts.specs.BarrierWord.{word}

@@ -1,5 +1,7 @@
 -- The leader's stores: the words of a round to come, and the number itself.
-use Rattle.std.proofs.Common.{◌≡◌, ◌≢◌, inl, inr, ⊎_elim, ℕ, zero, suc, ◌+◌, ◌*◌, ◌/◌, ◌%◌, ◌<◌, ◌≤◌, Bool, true, false, eq-eqb, List, [], ◌∷◌, ◌++◌, length, get_or, set, length-set, get_or-set_same, get_or-set_other, div-add-mod', zero-mul, sym, refl, ap, ◌∙◌, subst, arith, Some, if◌then◌else◌, ◌==◌}
+use Rattle.std.proofs.Common.{◌≡◌, ◌≢◌, inl, inr, ⊎_elim, ℕ, zero, suc, ◌+◌, ◌*◌, ◌/◌, ◌%◌, ◌<◌, ◌≤◌, Bool, true, false, eq-eqb, List, [], ◌∷◌, ◌++◌, length}
+use Rattle.std.proofs.Common.{get_or, set, length-set, get_or-set_same, get_or-set_other, div-add-mod', zero-mul, sym, refl, ap, ◌∙◌, subst, arith, Some}
+use Rattle.std.proofs.Common.{if◌then◌else◌}
 use Rattle.std.proofs.Math.Nat.{mul-le-mul_left}
 use mathlib.Core.Logic.{dite}
 use mathlib.Core.Option.{none, some}
@@ -7,7 +9,7 @@ use native.Mathlib.Decide.{ℕ_discrete, dec_le}
 use native.Mathlib.Nat.{div-lt_iff_lt-mul}
 use lib.ListN.{get_elem?}
 use Rattle.atomic_table.specs.Table as table
-use Rattle.atomic_table.specs.Table.{Me, step, keeps, stepped}
+use Rattle.atomic_table.specs.Table.{step, keeps, stepped}
 use Rattle.atomic_table.proofs.Lists.{at_set}
 use Rattle.spindle_parts.specs.State.{State, Round, now, Free, times}
 use Rattle.spindle_parts.specs.Steps.{Event, Publish, PublishTry, IsPublishable, Allowed, after, by, publish}
@@ -18,12 +20,11 @@ use Rattle.spindle_parts.proofs.Soundness.{sound, no_closer}
 use Rattle.spindle_rounds.specs.declared.round_table.view.Standing.TheVariants.{Inside}
 use Rattle.spindle_rounds.specs.declared.round_table.view.View.{View}
 use Rattle.spindle_rounds.specs.RoundSlots.{Discipline, Lawful, Publishes}
-use Rattle.spindle_rounds.specs.RoundRule.{Deed, Showed, deed, deeds, Stands, Shows, Counters, InRange, Words, Laid, stored_at, IsFilled, fill_value, home_of, number_of}
+use Rattle.spindle_rounds.specs.RoundRule.{Deed, Showed, deed, deeds, Stands, Shows, Counters, InRange, Words, Laid, stored_at, IsFilled, fill_value, home_of}
+use Rattle.spindle_rounds.specs.RoundRule.{number_of}
 use Rattle.spindle_rounds.specs.Words.{barrier_at, published_at, finished_at, stopped_at, remainder_at, range_at, filled_at, high_half, most_jobs}
 use Rattle.spindle_rounds.specs.RoundSteps.{round_of, filling, publish_word, publishing}
 use Rattle.spindle_rounds.specs.RoundTells.{FillTells, PublishTells, PublishTryTells}
-use Rattle.spindle_parts.specs.Trail.{trace}
-use Rattle.spindle_rounds.specs.declared.round_table.view.Kind.TheVariants as kind
 use Rattle.spindle_rounds.specs.RoundRuns.{Store}
 use Rattle.spindle_rounds.proofs.RoundMoves.{Rule, SeatOf, Before, stores, moves_with, untrue}
 use Rattle.spindle_rounds.proofs.RoundWords.{by_equal, by_less}

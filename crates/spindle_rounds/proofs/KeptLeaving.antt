@@ -1,7 +1,8 @@
 -- A party that has arrived leaves the barrier, and one that is in exits.
-use Rattle.std.proofs.Common.{◌≡◌, ◌≢◌, ◌⊎◌, inl, ⊎_elim, ℕ, suc, ◌+◌, ◌-◌, ◌/◌, ◌%◌, ◌<◌, Bool, true, false, List, [], ◌∷◌, get_or, sym, refl, ap, ◌∙◌, subst, arith, Some, None}
+use Rattle.std.proofs.Common.{◌≡◌, ◌≢◌, ◌⊎◌, inl, ⊎_elim, ℕ, suc, ◌+◌, ◌-◌, ◌/◌, ◌%◌, ◌<◌, Bool, true, false, List, [], ◌∷◌, get_or, sym, refl, ap, ◌∙◌, subst}
+use Rattle.std.proofs.Common.{arith, Some, None}
 use Rattle.atomic_table.specs.Table as table
-use Rattle.atomic_table.specs.Table.{Me, keeps, stepped}
+use Rattle.atomic_table.specs.Table.{keeps, stepped}
 use Rattle.spindle_parts.specs.State.{State, Out, In, Arrived, Party, now, party, inside, weight_in, weight_member, is_in, is_member}
 use Rattle.spindle_parts.specs.Steps.{Event, Leave, after, Allowed, with_status}
 use Rattle.spindle_parts.specs.Runs.{state}

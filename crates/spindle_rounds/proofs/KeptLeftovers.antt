@@ -1,12 +1,13 @@
 -- A load that asks what is left: between rounds the leader knows from then on what stands there.
-use Rattle.std.proofs.Common.{◌≡◌, ◌≢◌, ◌⊎◌, ⊎_elim, ℕ, ◌+◌, ◌<◌, ◌≤◌, Bool, true, false, List, [], ◌∷◌, get_or, sym, refl, ap, ◌∙◌, subst, arith, Option, Some, None, if◌then◌else◌, ◌==◌, nat_lt}
+use Rattle.std.proofs.Common.{◌≡◌, ◌≢◌, ◌⊎◌, ⊎_elim, ℕ, ◌<◌, ◌≤◌, Bool, true, false, List, [], ◌∷◌, get_or, sym, refl, ap, ◌∙◌, subst, arith, Some}
+use Rattle.std.proofs.Common.{if◌then◌else◌, ◌==◌, nat_lt}
 use mathlib.Core.Option.{some}
 use lib.ListN.{get_elem?}
 use lib.Seq.{set-get_or}
 use Rattle.atomic_table.specs.Table as table
-use Rattle.atomic_table.specs.Table.{Me, keeps, stepped}
+use Rattle.atomic_table.specs.Table.{keeps, stepped}
 use Rattle.atomic_table.proofs.Lists.{at_set}
-use Rattle.spindle_parts.specs.State.{State, now}
+use Rattle.spindle_parts.specs.State.{State}
 use Rattle.spindle_parts.specs.Steps.{Event}
 use Rattle.spindle_parts.specs.Runs.{state}
 use Rattle.spindle_rounds.specs.declared.round_table.view.Standing.{Standing}
@@ -90,7 +91,8 @@ module _ {X N : Type 0} (D : Discipline X N) (law : Lawful D) (t : ℕ) where
       finding (range_at i) x (searching i x me.0),
       keeps,
       tt,
-      found run s r (range_at i) i id (if nat_lt (start_of x) (end_of x) then false else true) me at (omega arith) (search_shows D law t id me i low run s r at),
+      found run s r (range_at i) i id (if nat_lt (start_of x) (end_of x) then false else true) me at (omega arith)
+          (search_shows D law t id me i low run s r at),
       (refl, λ j same. let ij : i ≡ j = omega arith in ap (λ (z : ℕ). finding (range_at z) x (searching z x me.0)) ij),
     );
   }

@@ -1,12 +1,13 @@
 -- Loads that leave the state of the round, and what they teach.
-use Rattle.std.proofs.Common.{◌≡◌, ◌≢◌, ◌⊎◌, inl, inr, ⊎_elim, ℕ, ◌+◌, ◌*◌, ◌/◌, ◌%◌, ◌<◌, ◌≤◌, Bool, true, false, lt-ltb, le-ltb, div-add-mod', zero-mul, List, [], get_or, sym, refl, ap, ◌∙◌, subst, arith, Option, Some, None, if◌then◌else◌, ◌==◌, nat_lt}
+use Rattle.std.proofs.Common.{◌≡◌, ◌≢◌, ◌⊎◌, inl, inr, ⊎_elim, ℕ, ◌+◌, ◌*◌, ◌/◌, ◌%◌, ◌<◌, ◌≤◌, Bool, true, false, lt-ltb, le-ltb, div-add-mod', zero-mul, List}
+use Rattle.std.proofs.Common.{[], get_or, sym, refl, ap, ◌∙◌, subst, arith, Option, Some, None, if◌then◌else◌, ◌==◌, nat_lt}
 use mathlib.Core.Logic.{dite}
 use native.Mathlib.Nat.{div-lt_iff_lt-mul}
 use mathlib.Core.Option.{none, some}
 use native.Mathlib.Decide.{ℕ_discrete}
 use lib.ListN.{get_elem?}
 use Rattle.atomic_table.specs.Table as table
-use Rattle.atomic_table.specs.Table.{Me, step, keeps, stepped}
+use Rattle.atomic_table.specs.Table.{step, keeps}
 use Rattle.spindle_parts.specs.State.{State, In, now, party, Free, IsUsed}
 use Rattle.spindle_parts.specs.Steps.{Event}
 use Rattle.spindle_parts.specs.Runs.{state}

@@ -1,11 +1,12 @@
 -- The leader takes every slot out, and gives back those that it holds.
-use Rattle.std.proofs.Common.{◌≡◌, ◌⊎◌, inl, inr, ⊎_elim, ℕ, zero, suc, ◌+◌, ◌<◌, ◌≤◌, true, false, List, [], ◌∷◌, ◌++◌, length, length-append, get_or, set, length-set, sym, refl, ap, ◌∙◌, subst, arith, None}
+use Rattle.std.proofs.Common.{◌≡◌, ◌⊎◌, inl, inr, ⊎_elim, ℕ, zero, suc, ◌+◌, ◌<◌, ◌≤◌, true, false, List, [], ◌∷◌, ◌++◌, length, length-append, get_or, set}
+use Rattle.std.proofs.Common.{length-set, sym, refl, ap, ◌∙◌, subst, arith, None}
 use mathlib.Core.Option as m
 use mathlib.Core.Option.{none, some, some-injective, some-ne-none}
 use lib.ListN.{get_elem?}
 use lib.Seq.{set-get_or}
 use Rattle.atomic_table.specs.Table as table
-use Rattle.atomic_table.specs.Table.{Act, step, stepped, Valid, homes_after, carried_after}
+use Rattle.atomic_table.specs.Table.{Act, stepped, Valid, homes_after, carried_after}
 use Rattle.spindle_parts.specs.State.{State}
 use Rattle.spindle_parts.specs.Steps.{Event}
 use Rattle.spindle_parts.specs.Runs.{state}

@@ -1,5 +1,6 @@
 -- The exchanges with which a thief takes the last half of a range, and with which the remainder falls.
-use Rattle.std.proofs.Common.{◌≡◌, ◌⊎◌, inl, inr, ⊎_elim, ℕ, ◌+◌, ◌-◌, ◌*◌, ◌/◌, ◌%◌, ◌<◌, ◌≤◌, true, false, eq-eqb, ne_eqb, div-add-mod', List, get_or, set, get_or-set_same, get_or-set_other, sym, refl, ap, subst, arith, if◌then◌else◌, nat_lt}
+use Rattle.std.proofs.Common.{◌≡◌, ◌⊎◌, inl, inr, ⊎_elim, ℕ, ◌+◌, ◌-◌, ◌/◌, ◌%◌, ◌<◌, ◌≤◌, true, false, eq-eqb, ne_eqb, div-add-mod', List, get_or, set}
+use Rattle.std.proofs.Common.{get_or-set_same, get_or-set_other, sym, refl, ap, subst, arith, if◌then◌else◌, nat_lt}
 use Rattle.spindle_parts.specs.EverySchedule.{only}
 use Rattle.spindle_rounds.specs.RoundSlots.{Discipline, Lawful}
 use Rattle.spindle_rounds.specs.RoundRule.{InRange, InRemainder, IsWithin}

@@ -1,15 +1,11 @@
 -- What the leader knows of what a round has left, and what it marks.
-use Rattle.std.proofs.Common.{◌≡◌, ◌≢◌, ◌⊎◌, ◌↔◌, inl, inr, ⊎_elim, ℕ, zero, suc, ◌+◌, ◌<◌, ◌≤◌, Bool, true, false, List, [], ◌∷◌, ◌++◌, length, get_or, slice_set, get_or-set_same, get_or-set_other, sym, refl, ap, ◌∙◌, subst, arith, Option, Some, None, if◌then◌else◌, ◌==◌, eq-eqb, ne_eqb}
+use Rattle.std.proofs.Common.{◌≡◌, ◌≢◌, ◌⊎◌, ◌↔◌, inl, inr, ⊎_elim, ℕ, zero, suc, ◌+◌, ◌<◌, ◌≤◌, Bool, true, false, List, [], ◌∷◌, length, get_or}
+use Rattle.std.proofs.Common.{slice_set, get_or-set_same, get_or-set_other, sym, refl, ap, ◌∙◌, subst, arith, Option, Some, if◌then◌else◌, ◌==◌, eq-eqb}
+use Rattle.std.proofs.Common.{ne_eqb}
 use mathlib.Core.Logic.{dite}
-use mathlib.Core.Option.{some}
 use native.Mathlib.Decide.{ℕ_discrete}
-use lib.ListN.{get_elem?}
-use Rattle.atomic_table.specs.Table as table
-use Rattle.spindle_parts.specs.State.{State, Round, times}
-use Rattle.spindle_parts.specs.Steps.{Event}
+use Rattle.spindle_parts.specs.State.{State}
 use Rattle.spindle_parts.specs.Runs.{state}
-use Rattle.spindle_rounds.specs.declared.round_table.view.Standing.{Standing}
-use Rattle.spindle_rounds.specs.declared.round_table.view.Standing.TheVariants.{Inside}
 use Rattle.spindle_rounds.specs.declared.round_table.view.View.{View}
 use Rattle.spindle_rounds.specs.declared.round_table.view.Kind.{Kind}
 use Rattle.spindle_rounds.specs.declared.round_table.view.Kind.TheVariants as kind
@@ -17,10 +13,9 @@ use Rattle.spindle_parts.specs.declared.trail.Trace.{Trace}
 use Rattle.spindle_parts.specs.Trail.{trace}
 use Rattle.spindle_rounds.specs.RoundSteps.{searching, reading_remainder}
 use Rattle.spindle_rounds.specs.RoundSlots.{Discipline}
-use Rattle.spindle_rounds.specs.RoundRule.{Showed, deeds_of, stored_at, IsLeft, InRange, InRemainder, IsWithin, Shown}
+use Rattle.spindle_rounds.specs.RoundRule.{Showed, deeds_of, stored_at, IsLeft, InRange, InRemainder, IsWithin}
 use Rattle.spindle_rounds.specs.Words.{remainder_at, range_at, start_of, end_of}
 use Rattle.spindle_rounds.specs.RoundConditions.{MayFill}
-use Rattle.spindle_rounds.specs.RoundTrails.{begun_by, told_by_all}
 use Rattle.spindle_rounds.specs.SlotSteps.{IsDeed}
 use Rattle.spindle_rounds.specs.Leftovers.{is_between, finding, AreKnown, IsInRanges, IsInRest, IsLeftBy, AreUnbegun, IsMarked, last_left}
 use Rattle.spindle_rounds.proofs.RoundTrails.{trails_begun}

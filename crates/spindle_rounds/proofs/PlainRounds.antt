@@ -153,7 +153,8 @@ module _ (b : Bool) where
       (deeds p es) d)
 
 -- and while nothing is published, and nobody closes, each of its numbers has finished
-pub plain_finished : (s : State) → Sound s → s.published ≡ None → s.closer ≡ None → (r n k : ℕ) → WasShown false s r n → k < n → 0 < times k (s.rounds r).finished
+pub plain_finished : (s : State) → Sound s → s.published ≡ None → s.closer ≡ None → (r n k : ℕ) → WasShown false s r n → k < n
+    → 0 < times k (s.rounds r).finished
 plain_finished s h hid open_now r n k w lt = let none_yet = h.gate.hidden hid open_now in
     let other : r ≢ s.round = (λ z. let a = ap (λ (i : ℕ). (s.rounds i).jobs) z in let b = w.jobs in let c = w.some in omega arith) in
     let past : r < s.round = (let a = w.past in ⊎_elim (λ (z : r < s.round). z) (λ (z : s.round < r). absurd (omega arith)) (apart r s.round other)) in

@@ -1,5 +1,6 @@
 -- What the calls of a round leave a party, for the loops of those who call them.
-use Rattle.std.proofs.Common.{◌≡◌, ◌≢◌, inr, ℕ, ◌+◌, ◌-◌, ◌%◌, ◌<◌, ◌≤◌, Bool, true, false, ◌∷◌, get_or, sym, refl, ap, ◌∙◌, subst, arith, Some, None, if◌then◌else◌, nat_lt}
+use Rattle.std.proofs.Common.{◌≡◌, ◌≢◌, inr, ℕ, ◌+◌, ◌-◌, ◌%◌, ◌<◌, ◌≤◌, Bool, true, false, ◌∷◌, get_or, sym, refl, ap, ◌∙◌, subst, arith, Some, None}
+use Rattle.std.proofs.Common.{if◌then◌else◌, nat_lt}
 use mathlib.Core.Logic.{dite}
 use native.Mathlib.Decide.{ℕ_discrete}
 use Rattle.atomic_table.specs.Table.{Me}
@@ -15,7 +16,8 @@ use Rattle.spindle_rounds.specs.Spans.{Span}
 use Rattle.spindle_rounds.specs.RoundSlots.{Discipline}
 use Rattle.spindle_rounds.specs.RoundRule.{Showed, IsListed}
 use Rattle.spindle_rounds.specs.Words.{remainder_at, range_at, high_half, most_jobs, start_of, range_word}
-use Rattle.spindle_rounds.specs.RoundSteps.{round_of, missing, learning, publishing, searching, reading_remainder, recalling, claiming, stealing, claiming_remainder, stopping, putting_back}
+use Rattle.spindle_rounds.specs.RoundSteps.{round_of, missing, learning, publishing, searching, reading_remainder, recalling, claiming, stealing}
+use Rattle.spindle_rounds.specs.RoundSteps.{claiming_remainder, stopping, putting_back}
 use Rattle.spindle_rounds.specs.RoundConditions.{MayPublish, MayClaim, MayBegin, MayFinish, MayPutBack, IsItsShare, IsDone}
 use Rattle.spindle_rounds.specs.RoundAnswers.{searching_all, OwnClaimedBy, StolenBy, RemainderClaimedBy, SharedBy, FinishedBy, SeenBy, PutBy, FilledBy}
 use Rattle.spindle_rounds.specs.Leftovers.{finding, LeftOverBy}
@@ -23,7 +25,8 @@ use Rattle.spindle_rounds.specs.RoundViews.{published_of, AtWork, Onward, SeesAs
 use Rattle.spindle_rounds.proofs.RoundWords.{by_less, by_equal}
 use Rattle.spindle_rounds.proofs.RoundSearch.{may_still}
 use Rattle.spindle_rounds.proofs.RoundFilled.{filled_stands, filled_quiet}
-use Rattle.spindle_rounds.proofs.RoundOnward.{onward_then, searched_on, remainder_on, remainder_empty, all_searched_on, all_listed, missed_on, began_on, stole_on, shared_on, recalled_on, finished_on, stopped_on, saw_on, put_on, found_on}
+use Rattle.spindle_rounds.proofs.RoundOnward.{onward_then, searched_on, remainder_on, remainder_empty, all_searched_on, all_listed, missed_on, began_on}
+use Rattle.spindle_rounds.proofs.RoundOnward.{stole_on, shared_on, recalled_on, finished_on, stopped_on, saw_on, put_on, found_on}
 
 -- Claims.
 
@@ -58,7 +61,8 @@ module _ {S N : Type 0} (D : Discipline S N) (m w : Me S (View N)) (may : MayCla
         (inside, ap (λ (k : ℕ). Some k) (sym a.4)),
       )
   remainder_claimed n claim.Nothing a = subst (AfterClaim claim.Nothing m.0) (sym (ap (λ z. z.0) a.1)) (remainder_on a.0 m.0, refl, (refl, refl), may)
-  remainder_claimed n claim.Again a = let v : View N = reading_remainder a.0 m.0 in let u : View N = recalling n v in let z : View N = missing remainder_at a.1 u in
+  remainder_claimed n claim.Again a = let v : View N = reading_remainder a.0 m.0 in let u : View N = recalling n v in
+      let z : View N = missing remainder_at a.1 u in
       subst (AfterClaim claim.Again m.0) (sym (ap (λ y. y.0) a.2))
       (onward_then m.0 v z (remainder_on a.0 m.0) (onward_then v u z (recalled_on n v) (missed_on 32 a.1 u)), refl, (refl, refl), may)
 

@@ -1,12 +1,14 @@
 -- What every kind of step on a round table shares: the other seats show what they showed, and the leader's stores stand.
-use Rattle.std.proofs.Common.{◌≡◌, ◌≢◌, ◌⊎◌, inl, inr, ⊎_elim, ℕ, zero, suc, ◌+◌, ◌*◌, ◌/◌, ◌%◌, ◌<◌, ◌≤◌, Bool, true, false, eq-eqb, ne_eqb, List, [], ◌∷◌, ◌++◌, length, get_or, set, length-set, get_or-set_other, sym, refl, ap, ◌∙◌, subst, arith, Option, Some, None, if◌then◌else◌, ◌==◌}
+use Rattle.std.proofs.Common.{◌≡◌, ◌≢◌, ◌⊎◌, inl, inr, ⊎_elim, ℕ, zero, suc, ◌+◌, ◌/◌, ◌%◌, ◌<◌, ◌≤◌, Bool, true, false, eq-eqb, ne_eqb, List, [], ◌∷◌}
+use Rattle.std.proofs.Common.{◌++◌, length, get_or, set, length-set, get_or-set_other, sym, refl, ap, ◌∙◌, subst, arith, Option, Some, None, if◌then◌else◌}
+use Rattle.std.proofs.Common.{◌==◌}
 use mathlib.Core.Logic.{dite}
 use mathlib.Core.Option.{some, some-ne-none}
 use native.Mathlib.Decide.{ℕ_discrete}
 use lib.ListN.{get_elem?}
 use lib.Seq.{set-get_or}
 use Rattle.atomic_table.specs.Table as table
-use Rattle.atomic_table.specs.Table.{Me, Act, Step, step, keeps, stepped, Allows, Valid, Splits, homes_after, carried_after}
+use Rattle.atomic_table.specs.Table.{Me, Act, Step, keeps, stepped, Allows, Valid, Splits, homes_after, carried_after}
 use Rattle.atomic_table.proofs.Lists.{at_set}
 use Rattle.spindle_parts.specs.State.{State, Status, Out, In, Arrived, Party, Round, waking, now, party, times, Free, absent}
 use Rattle.spindle_parts.specs.Steps.{Event, Allowed, by, after, with_status}
@@ -23,7 +25,8 @@ use Rattle.spindle_rounds.specs.Words.{barrier_at, finished_at, remainder_at, ra
 use Rattle.spindle_rounds.specs.RoundSteps.{noted, missing}
 use Rattle.spindle_rounds.specs.RoundTells.{Turns, Exchanges, Begun}
 use Rattle.spindle_rounds.specs.RoundSlots.{Discipline, Lawful, SameSlots}
-use Rattle.spindle_rounds.specs.RoundRule.{deed, deeds, deeds_of, Stands, Knows, Shows, IsShare, InRange, InRemainder, IsLeft, Words, ShownBy, Shown, home_of, Laid, StandsFor, stored_at}
+use Rattle.spindle_rounds.specs.RoundRule.{deed, deeds, deeds_of, Stands, Knows, Shows, IsShare, InRange, InRemainder, IsLeft, Words, ShownBy, Shown, home_of}
+use Rattle.spindle_rounds.specs.RoundRule.{Laid, StandsFor, stored_at}
 use Rattle.spindle_rounds.specs.RoundRuns.{Adds, Exchange}
 use Rattle.spindle_rounds.proofs.RoundQuiet.{AllQuiet, quiet_run}
 

@@ -1,10 +1,12 @@
 -- What reads and steps of a round leave as it was in what its party knows, so that the party goes on.
-use Rattle.std.proofs.Common.{◌≡◌, inl, inr, ℕ, zero, suc, ◌+◌, ◌-◌, ◌<◌, ◌≤◌, Bool, true, false, List, [], ◌∷◌, length, get_or, sym, refl, ap, ◌∙◌, subst, arith, Option, Some, None, if◌then◌else◌, nat_lt, ◌==◌}
+use Rattle.std.proofs.Common.{◌≡◌, inl, inr, ℕ, zero, suc, ◌+◌, ◌<◌, ◌≤◌, Bool, true, false, List, [], ◌∷◌, length, get_or, sym, refl, ap, ◌∙◌, subst}
+use Rattle.std.proofs.Common.{arith, Option, Some, None, if◌then◌else◌, nat_lt, ◌==◌}
 use Rattle.spindle_rounds.specs.declared.round_table.view.View.{View}
 use Rattle.spindle_rounds.specs.RoundRule.{IsListed}
 use Rattle.spindle_rounds.specs.Words.{start_of, end_of}
 use Rattle.spindle_rounds.specs.Leftovers.{finding}
-use Rattle.spindle_rounds.specs.RoundSteps.{missing, list_empty, searching, reading_remainder, recalling, beginning, stealing, sharing, finishing, stopping, seeing, putting_back}
+use Rattle.spindle_rounds.specs.RoundSteps.{missing, list_empty, searching, reading_remainder, recalling, beginning, stealing, sharing, finishing, stopping}
+use Rattle.spindle_rounds.specs.RoundSteps.{seeing, putting_back}
 use Rattle.spindle_rounds.specs.RoundConditions.{MayClaim}
 use Rattle.spindle_rounds.specs.RoundAnswers.{searching_all}
 use Rattle.spindle_rounds.specs.RoundViews.{AtWork, Onward, SeesAsBefore, SharesAsBefore}

@@ -1,5 +1,6 @@
 -- The fields of the barrier word, and what the other words show after a step on one of them.
-use Rattle.std.proofs.Common.{◌≡◌, ◌≢◌, inl, inr, ⊎_elim, ℕ, ◌+◌, ◌*◌, ◌/◌, ◌%◌, ◌<◌, ◌≤◌, Bool, true, false, eq-eqb, ne_eqb, le-ltb, lt-ltb, List, length, get_or, set, length-set, get_or-set_same, get_or-set_other, sym, refl, ap, ◌∙◌, subst, arith, Option, ◌==◌, nat_lt}
+use Rattle.std.proofs.Common.{◌≡◌, ◌≢◌, inl, inr, ⊎_elim, ℕ, ◌+◌, ◌*◌, ◌/◌, ◌%◌, ◌<◌, ◌≤◌, Bool, true, false, eq-eqb, ne_eqb, le-ltb, lt-ltb, List, length}
+use Rattle.std.proofs.Common.{get_or, set, length-set, get_or-set_same, get_or-set_other, sym, refl, ap, ◌∙◌, subst, arith, Option, ◌==◌, nat_lt}
 use mathlib.Core.Logic.{dite}
 use native.Mathlib.Decide.{ℕ_discrete, dec_le}
 use Rattle.spindle_parts.specs.State.{State, Status, Party, Round, party_of, put_party, now, party, times, Free, inside, members, total, absent}
@@ -8,7 +9,8 @@ use Rattle.spindle_parts.specs.BarrierWord.{word}
 use Rattle.spindle_parts.proofs.Parties.{look_here, look_else, total_put, inside_le_members}
 use Rattle.spindle_parts.proofs.Soundness.{Sound}
 use Rattle.spindle_rounds.specs.RoundRule.{Counters, InRange, InRemainder, Words, number_of}
-use Rattle.spindle_rounds.specs.Words.{barrier_at, published_at, finished_at, stopped_at, remainder_at, range_at, field_size, one_member, sense_bit, high_half, start_of, end_of}
+use Rattle.spindle_rounds.specs.Words.{barrier_at, published_at, finished_at, stopped_at, remainder_at, range_at, field_size, one_member, sense_bit, high_half}
+use Rattle.spindle_rounds.specs.Words.{start_of, end_of}
 
 -- where a test of two numbers decides
 pub by_less : (a b : ℕ) (P : Bool → Type 0) → (a < b → P true) → (b ≤ a → P false) → P (nat_lt a b)

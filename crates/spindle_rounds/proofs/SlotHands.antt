@@ -1,30 +1,29 @@
 -- The slots in their leader's hand: what the turns of a loop leave of them, and what its round does.
-use Rattle.std.proofs.Common.{◌≡◌, ◌≢◌, ◌⊎◌, inl, inr, ⊎_elim, ℕ, zero, suc, ◌+◌, ◌-◌, ◌<◌, ◌≤◌, true, false, List, [], ◌∷◌, ◌++◌, length, length-append, append_assoc, append-nil, sym, refl, ap, ◌∙◌, subst, arith}
+use Rattle.std.proofs.Common.{◌≡◌, ◌⊎◌, inl, inr, ⊎_elim, ℕ, zero, suc, ◌+◌, ◌-◌, ◌<◌, ◌≤◌, true, List, [], ◌∷◌, ◌++◌, length, length-append}
+use Rattle.std.proofs.Common.{append_assoc, append-nil, sym, refl, ap, ◌∙◌, subst, arith}
 use mathlib.Core.Logic.{dite}
 use native.Mathlib.Decide.{dec_le}
 use mathlib.Core.Option.{some, some-injective, some-ne-none}
 use lib.ListN.{get_elem?}
 use Rattle.atomic_table.specs.Table.{Me}
-use Rattle.spindle_rounds.specs.declared.round_table.view.Standing.TheVariants.{Inside}
 use Rattle.spindle_rounds.specs.declared.round_table.view.Spot.{Spot}
 use Rattle.spindle_rounds.specs.declared.round_table.view.Spot.TheVariants.{Vacant, Out, Filled}
 use Rattle.spindle_rounds.specs.declared.round_table.view.View.{View}
 use Rattle.spindle_rounds.specs.declared.round_table.pieces.Stand.{Stand}
-use Rattle.spindle_rounds.specs.declared.round_table.pieces.Stand.TheVariants.{Empty, Waits, Done}
+use Rattle.spindle_rounds.specs.declared.round_table.pieces.Stand.TheVariants.{Done}
 use Rattle.spindle_rounds.specs.RoundSlots.{Discipline, spot_at}
-use Rattle.spindle_rounds.specs.RoundRule.{Deed, Showed, deeds_of}
 use Rattle.spindle_rounds.specs.RoundSteps.{round_of}
 use Rattle.spindle_rounds.specs.RoundConditions.{IsDone}
 use Rattle.spindle_rounds.specs.RoundViews.{Onward, published_of}
 use Rattle.spindle_rounds.specs.Passing.{InNext}
 use Rattle.spindle_rounds.specs.Working.{IsIdle, HasPassed, PlayedRound}
-use Rattle.spindle_rounds.specs.SlotSteps.{numbered, board_out, board_back, HasPublished, TakenOut}
-use Rattle.spindle_rounds.specs.RoundPieces.{pieces, spot_with, AreFilled, AreAnswered, IsUnrun}
+use Rattle.spindle_rounds.specs.SlotSteps.{numbered, board_back, TakenOut}
+use Rattle.spindle_rounds.specs.RoundPieces.{pieces, spot_with, AreAnswered, IsUnrun}
 use Rattle.spindle_rounds.specs.PieceRounds.{PublishedPieces, AwaitsAnswers}
 use Rattle.spindle_rounds.specs.SlotLoops.{IsEmpty, IsPiece, HoldsEach, Turning}
 use Rattle.spindle_rounds.specs.SlotHands.{turned_by, AllOut, AllVacant, HoldsAll, WaitsAs, LaidOut, AnsweredAs}
 use Rattle.spindle_rounds.specs.SpotPlaces.{spot_else}
-use Rattle.spindle_rounds.proofs.PieceClients.{numbered_at, there, turned_on, back_before, back_at, piece_back, published_last, all_out}
+use Rattle.spindle_rounds.proofs.PieceClients.{numbered_at, there, turned_on, back_at, piece_back, published_last, all_out}
 use Rattle.spindle_rounds.proofs.SlotLoops.{back_on}
 
 module _ {X : Type 0} where
@@ -86,7 +85,8 @@ module _ {P A : Type 0} (answers : P → A → Type 0) where
       (λ e. omega arith)
 
   -- slots that were vacant before the leader took them out were empty
-  pub holds_all : (slots found : ℕ) (m w : Me Slot (View P)) → TakenOut (pieces answers) slots found m w → m.1 ≡ [] → AllVacant slots m.0.board → HoldsAll slots w
+  pub holds_all : (slots found : ℕ) (m w : Me Slot (View P)) → TakenOut (pieces answers) slots found m w → m.1 ≡ [] → AllVacant slots m.0.board
+      → HoldsAll slots w
   holds_all slots found m w t none vacant = let ys : List Slot = t.0 in let many = t.1 in record {
     hand = record {
       ys = ys;
@@ -193,7 +193,8 @@ passed_taking {S} {N} D slots found v m w t h = subst (λ (z : Me S (View N)). H
   published = h.published;
 })
 
-pub played_taking : {S N : Type 0} (D : Discipline S N) (slots found n : ℕ) (v : View N) (m w : Me S (View N)) → TakenOut D slots found m w → PlayedRound n v m.0
+pub played_taking : {S N : Type 0} (D : Discipline S N) (slots found n : ℕ) (v : View N) (m w : Me S (View N)) → TakenOut D slots found m w
+    → PlayedRound n v m.0
     → PlayedRound n v w.0
 played_taking {S} {N} D slots found n v m w t h = subst (λ (z : Me S (View N)). PlayedRound n v z.0) (sym t.2) (h.0, h.1)
 

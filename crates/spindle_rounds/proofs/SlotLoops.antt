@@ -1,14 +1,13 @@
 -- A loop over the slots at a leader's hand: its first turn, each turn, its end, and what may be published after it.
-use Rattle.std.proofs.Common.{◌≡◌, ◌≢◌, ◌⊎◌, inl, inr, ⊎_elim, ℕ, zero, suc, ◌+◌, ◌<◌, ◌≤◌, List, [], ◌∷◌, ◌++◌, length, length-append, sym, refl, ap, ◌∙◌, subst, arith}
+use Rattle.std.proofs.Common.{◌≡◌, ◌⊎◌, inl, inr, ⊎_elim, ℕ, zero, suc, ◌+◌, ◌<◌, ◌≤◌, List, [], ◌∷◌, ◌++◌, length, length-append, sym, refl, ap, ◌∙◌}
+use Rattle.std.proofs.Common.{subst, arith}
 use mathlib.Core.Option.{some, some-injective, some-ne-none}
 use lib.ListN.{get_elem?}
 use Rattle.atomic_table.specs.Table.{Me, rest}
-use Rattle.spindle_rounds.specs.declared.round_table.view.Standing.TheVariants.{Inside}
 use Rattle.spindle_rounds.specs.declared.round_table.view.Spot.{Spot}
 use Rattle.spindle_rounds.specs.declared.round_table.view.Spot.TheVariants.{Out, Filled}
 use Rattle.spindle_rounds.specs.declared.round_table.view.View.{View}
 use Rattle.spindle_rounds.specs.declared.round_table.pieces.Stand.{Stand}
-use Rattle.spindle_rounds.specs.declared.round_table.pieces.Stand.TheVariants.{Waits}
 use Rattle.spindle_rounds.specs.RoundSlots.{spot_at}
 use Rattle.spindle_rounds.specs.RoundConditions.{MayFill, MayPutAll}
 use Rattle.spindle_rounds.specs.SlotSteps.{numbered, board_back}

@@ -26,6 +26,7 @@ passed_after v u w on idle next = let st : Standing = Inside (round_of u.0.stand
 
 -- and after a publish before it
 pub played_after : {S N : Type 0} (n : ℕ) (may_stop : Bool) (m v : View N) (u w : Me S (View N)) → (v.standing ≡ m.standing) ×
-    (published_of v.trail ≡ Showed (round_of m.standing) n may_stop ∷ published_of m.trail) → Onward v u.0 → IsIdle u.0 → InNext u w → PlayedRoundOf n may_stop m w.0
+    (published_of v.trail ≡ Showed (round_of m.standing) n may_stop ∷ published_of m.trail) → Onward v u.0 → IsIdle u.0 → InNext u w
+    → PlayedRoundOf n may_stop m w.0
 played_after n may_stop m v u w shown on idle next = let h = passed_after v u w on idle next in
     (h.published ∙ shown.1, h.standing ∙ ap (λ (z : Standing). Inside (round_of z + 1)) shown.0)

@@ -9,6 +9,7 @@ pub mod RoundTells
 pub mod SlotSteps
 pub mod SpotPlaces
 pub mod RoundPieces
+pub mod PiecesStill
 pub mod PiecesKept
 pub mod RoundConditions
 pub mod RoundRuns

@@ -11,21 +11,25 @@ use Rattle.spindle_rounds.specs.Seating.{IsSeatAt, IsSameSeat}
 use Rattle.spindle_rounds.specs.Working.{OnTask}
 
 -- the seat is one of the round's table, and at work on the task
-pub record IsAtTask {T S N : Type 0} (round : Round T S N) (task : Task) (s : Seat S (View N)) : Type 0 where
+pub record IsAtTask {T S N : Type 0} (round : Round T S N) (task : Task)
+    (s : Seat S (View N)) : Type 0 where
   pub seated : IsSeatAt round.init s
   pub sized : s.me.0.threads ≡ round.init.threads
   pub on : OnTask task.jobs task.may_stop s.me.0
 
 -- it has gone on in its task
-pub record WentOn {T S N : Type 0} (round : Round T S N) (task : Task) (s t : Seat S (View N)) : Type 0 where
+pub record WentOn {T S N : Type 0} (round : Round T S N) (task : Task)
+    (s t : Seat S (View N)) : Type 0 where
   pub same : IsSameSeat s t
   pub on : Onward s.me.0 t.me.0
   pub at : IsAtTask round task t
 
 -- the number k has begun, and its slot was taken into hands of which this held before
-abbrev pub HasTaken : {S N : Type 0} → Discipline S N → (List (ℕ × S) → Type 0) → ℕ → Me S (View N) → Type 0
+abbrev pub HasTaken : {S N : Type 0} → Discipline S N → (List (ℕ × S) → Type 0) → ℕ → Me S (View N)
+    → Type 0
 HasTaken {S = S} D Held k m = (before : List (ℕ × S)) × Held before × D.took k before m.0.note m.1
 
 -- the claim is finished; only in a round that may stop the seat may have seen more than before
 abbrev pub HasFinished : {N : Type 0} → View N → View N → Type 0
-HasFinished v w = Onward v w × (v.known.may_stop ≡ false → SeesAsBefore v w) × SharesAsBefore v w × (w.claim ≡ None)
+HasFinished v w = Onward v w × (v.known.may_stop ≡ false → SeesAsBefore v w) × SharesAsBefore v w
+    × (w.claim ≡ None)

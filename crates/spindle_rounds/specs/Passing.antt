@@ -15,7 +15,8 @@ use Rattle.spindle_rounds.specs.RoundRule.{deeds_of}
 use Rattle.spindle_rounds.specs.RoundSteps.{round_of, unknown}
 use Rattle.spindle_rounds.specs.RoundAnswers.{JoinedBy, ArrivedBy, LookedBy, LeftBy}
 
--- it stands elsewhere and knows something else, and no number began, finished or was published by its steps
+-- it stands elsewhere and knows something else,
+-- and no number began, finished or was published by its steps
 pub record Moved {S N : Type 0} (st : Standing) (k : Known) (m w : Me S (View N)) : Type 0 where
   pub steps : List (Trace Kind)
   pub seat : w ≡ (record m.0 { standing = st; known = k; trail = steps ++ m.0.trail }, m.1)
@@ -44,18 +45,24 @@ module _ {S N : Type 0} where
 
   -- it arrived, though not last, and left while it waited
   abbrev pub LeftWaiting : Me S (View N) → Me S (View N) → Type 0
-  LeftWaiting m w = (a u : Me S (View N)) × ArrivedBy Arrived m a × Stayed a u × LeftBy ((round_of m.0.standing + 1) % 2) leave.Left u w
+  LeftWaiting m w = (a u : Me S (View N)) × ArrivedBy Arrived m a × Stayed a u
+      × LeftBy ((round_of m.0.standing + 1) % 2) leave.Left u w
 
-  -- one turn of a party that waits, and goes on waiting: where the answer n is more than 0 it tries to leave, and else it looks
+  -- one turn of a party that waits, and goes on waiting:
+  -- where the answer n is more than 0 it tries to leave, and else it looks
   abbrev pub TurnsOn : ℕ → ℕ → Me S (View N) → Me S (View N) → Type 0
-  TurnsOn sense n m w = ((0 < n) × (LeftBy sense leave.Closing m w ⊎ LeftBy sense leave.Again m w)) ⊎
+  TurnsOn sense n m w =
+      ((0 < n) × (LeftBy sense leave.Closing m w ⊎ LeftBy sense leave.Again m w)) ⊎
       ((n ≡ 0) × (LookedBy sense look.Running m w ⊎ LookedBy sense look.Closing m w))
 
   -- a turn at which it finds that its round has ended
   abbrev pub TurnsOver : ℕ → ℕ → Me S (View N) → Me S (View N) → Type 0
-  TurnsOver sense n m w = ((0 < n) × LeftBy sense leave.Ended m w) ⊎ ((n ≡ 0) × LookedBy sense look.Ended m w)
+  TurnsOver sense n m w = ((0 < n) × LeftBy sense leave.Ended m w)
+      ⊎ ((n ≡ 0) × LookedBy sense look.Ended m w)
 
   -- its turns, one for each answer, the newest first: the closure that answers goes from f to g
-  abbrev pub Turned : {F : Type 0} → (F → ℕ → F → Type 0) → ℕ → List ℕ → F → F → Me S (View N) → Me S (View N) → Type 0
+  abbrev pub Turned : {F : Type 0} → (F → ℕ → F → Type 0) → ℕ → List ℕ → F → F → Me S (View N)
+      → Me S (View N) → Type 0
   Turned answers sense [] f g m w = (g ≡ f) × (w ≡ m)
-  Turned {F = F} answers sense (n ∷ ns) f g m w = (e : F) × (u : Me S (View N)) × Turned answers sense ns f e m u × answers e n g × TurnsOn sense n u w
+  Turned {F = F} answers sense (n ∷ ns) f g m w = (e : F) × (u : Me S (View N))
+      × Turned answers sense ns f e m u × answers e n g × TurnsOn sense n u w

@@ -1,4 +1,5 @@
--- A round over pieces, as its leader plays it: the pieces go back and are published; at its end their answers come out.
+-- A round over pieces, as its leader plays it:
+-- the pieces go back and are published; at its end their answers come out.
 use Rattle.std.specs.Prelude.{◌≡◌, ◌≢◌, ℕ, ◌<◌, ◌∷◌, [], true, false}
 use Rattle.atomic_table.specs.Table.{Me}
 use Rattle.spindle_rounds.specs.declared.round_table.view.Standing.TheVariants.{Inside}

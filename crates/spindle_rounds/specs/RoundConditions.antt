@@ -1,8 +1,10 @@
 -- What a call on a round table asks of its seat.
-use Rattle.std.specs.Prelude.{◌≡◌, ◌⊎◌, ℕ, ◌+◌, ◌%◌, ◌≤◌, ◌<◌, Bool, true, false, List, [], ◌∷◌, Option, Some, None}
+use Rattle.std.specs.Prelude.{◌≡◌, ◌⊎◌, ℕ, ◌+◌, ◌%◌, ◌≤◌, ◌<◌, Bool, true, false, List, [], ◌∷◌}
+use Rattle.std.specs.Prelude.{Option, Some, None}
 use Rattle.atomic_table.specs.Table.{Me}
 use Rattle.spindle_rounds.specs.declared.round_table.view.Standing.{Standing}
-use Rattle.spindle_rounds.specs.declared.round_table.view.Standing.TheVariants.{Away, Inside, Waiting, Closing}
+use Rattle.spindle_rounds.specs.declared.round_table.view.Standing.TheVariants.{Away, Inside}
+use Rattle.spindle_rounds.specs.declared.round_table.view.Standing.TheVariants.{Waiting, Closing}
 use Rattle.spindle_rounds.specs.declared.round_table.view.View.{View}
 use Rattle.spindle_rounds.specs.declared.round_table.view.Spot.{Spot}
 use Rattle.spindle_rounds.specs.Spans.{Span}
@@ -13,15 +15,18 @@ use Rattle.spindle_rounds.specs.RoundRule.{IsListed, IsFilled}
 abbrev pub IsFreeInside : {N : Type 0} → View N → Type 0
 IsFreeInside v = (q : ℕ) × (v.standing ≡ Inside q) × (v.claim ≡ None) × (v.to ≤ v.from)
 
--- it may claim: it knows the number published, and hasn't seen the stop. A seat that has joined in mid-round doesn't know whether its party saw
--- the stop before it left, so in a round that may stop it looks first
+-- it may claim: it knows the number published, and hasn't seen the stop.
+-- A seat that has joined in mid-round doesn't know whether its party saw the stop before it left,
+-- so in a round that may stop it looks first
 abbrev pub MayClaim : {N : Type 0} → View N → Type 0
 MayClaim v = IsFreeInside v × ((n : ℕ) × (v.known.number ≡ Some n)) × (v.known.seen_stop ≡ false)
 
 -- it knows that nothing of the round is left for it
 abbrev pub IsDone : {N : Type 0} → View N → Type 0
 IsDone v = (v.known.unpublished ≡ true) ⊎ ((v.known.seen_stop ≡ true) ⊎
-    ((v.threads ≡ 0) ⊎ ((n : ℕ) × (v.known.number ≡ Some n) × ((i : ℕ) → i ≤ v.threads → IsListed i v.known.emptied))))
+    ((v.threads ≡ 0)
+    ⊎ ((n : ℕ) × (v.known.number ≡ Some n)
+    × ((i : ℕ) → i ≤ v.threads → IsListed i v.known.emptied))))
 
 -- the leader, inside a round in which it has published nothing
 abbrev pub MayFill : {N : Type 0} → View N → Type 0
@@ -29,7 +34,8 @@ MayFill v = ((q : ℕ) × (v.standing ≡ Inside q)) × (v.known.unpublished ≡
 
 -- and it has stored all words for n jobs on t threads, and put what n jobs need into the slots
 abbrev pub MayPublish : {S N : Type 0} → Discipline S N → ℕ → ℕ → View N → Type 0
-MayPublish D t n v = (q : ℕ) × (v.standing ≡ Inside q) × (v.known.unpublished ≡ true) × IsFilled t n v.known.stored × D.may_publish q n v.board
+MayPublish D t n v = (q : ℕ) × (v.standing ≡ Inside q) × (v.known.unpublished ≡ true)
+    × IsFilled t n v.known.stored × D.may_publish q n v.board
 
 -- the sense that a party keeps for its next look
 abbrev pub HasSense : Standing → ℕ → Type 0
@@ -38,7 +44,8 @@ HasSense (Inside q) b = b ≡ q % 2
 HasSense (Waiting q quiet) b = b ≡ (q + 1) % 2
 HasSense (Closing q member was at) b = b ≡ (q + 1) % 2
 
--- a member that hasn't arrived, has nothing to finish, and hasn't seen the stop: it may begin the next number of its share
+-- a member that hasn't arrived, has nothing to finish,
+-- and hasn't seen the stop: it may begin the next number of its share
 abbrev pub MayBegin : {N : Type 0} → View N → Type 0
 MayBegin v = ((q : ℕ) × (v.standing ≡ Inside q)) × (v.claim ≡ None) × (v.known.seen_stop ≡ false)
 
@@ -58,7 +65,8 @@ MayGive D k m = D.may_give k m.0.note m.1
 abbrev pub MayStop : {N : Type 0} → ℕ → View N → Type 0
 MayStop k v = MayFinish k v × ((n : ℕ) × (v.known.number ≡ Some n)) × (v.known.may_stop ≡ true)
 
--- a member that hasn't arrived and knows the number published: it may look whether the round was stopped
+-- a member that hasn't arrived and knows the number published:
+-- it may look whether the round was stopped
 abbrev pub MaySee : {N : Type 0} → View N → Type 0
 MaySee v = ((q : ℕ) × (v.standing ≡ Inside q)) × ((n : ℕ) × (v.known.number ≡ Some n))
 
@@ -83,7 +91,8 @@ IsWaiting v = (q : ℕ) × (quiet : Bool) × (v.standing ≡ Waiting q quiet)
 
 -- and it isn't the leader of a published round
 abbrev pub MayLeave : {N : Type 0} → View N → Type 0
-MayLeave v = (q : ℕ) × (quiet : Bool) × (v.standing ≡ Waiting q quiet) × ((v.leader ≡ false) ⊎ (quiet ≡ true))
+MayLeave v = (q : ℕ) × (quiet : Bool) × (v.standing ≡ Waiting q quiet)
+    × ((v.leader ≡ false) ⊎ (quiet ≡ true))
 
 -- a member that hasn't arrived and has nothing to finish, but not the leader of a published round
 abbrev pub MayExit : {N : Type 0} → View N → Type 0
@@ -91,11 +100,13 @@ MayExit v = IsFreeInside v × ((v.leader ≡ false) ⊎ (v.known.unpublished ≡
 
 -- it closes its round
 abbrev pub IsClosing : {N : Type 0} → View N → Type 0
-IsClosing v = (q : ℕ) × (member was : Bool) × (read : Option ℕ) × (v.standing ≡ Closing q member was read)
+IsClosing v = (q : ℕ) × (member was : Bool) × (read : Option ℕ)
+    × (v.standing ≡ Closing q member was read)
 
 -- and it has cleared it
 abbrev pub HasCleared : {N : Type 0} → View N → Type 0
-HasCleared v = (q : ℕ) × (member : Bool) × (read : Option ℕ) × (v.standing ≡ Closing q member true read)
+HasCleared v = (q : ℕ) × (member : Bool) × (read : Option ℕ)
+    × (v.standing ≡ Closing q member true read)
 
 -- the leader, having published nothing in its round, may take every slot out
 abbrev pub MayTakeOut : {S N : Type 0} → Discipline S N → ℕ → View N → Type 0

@@ -16,10 +16,11 @@ use Rattle.spindle_rounds.specs.declared.round_table.pieces.Stand.TheVariants.{E
 use Rattle.spindle_rounds.specs.RoundSlots.{Discipline, spot_at}
 use Rattle.spindle_rounds.specs.RoundRule.{ShownBy}
 
--- the slot is away, and the slot is at home with this
+-- the slot is away
 abbrev pub IsAway : {S : Type 0} → m.Option (m.Option S) → Type 0
 IsAway h = h ≡ some none
 
+-- the slot is at home with this
 abbrev pub IsHome : {S : Type 0} → m.Option (m.Option S) → S → Type 0
 IsHome h y = h ≡ some (some y)
 
@@ -27,10 +28,11 @@ IsHome h y = h ≡ some (some y)
 abbrev pub IsAtHand : {S : Type 0} → ℕ → S → List (ℕ × S) → Type 0
 IsAtHand k y c = c ≡ (k, y) ∷ rest c
 
--- the number k has begun in the round, and has finished in it
+-- the number k has begun in the round
 abbrev pub HasBegun : Round → ℕ → Type 0
 HasBegun r k = 0 < times k r.begun
 
+-- the number k has finished in the round
 abbrev pub HasEnded : Round → ℕ → Type 0
 HasEnded r k = 0 < times k r.finished
 
@@ -104,6 +106,8 @@ module _ {P A : Type 0} (answers : P → A → Type 0) where
   abbrev pub AreFilled : (q n : ℕ) → List (ℕ × Spot P) → Type 0
   AreFilled q n b = (k : ℕ) → k < n → (x : P) × (spot_at b k ≡ Filled q x)
 
+  -- what the rule of a table asks of slots in which the leader's pieces stand,
+  -- and then what answers them
   abbrev pub pieces : Discipline (Stand P A) P
   pieces = record {
     clause = Held;
@@ -119,10 +123,11 @@ module _ {P A : Type 0} (answers : P → A → Type 0) where
     spot_of = spot_with;
   }
 
-  -- The slot of a piece that the leader put there in the round r, until it takes the slot out: it is
-  -- away exactly while k runs; at home it holds an answer to the piece exactly where k has finished,
-  -- and else the piece.
-  pub record SlotTells (r : Round) (k : ℕ) (x : P) (h : m.Option (m.Option (Stand P A))) : Type 0 where
+  -- The slot of a piece that the leader put there in the round r,
+  -- until it takes the slot out: it is away exactly while k runs;
+  -- at home it holds an answer to the piece exactly where k has finished, and else the piece.
+  pub record SlotTells (r : Round) (k : ℕ) (x : P)
+      (h : m.Option (m.Option (Stand P A))) : Type 0 where
     pub there : IsAway h ⊎ ((y : Stand P A) × IsHome h y)
     pub away : IsAway h ↔ IsRunning r k
     pub done : (y : Stand P A) → IsHome h y → (HasEnded r k ↔ IsDoneWith x y)

@@ -1,21 +1,27 @@
 -- What the words and the seats of a round table show.
-use Rattle.std.specs.Prelude.{◌≡◌, ◌≢◌, ◌⊎◌, ℕ, zero, suc, ◌+◌, ◌*◌, ◌/◌, ◌%◌, ◌<◌, ◌≤◌, Bool, true, false, List, [], ◌∷◌, ◌++◌, length, slice_index, Option, Some, None, if◌then◌else◌, ◌==◌, nat_lt}
+use Rattle.std.specs.Prelude.{◌≡◌, ◌≢◌, ◌⊎◌, ℕ, zero, suc, ◌+◌, ◌*◌, ◌/◌, ◌%◌, ◌<◌, ◌≤◌, Bool, true}
+use Rattle.std.specs.Prelude.{false, List, [], ◌∷◌, ◌++◌, length, slice_index, Option, Some, None}
+use Rattle.std.specs.Prelude.{if◌then◌else◌, ◌==◌, nat_lt}
 use mathlib.Core.Option.{some}
 use lib.ListN.{get_elem?}
-use Rattle.spindle_parts.specs.State.{State, Round, Out, In, Arrived, absent, now, party, times, Free}
+use Rattle.spindle_parts.specs.State.{State, Round, Out, In, Arrived, absent, now, party, times}
+use Rattle.spindle_parts.specs.State.{Free}
 use Rattle.spindle_parts.specs.Steps.{Event, Publish, PublishTry, Begin, Finish, by}
 use Rattle.spindle_parts.specs.Runs.{state, IsRun}
 use Rattle.spindle_parts.specs.BarrierWord.{word}
 use Rattle.spindle_parts.specs.declared.trail.Trace.{Trace}
 use Rattle.atomic_table.specs.Table as table
 use Rattle.spindle_rounds.specs.declared.round_table.view.Standing.{Standing}
-use Rattle.spindle_rounds.specs.declared.round_table.view.Standing.TheVariants.{Away, Inside, Waiting, Closing}
+use Rattle.spindle_rounds.specs.declared.round_table.view.Standing.TheVariants.{Away, Inside}
+use Rattle.spindle_rounds.specs.declared.round_table.view.Standing.TheVariants.{Waiting, Closing}
 use Rattle.spindle_rounds.specs.declared.round_table.view.Kind.{Kind}
 use Rattle.spindle_rounds.specs.declared.round_table.view.Kind.TheVariants as kind
 use Rattle.spindle_rounds.specs.declared.round_table.view.Known.{Known}
 use Rattle.spindle_rounds.specs.declared.round_table.view.View.{View}
 use Rattle.spindle_rounds.specs.RoundSlots.{Discipline}
-use Rattle.spindle_rounds.specs.Words.{barrier_at, published_at, finished_at, stopped_at, remainder_at, range_at, filled_at, words_of, high_half, start_of, end_of}
+use Rattle.spindle_rounds.specs.Words.{barrier_at, published_at, finished_at, stopped_at}
+use Rattle.spindle_rounds.specs.Words.{remainder_at, range_at, filled_at, words_of, high_half}
+use Rattle.spindle_rounds.specs.Words.{start_of, end_of}
 
 -- a party's begins, finishes and publishes, each with its round
 pub data Deed : Type 0 where
@@ -57,10 +63,14 @@ deeds_of (x ∷ xs) = deed_of x.kind ++ deeds_of xs
 abbrev pub Stands : State → ℕ → Standing → Type 0
 Stands s p Away = ((party s p).status ≡ Out) × (s.closer ≢ Some p)
 Stands s p (Inside q) = ((party s p).status ≡ In) × (s.round ≡ q)
-Stands s p (Waiting q quiet) = (((party s p).status ≡ Arrived) × (s.round ≡ q) × (s.closer ≢ Some p) × (quiet ≡ true → (p ≡ 0) × (s.published ≡ None)))
-    ⊎ (((party s p).status ≡ In) × (s.round ≡ suc q) × (p ≡ 0 → s.published ≡ None) × ((now s).seen p ≡ false))
-Stands s p (Closing q member cleared at) = (s.closer ≡ Some p) × (s.round ≡ q) × (cleared ≡ true → s.published ≡ None)
-    × ((party s p).status ≡ (if member then Arrived else Out)) × ((n : ℕ) → at ≡ Some n → word s ≡ n)
+Stands s p (Waiting q quiet) = (((party s p).status ≡ Arrived) × (s.round ≡ q) × (s.closer ≢ Some p)
+    × (quiet ≡ true → (p ≡ 0) × (s.published ≡ None)))
+    ⊎ (((party s p).status ≡ In) × (s.round ≡ suc q) × (p ≡ 0 → s.published ≡ None)
+    × ((now s).seen p ≡ false))
+Stands s p (Closing q member cleared at) = (s.closer ≡ Some p) × (s.round ≡ q)
+    × (cleared ≡ true → s.published ≡ None)
+    × ((party s p).status ≡ (if member then Arrived else Out))
+    × ((n : ℕ) → at ≡ Some n → word s ≡ n)
 
 -- the range that the number k starts in, for n jobs on t threads, t being the remainder
 abbrev pub home_of : ℕ → ℕ → ℕ → ℕ
@@ -77,7 +87,8 @@ IsEmptied t n s i = ((k : ℕ) → Free s k → home_of t n k ≡ i → ⊥) ⊎
 
 -- what a seat inside the round knows is so
 pub record Knows (t : ℕ) (s : State) (p : ℕ) (k : Known) : Type 0 where
-  pub number : (n : ℕ) → k.number ≡ Some n → (s.published ≡ Some n) × ((now s).stoppable ≡ k.may_stop)
+  pub number : (n : ℕ) → k.number ≡ Some n → (s.published ≡ Some n)
+      × ((now s).stoppable ≡ k.may_stop)
   pub unpublished : k.unpublished ≡ true → (p ≡ 0) × (s.published ≡ None)
   pub seen : (now s).seen p ≡ k.seen_stop
   pub emptied : (n i : ℕ) → k.number ≡ Some n → IsListed i k.emptied → IsEmptied t n s i
@@ -85,7 +96,8 @@ pub record Knows (t : ℕ) (s : State) (p : ℕ) (k : Known) : Type 0 where
 
 -- the numbers taken are those from `from` up to `to`, the end not included
 abbrev pub IsShare : (ℕ → Bool) → ℕ → ℕ → Type 0
-IsShare taken from to = (k : ℕ) → ((taken k ≡ true) → (from ≤ k) × (k < to)) × ((from ≤ k) × (k < to) → taken k ≡ true)
+IsShare taken from to = (k : ℕ) → ((taken k ≡ true) → (from ≤ k) × (k < to))
+    × ((from ≤ k) × (k < to) → taken k ≡ true)
 
 -- the seat of the party p shows it
 pub record Shows {N : Type 0} (s : State) (p : ℕ) (v : View N) : Type 0 where
@@ -135,7 +147,8 @@ InRemainder ws n k = (n ≤ k + remainder_in ws) × (k < n)
 abbrev pub IsLeft : ℕ → List ℕ → ℕ → ℕ → Type 0
 IsLeft t ws n k = ((i : ℕ) × (i < t) × InRange ws i k) ⊎ InRemainder ws n k
 
--- while n is published, ranges and remainder stand for the free numbers, each once, and no range ends before its start
+-- while n is published, ranges and remainder stand for the free numbers,
+-- each once, and no range ends before its start
 pub record Counters (t : ℕ) (s : State) (ws : List ℕ) (n : ℕ) : Type 0 where
   pub free : (k : ℕ) → Free s k → IsLeft t ws n k
   pub ranges : (i k : ℕ) → i < t → InRange ws i k → Free s k
@@ -157,7 +170,8 @@ pub record Words (t : ℕ) (s : State) (ws : List ℕ) : Type 0 where
   pub barrier : barrier_in ws ≡ word s
   pub published : published_in ws ≡ number_of s.published (now s).stoppable
   pub finished : s.published ≢ None → finished_in ws ≡ length (now s).finished
-  pub stopped : s.published ≢ None → ((now s).stopped ≡ true → stopped_in ws ≡ 1) × ((now s).stopped ≡ false → stopped_in ws ≡ 0)
+  pub stopped : s.published ≢ None → ((now s).stopped ≡ true → stopped_in ws ≡ 1)
+      × ((now s).stopped ≡ false → stopped_in ws ≡ 0)
   pub counters : (n : ℕ) → s.published ≡ Some n → Counters t s ws n
   pub barren : t ≡ 0 → s.published ≡ None
 
@@ -170,7 +184,8 @@ fill_value t n (suc (suc (suc i))) = n / t * i + high_half * (n / t * i + n / t)
 
 -- ranges and remainder stand for the numbers of a round that were not begun
 abbrev pub StandsFor : ℕ → Round → List ℕ → Type 0
-StandsFor t r ws = (k : ℕ) → (((k < r.jobs) × (times k r.begun ≡ 0)) → IsLeft t ws r.jobs k) × (IsLeft t ws r.jobs k → (k < r.jobs) × (times k r.begun ≡ 0))
+StandsFor t r ws = (k : ℕ) → (((k < r.jobs) × (times k r.begun ≡ 0)) → IsLeft t ws r.jobs k)
+    × (IsLeft t ws r.jobs k → (k < r.jobs) × (times k r.begun ≡ 0))
 
 -- the value that was stored last in the word i
 abbrev pub stored_at : List (ℕ × ℕ) → ℕ → Option ℕ
@@ -183,21 +198,26 @@ IsFilled t n stored = (j : ℕ) → j < 3 + t → stored_at stored (filled_at j)
 
 -- what the leader has stored stands
 pub record Laid {N : Type 0} (t : ℕ) (s : State) (ws : List ℕ) (v : View N) : Type 0 where
-  pub stored : (i x : ℕ) → stored_at v.known.stored i ≡ Some x → (finished_at ≤ i) × (slice_index ws i ≡ x)
+  pub stored : (i x : ℕ) → stored_at v.known.stored i ≡ Some x → (finished_at ≤ i)
+      × (slice_index ws i ≡ x)
   pub unstored : s.published ≢ None → v.known.stored ≡ []
   pub current : s.published ≢ None → v.laid ≡ Some s.round
   pub left : (q : ℕ) → v.laid ≡ Some q → s.published ≡ None → StandsFor t (s.rounds q) ws
 
 -- the words and all seats show the last state of the run
-pub record ShownBy {S N : Type 0} (D : Discipline S N) (t : ℕ) (run : List Event) (s : table.State S (View N)) : Type 0 where
+pub record ShownBy {S N : Type 0} (D : Discipline S N) (t : ℕ) (run : List Event)
+    (s : table.State S (View N)) : Type 0 where
   pub is_run : IsRun run
   pub words : Words t (state run) s.words
-  pub seats : (p : ℕ) (v : View N) → get_elem? s.views p ≡ some v → Shows (state run) p v × (deeds_of v.trail ≡ deeds p run) × (v.threads ≡ t)
+  pub seats : (p : ℕ) (v : View N) → get_elem? s.views p ≡ some v → Shows (state run) p v
+      × (deeds_of v.trail ≡ deeds p run) × (v.threads ≡ t)
   pub lays : (v : View N) → get_elem? s.views 0 ≡ some v → Laid t (state run) s.words v
-  pub beyond : (p : ℕ) → length s.views ≤ p → (party (state run) p ≡ absent) × ((state run).closer ≢ Some p) × (deeds p run ≡ [])
+  pub beyond : (p : ℕ) → length s.views ≤ p → (party (state run) p ≡ absent)
+      × ((state run).closer ≢ Some p) × (deeds p run ≡ [])
   pub slots : D.clause (state run) s.homes s.views
 
 -- there is a run that the table shows
-pub record Shown {S N : Type 0} (D : Discipline S N) (t : ℕ) (s : table.State S (View N)) : Type 0 where
+pub record Shown {S N : Type 0} (D : Discipline S N) (t : ℕ)
+    (s : table.State S (View N)) : Type 0 where
   pub run : List Event
   pub by_run : ShownBy D t run s

@@ -1,11 +1,14 @@
 -- What each kind of step on a round table adds to the run that the table shows.
-use Rattle.std.specs.Prelude.{◌≡◌, ◌≢◌, ◌⊎◌, ℕ, ◌+◌, ◌-◌, ◌*◌, ◌%◌, ◌^◌, ◌<◌, ◌≤◌, Bool, true, false}
-use Rattle.std.specs.Prelude.{List, [], ◌∷◌, ◌++◌, length, slice_index, Some, if◌then◌else◌, ◌==◌, nat_lt}
+use Rattle.std.specs.Prelude.{◌≡◌, ◌≢◌, ◌⊎◌, ℕ, ◌+◌, ◌-◌, ◌%◌, ◌^◌, ◌<◌, ◌≤◌, Bool, true}
+use Rattle.std.specs.Prelude.{false}
+use Rattle.std.specs.Prelude.{List, [], ◌∷◌, ◌++◌, length, slice_index, Some, if◌then◌else◌, ◌==◌}
+use Rattle.std.specs.Prelude.{nat_lt}
 use mathlib.Core.Option.{none, some}
 use lib.ListN.{get_elem?}
 use prog.Atomic.{either}
 use Rattle.atomic_table.specs.Table as table
-use Rattle.atomic_table.specs.Table.{Me, Act, Step, step, stepped, Valid, Splits, carried_after, opening}
+use Rattle.atomic_table.specs.Table.{Me, Act, Step, step, stepped, Valid, Splits, carried_after}
+use Rattle.atomic_table.specs.Table.{opening}
 use Rattle.spindle_parts.specs.Steps.{Event, Join, Publish, PublishTry, Take, Begin, Finish}
 use Rattle.spindle_parts.specs.Steps.{Stop, See, PutBack, Arrive, Leave, Exit, Clear, End}
 use Rattle.spindle_parts.specs.EverySchedule.{only}
@@ -13,13 +16,16 @@ use Rattle.spindle_rounds.specs.declared.round_table.view.Standing.TheVariants.{
 use Rattle.spindle_rounds.specs.declared.round_table.view.View.{View}
 use Rattle.spindle_rounds.specs.RoundSlots.{Discipline}
 use Rattle.spindle_rounds.specs.RoundRule.{ShownBy}
-use Rattle.spindle_rounds.specs.Words.{barrier_at, published_at, finished_at, stopped_at, remainder_at, range_at, filled_at, words_of}
+use Rattle.spindle_rounds.specs.Words.{barrier_at, published_at, finished_at, stopped_at}
+use Rattle.spindle_rounds.specs.Words.{remainder_at, range_at, filled_at, words_of}
 use Rattle.spindle_rounds.specs.Words.{one_member, one_party, high_half, most_parties, most_jobs}
 use Rattle.spindle_rounds.specs.Words.{count_of, most_of, sense_of, start_of, end_of, range_word}
-use Rattle.spindle_rounds.specs.RoundSteps.{outsider, new_view, exit_word, turned_word, stolen_from, number_or}
+use Rattle.spindle_rounds.specs.RoundSteps.{outsider, new_view, exit_word, turned_word, stolen_from}
+use Rattle.spindle_rounds.specs.RoundSteps.{number_or}
 use Rattle.spindle_rounds.specs.RoundTells as tells
 use Rattle.spindle_rounds.specs.Leftovers.{FindTells, FindRestTells}
-use Rattle.spindle_rounds.specs.RoundConditions.{MayFill, MayPublish, MayClaim, MayBegin, MayFinish, MayGive}
+use Rattle.spindle_rounds.specs.RoundConditions.{MayFill, MayPublish, MayClaim, MayBegin, MayFinish}
+use Rattle.spindle_rounds.specs.RoundConditions.{MayGive}
 use Rattle.spindle_rounds.specs.SlotSteps.{TakeOutTells, GiveBackTells}
 use Rattle.spindle_rounds.specs.RoundConditions.{MayTakeOut, MayGiveBack}
 use Rattle.spindle_rounds.specs.RoundConditions.{MayStop, MaySee, MayPutBack, IsFreeInside, IsDone}
@@ -45,7 +51,7 @@ module _ {S N : Type 0} (D : Discipline S N) (t slots id : ℕ) (me : Me S (View
     pub shows : (run : List Event) (s : table.State S (View N)) →
         let found : ℕ = slice_index s.words i in
         ShownBy D t run s → length s.homes ≡ slots → get_elem? s.views id ≡ some me.0
-        → found < 18446744073709551616
+        → found < 2 ^ 64
         → (w : View N) × (a : Act S) × Valid s.homes me.1 a
         × ShownBy D t (new found ++ run) (stepped s i (f found) id me.1 w a)
         × says found (w, carried_after me.1 a)
@@ -89,11 +95,11 @@ module _ {S N : Type 0} (D : Discipline S N) (t slots id : ℕ) (me : Me S (View
     pub take_slots : MayTakeOut D slots me.0 → PlainLoad published_at (TakeOutTells D)
     pub give_slots : MayGiveBack D me → PlainLoad published_at (GiveBackTells D)
     -- a member that is in claims the front of a range
-    pub claim_own : (i range : ℕ) → i < t → range < 18446744073709551616
+    pub claim_own : (i range : ℕ) → i < t → range < 2 ^ 64
         → start_of range < end_of range → MayClaim me.0 → let k : ℕ = start_of range in
         Exchange (range_at i) range (range + 1) (claim_of id k (only k)) (tells.ClaimTells D)
     -- the last half of a range, whose first number it begins
-    pub steal : (i range : ℕ) → i < t → range < 18446744073709551616
+    pub steal : (i range : ℕ) → i < t → range < 2 ^ 64
         → start_of range < end_of range → MayClaim me.0 → let k : ℕ = stolen_from range in
         Exchange (range_at i) range (range_word (start_of range) k)
         (claim_of id k (last_half range)) (tells.StealTells D)
@@ -108,20 +114,25 @@ module _ {S N : Type 0} (D : Discipline S N) (t slots id : ℕ) (me : Me S (View
         → Addition finished_at (Finish id ∷ []) (tells.FinishTells D)
     -- it stops the round, looks whether it was stopped, and puts its share back
     pub stop : (k : ℕ) → MayStop k me.0 → Store stopped_at 1 (Stop id ∷ []) tells.StopTells
-    pub see : MaySee me.0 → Load stopped_at (λ found. if found == 1 then See id ∷ [] else []) tells.SeeTells
+    pub see : MaySee me.0
+        → Load stopped_at (λ found. if found == 1 then See id ∷ [] else []) tells.SeeTells
     pub put_back : (i old to : ℕ) → i < t → end_of old ≤ start_of old → start_of to ≡ me.0.from
         → end_of to ≡ me.0.to → me.0.from ≤ me.0.to → MayPutBack me.0
         → Exchange (range_at i) old to (PutBack id ∷ []) tells.PutBackTells
     -- it arrives, or exits
-    pub arrive : IsFreeInside me.0 → IsDone me.0 → Subtraction barrier_at (Arrive id ∷ []) tells.ArrivalTells
-    pub exit : (old : ℕ) → MayExit me.0 → Exchange barrier_at old (exit_word old) (Exit id ∷ []) tells.ExitTells
+    pub arrive : IsFreeInside me.0 → IsDone me.0
+        → Subtraction barrier_at (Arrive id ∷ []) tells.ArrivalTells
+    pub exit : (old : ℕ) → MayExit me.0 → Exchange barrier_at old (exit_word old)
+        (Exit id ∷ []) tells.ExitTells
     -- a party that is out joins
     pub join : (old : ℕ) → me.0.standing ≡ Away → (0 < count_of old) ⊎ (most_of old ≡ 0)
-        → most_of old < most_parties → Exchange barrier_at old (old + one_party) (Join id ∷ []) tells.JoinTells
+        → most_of old < most_parties → Exchange barrier_at old (old + one_party)
+        (Join id ∷ []) tells.JoinTells
     -- a party that has arrived looks, or leaves
     pub look : IsWaiting me.0 → PlainLoad barrier_at tells.LookTells
     pub leave : (old sense : ℕ) → HasSense me.0.standing sense → sense_of old ≢ sense
-        → count_of old ≢ 0 → MayLeave me.0 → Exchange barrier_at old (old - one_member) (Leave id ∷ []) tells.LeaveTells
+        → count_of old ≢ 0 → MayLeave me.0 → Exchange barrier_at old (old - one_member)
+        (Leave id ∷ []) tells.LeaveTells
     -- the closer reads the word, clears, and ends the round
     pub read_to_end : IsClosing me.0 → PlainLoad barrier_at tells.CloserReadTells
     pub clear : IsClosing me.0 → Store published_at 0 (Clear id ∷ []) tells.ClearTells

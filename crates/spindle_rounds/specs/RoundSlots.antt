@@ -1,5 +1,6 @@
 -- What the slots of a round table hold, as a parameter of its rule.
-use Rattle.std.specs.Prelude.{◌≡◌, ◌≢◌, ◌⊎◌, ℕ, ◌<◌, List, [], ◌∷◌, ◌++◌, map, length, slice_set, Option, Some, None, if◌then◌else◌, ◌==◌}
+use Rattle.std.specs.Prelude.{◌≡◌, ◌≢◌, ◌⊎◌, ℕ, ◌<◌, List, [], ◌∷◌, ◌++◌, map, length, slice_set}
+use Rattle.std.specs.Prelude.{Option, Some, None, if◌then◌else◌, ◌==◌}
 use mathlib.Core.Option as m
 use mathlib.Core.Option.{some, none}
 use lib.ListN.{get_elem?}
@@ -15,13 +16,15 @@ pub record Quiet (s s' : State) : Type 0 where
   pub finished : (r k : ℕ) → times k (s'.rounds r).finished ≡ times k (s.rounds r).finished
   pub jobs : (r : ℕ) → (s'.rounds r).jobs ≡ (s.rounds r).jobs
   pub published : (n : ℕ) → s'.published ≡ Some n → (s.published ≡ Some n) × (s'.round ≡ s.round)
-  pub running : (k : ℕ) → 0 < times k (now s).begun → times k (now s).finished ≡ 0 → s'.round ≡ s.round
+  pub running : (k : ℕ) → 0 < times k (now s).begun → times k (now s).finished ≡ 0
+      → s'.round ≡ s.round
 
 -- the number k begins
 pub record Begins (s s' : State) (k : ℕ) : Type 0 where
   pub round : s'.round ≡ s.round
   pub published : s'.published ≡ s.published
-  pub begun : (r j : ℕ) → (r ≢ s.round) ⊎ (j ≢ k) → times j (s'.rounds r).begun ≡ times j (s.rounds r).begun
+  pub begun : (r j : ℕ) → (r ≢ s.round) ⊎ (j ≢ k)
+      → times j (s'.rounds r).begun ≡ times j (s.rounds r).begun
   pub finished : (r j : ℕ) → times j (s'.rounds r).finished ≡ times j (s.rounds r).finished
   pub before : times k (s.rounds s.round).begun ≡ 0
   pub after : 0 < times k (s'.rounds s.round).begun
@@ -33,7 +36,8 @@ pub record Finishes (s s' : State) (k : ℕ) : Type 0 where
   pub round : s'.round ≡ s.round
   pub published : s'.published ≡ s.published
   pub begun : (r j : ℕ) → times j (s'.rounds r).begun ≡ times j (s.rounds r).begun
-  pub finished : (r j : ℕ) → (r ≢ s.round) ⊎ (j ≢ k) → times j (s'.rounds r).finished ≡ times j (s.rounds r).finished
+  pub finished : (r j : ℕ) → (r ≢ s.round) ⊎ (j ≢ k)
+      → times j (s'.rounds r).finished ≡ times j (s.rounds r).finished
   pub after : 0 < times k (s'.rounds s.round).finished
 
 -- the number n is published, whether the round may stop or not
@@ -95,28 +99,40 @@ pub record Discipline (S N : Type 0) : Type 1 where
 
 -- every step of the table keeps what holds of the slots
 pub record Lawful {S N : Type 0} (D : Discipline S N) : Type 0 where
-  pub opens : (xs : List S) (v : View N) → D.starts xs → NoSlots v → D.clause fresh (map some xs) (v ∷ [])
-  pub splits : (s : State) (hs : List (m.Option S)) (vs : List (View N)) (v : View N) → D.clause s hs vs → NoSlots v → D.clause s hs (vs ++ v ∷ [])
-  pub stays : (s s' : State) (hs : List (m.Option S)) (vs : List (View N)) (id : ℕ) (v w : View N) → D.clause s hs vs → Quiet s s'
+  pub opens : (xs : List S) (v : View N) → D.starts xs → NoSlots v
+      → D.clause fresh (map some xs) (v ∷ [])
+  pub splits : (s : State) (hs : List (m.Option S)) (vs : List (View N)) (v : View N)
+      → D.clause s hs vs → NoSlots v → D.clause s hs (vs ++ v ∷ [])
+  pub stays : (s s' : State) (hs : List (m.Option S)) (vs : List (View N)) (id : ℕ) (v w : View N)
+      → D.clause s hs vs → Quiet s s'
       → get_elem? vs id ≡ some v → SameSlots v w → D.clause s' hs (slice_set vs id w)
-  pub begins : (s s' : State) (hs : List (m.Option S)) (vs : List (View N)) (id : ℕ) (v : View N) (c : List (ℕ × S)) (k : ℕ) (w : Option N → View N)
-      → D.clause s hs vs → Begins s s' k → get_elem? vs id ≡ some v → ((x : Option N) → ((w x).board ≡ v.board) × ((w x).note ≡ x) × ((w x).claim ≡ Some k))
-      → (x : Option N) × (a : Act S) × Valid hs c a × D.clause s' (homes_after hs c a) (slice_set vs id (w x)) × D.took k c x (carried_after c a)
-  pub finishes : (s s' : State) (hs : List (m.Option S)) (vs : List (View N)) (id : ℕ) (v w : View N) (c : List (ℕ × S)) (k : ℕ)
+  pub begins : (s s' : State) (hs : List (m.Option S)) (vs : List (View N)) (id : ℕ) (v : View N)
+      (c : List (ℕ × S)) (k : ℕ) (w : Option N → View N)
+      → D.clause s hs vs → Begins s s' k → get_elem? vs id ≡ some v
+      → ((x : Option N) → ((w x).board ≡ v.board) × ((w x).note ≡ x) × ((w x).claim ≡ Some k))
+      → (x : Option N) × (a : Act S) × Valid hs c a × D.clause s' (homes_after hs c a)
+      (slice_set vs id (w x)) × D.took k c x (carried_after c a)
+  pub finishes : (s s' : State) (hs : List (m.Option S)) (vs : List (View N)) (id : ℕ)
+      (v w : View N) (c : List (ℕ × S)) (k : ℕ)
       → D.clause s hs vs → Finishes s s' k → get_elem? vs id ≡ some v → v.claim ≡ Some k →
       ((p : ℕ) (u : View N) → p ≢ id → get_elem? vs p ≡ some u → u.claim ≢ Some k)
-      → (w.board ≡ v.board) × (w.claim ≡ None) → D.may_give k v.note c → Valid hs c D.gives × D.clause s' (homes_after hs c D.gives) (slice_set vs id w)
-  pub publishes : (s s' : State) (hs : List (m.Option S)) (vs : List (View N)) (id : ℕ) (v w : View N) (n : ℕ) → D.clause s hs vs → Publishes s s' n
-      → get_elem? vs 0 ≡ some v → id ≡ 0 → SameSlots v w → D.may_publish s.round n v.board → D.clause s' hs (slice_set vs id w)
+      → (w.board ≡ v.board) × (w.claim ≡ None) → D.may_give k v.note c → Valid hs c D.gives
+      × D.clause s' (homes_after hs c D.gives) (slice_set vs id w)
+  pub publishes : (s s' : State) (hs : List (m.Option S)) (vs : List (View N)) (id : ℕ)
+      (v w : View N) (n : ℕ) → D.clause s hs vs → Publishes s s' n
+      → get_elem? vs 0 ≡ some v → id ≡ 0 → SameSlots v w → D.may_publish s.round n v.board
+      → D.clause s' hs (slice_set vs id w)
   pub takes : (s : State) (hs : List (m.Option S)) (vs : List (View N)) (v w : View N) (k : ℕ)
       → let p : Spot N = spot_at v.board k in D.clause s hs vs → AtRest s
       → get_elem? vs 0 ≡ some v → k < length hs → D.may_take p → Spotted k Out v w
       → (y : S) × (get_elem? hs k ≡ some (some y))
       × D.clause s (slice_set hs k none) (slice_set vs 0 w) × D.found p y
       × (HasFinished s k p → D.answered p y)
-  pub puts : (s : State) (hs : List (m.Option S)) (vs : List (View N)) (v w : View N) (k : ℕ) (y : S)
+  pub puts : (s : State) (hs : List (m.Option S)) (vs : List (View N)) (v w : View N) (k : ℕ)
+      (y : S)
       → D.clause s hs vs → AtRest s → get_elem? vs 0 ≡ some v → D.may_put (spot_at v.board k) y
-      → Spotted k (D.spot_of s.round y) v w → D.clause s (slice_set hs k (some y)) (slice_set vs 0 w)
+      → Spotted k (D.spot_of s.round y) v w → D.clause s (slice_set hs k (some y))
+      (slice_set vs 0 w)
 
 -- a table without slots
 abbrev pub bare : Discipline (Unit {0}) (Unit {0})
@@ -134,6 +150,7 @@ bare = record {
   spot_of = λ q y. Vacant;
 }
 
+-- every step of a table without slots keeps the nothing that holds of them
 abbrev pub bare_lawful : Lawful bare
 bare_lawful = record {
   opens = λ xs v z n. tt;

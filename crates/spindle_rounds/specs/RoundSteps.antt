@@ -1,15 +1,21 @@
--- What becomes of a seat's view by each kind of step on a round table (`joining`: the view after a join). What a step tells its seat is
--- in RoundTells (`JoinTells`), and what a call answers by it in RoundAnswers (`JoinedBy`).
-use Rattle.std.specs.Prelude.{ℕ, ◌+◌, ◌-◌, ◌*◌, ◌/◌, ◌%◌, Bool, true, false, List, [], ◌∷◌, Option, Some, None, if◌then◌else◌, ◌==◌, ◌&&◌, nat_lt}
+-- What becomes of a seat's view by each kind of step on a round table (`joining`:
+-- the view after a join). What a step tells its seat is in RoundTells (`JoinTells`),
+-- and what a call answers by it in RoundAnswers (`JoinedBy`).
+use Rattle.std.specs.Prelude.{ℕ, ◌+◌, ◌-◌, ◌*◌, ◌/◌, ◌%◌, Bool, true, false, List, [], ◌∷◌, Option}
+use Rattle.std.specs.Prelude.{Some, None, if◌then◌else◌, ◌==◌, ◌&&◌, nat_lt}
 use Rattle.spindle_parts.specs.declared.trail.Trace.{Trace}
 use Rattle.spindle_parts.specs.Trail.{trace}
 use Rattle.spindle_rounds.specs.declared.round_table.view.Standing.{Standing}
-use Rattle.spindle_rounds.specs.declared.round_table.view.Standing.TheVariants.{Away, Inside, Waiting, Closing}
+use Rattle.spindle_rounds.specs.declared.round_table.view.Standing.TheVariants.{Away, Inside}
+use Rattle.spindle_rounds.specs.declared.round_table.view.Standing.TheVariants.{Waiting, Closing}
 use Rattle.spindle_rounds.specs.declared.round_table.view.Kind.{Kind}
 use Rattle.spindle_rounds.specs.declared.round_table.view.Kind.TheVariants as kind
 use Rattle.spindle_rounds.specs.declared.round_table.view.Known.{Known}
 use Rattle.spindle_rounds.specs.declared.round_table.view.View.{View}
-use Rattle.spindle_rounds.specs.Words.{barrier_at, published_at, finished_at, stopped_at, remainder_at, range_at, one_member, one_party, sense_bit, high_half, most_jobs, count_of, most_of, sense_of, start_of, end_of, length_of, range_word}
+use Rattle.spindle_rounds.specs.Words.{barrier_at, published_at, finished_at, stopped_at}
+use Rattle.spindle_rounds.specs.Words.{remainder_at, range_at, one_member, one_party, sense_bit}
+use Rattle.spindle_rounds.specs.Words.{high_half, most_jobs, count_of, most_of, sense_of, start_of}
+use Rattle.spindle_rounds.specs.Words.{end_of, length_of, range_word}
 use Rattle.spindle_rounds.specs.RoundRule.{number_of}
 
 -- the round in which a party stands
@@ -21,7 +27,14 @@ round_of (Closing q member cleared at) = q
 
 -- nothing is known of the round, but to the leader that it has published nothing
 abbrev pub unknown : Bool → Bool → Known
-unknown leads seen = record { number = None; may_stop = false; unpublished = leads; seen_stop = seen; emptied = []; stored = [] }
+unknown leads seen = record {
+  number = None;
+  may_stop = false;
+  unpublished = leads;
+  seen_stop = seen;
+  emptied = [];
+  stored = [];
+}
 
 -- a seat that has done nothing
 abbrev pub outsider : {N : Type 0} → ℕ → Bool → View N
@@ -71,13 +84,15 @@ missing i found v = noted (trace i kind.Miss found found) v
 
 -- after a join in the round q, of whose stop it may have seen
 abbrev pub joining : {N : Type 0} → ℕ → Bool → ℕ → View N → View N
-joining q seen found v = noted (trace barrier_at kind.Join found (found + one_party)) (standing (Inside q) (unknown v.leader seen) v)
+joining q seen found v = noted (trace barrier_at kind.Join found (found + one_party))
+    (standing (Inside q) (unknown v.leader seen) v)
 
 -- after an arrival: who found one member in is the closer
 abbrev pub arriving : {N : Type 0} → ℕ → View N → View N
 arriving found v = let q = round_of v.standing in
     noted (trace barrier_at kind.Arrive found (found - 1))
-    (outside (if count_of found == 1 then Closing q true false None else Waiting q v.known.unpublished) v)
+    (outside (if count_of found == 1 then Closing q true false None else Waiting q
+    v.known.unpublished) v)
 
 -- after a look of a seat that waits: its round goes on, or has ended
 abbrev pub looking : {N : Type 0} → ℕ → View N → View N
@@ -95,7 +110,8 @@ exit_word n = if most_of n == 1 then sense_bit * (1 - sense_of n) else n - one_p
 -- after an exit: whom all other members wait for is the closer
 abbrev pub exiting : {N : Type 0} → ℕ → View N → View N
 exiting found v = noted (trace barrier_at kind.Exit found (exit_word found))
-    (outside (if (count_of found == 1) && nat_lt 1 (most_of found) then Closing (round_of v.standing) false false None else Away) v)
+    (outside (if (count_of found == 1) && nat_lt 1 (most_of found) then Closing
+    (round_of v.standing) false false None else Away) v)
 
 -- the closer knows the barrier word, which stands
 abbrev pub with_word : ℕ → Standing → Standing
@@ -104,7 +120,8 @@ with_word n st = st
 
 -- after the closer's load of the barrier word
 abbrev pub closer_reading : {N : Type 0} → ℕ → View N → View N
-closer_reading found v = loading barrier_at found (record v { standing = with_word found v.standing })
+closer_reading found v = loading barrier_at found
+    (record v { standing = with_word found v.standing })
 
 -- the closer has cleared
 abbrev pub with_clear : Standing → Standing
@@ -113,7 +130,8 @@ with_clear st = st
 
 -- after a clear: the published word is 0
 abbrev pub clearing : {N : Type 0} → ℕ → View N → View N
-clearing stored v = noted (trace published_at kind.Clear stored stored) (record v { standing = with_clear v.standing })
+clearing stored v = noted (trace published_at kind.Clear stored stored)
+    (record v { standing = with_clear v.standing })
 
 -- the word after the round that the word n closes
 abbrev pub turned_word : ℕ → ℕ
@@ -126,11 +144,13 @@ after_end leads _ = (unknown false false, Away)
 
 -- after the closer has ended the round
 abbrev pub ending : {N : Type 0} → ℕ → View N → View N
-ending stored v = let x = after_end v.leader v.standing in noted (trace barrier_at kind.End stored stored) (standing x.1 x.0 v)
+ending stored v = let x = after_end v.leader v.standing in
+    noted (trace barrier_at kind.End stored stored) (standing x.1 x.0 v)
 
 -- Publishing.
 
--- what is known after the published word was read: 0, a number, or a number of a round that may stop
+-- what is known after the published word was read:
+-- 0, a number, or a number of a round that may stop
 abbrev pub known_by : ℕ → Known → Known
 known_by found k = record k {
   number = if found == 0 then None else Some (found % high_half);
@@ -144,7 +164,8 @@ learning found v = loading published_at found (record v { known = known_by found
 
 -- after the leader has stored the value x in the word i, for a round to come
 abbrev pub filling : {N : Type 0} → ℕ → ℕ → View N → View N
-filling i x v = noted (trace i kind.Fill x x) (record v { known = record v.known { stored = (i, x) ∷ v.known.stored }; laid = None })
+filling i x v = noted (trace i kind.Fill x x)
+    (record v { known = record v.known { stored = (i, x) ∷ v.known.stored }; laid = None })
 
 -- what the published word says of n jobs
 abbrev pub publish_word : Bool → ℕ → ℕ
@@ -155,7 +176,14 @@ abbrev pub publishing : {N : Type 0} → Bool → ℕ → View N → View N
 publishing may_stop n v = let x = publish_word may_stop n in
     noted (trace published_at (kind.Publish (round_of v.standing) n may_stop) x x)
     (record v {
-      known = record { number = Some n; may_stop = may_stop; unpublished = false; seen_stop = false; emptied = []; stored = [] };
+      known = record {
+        number = Some n;
+        may_stop = may_stop;
+        unpublished = false;
+        seen_stop = false;
+        emptied = [];
+        stored = [];
+      };
       laid = Some
           (round_of v.standing);
     })
@@ -169,11 +197,16 @@ list_empty (Some n) empty i l = if empty then i ∷ l else l
 
 -- after a load of the word of the range i, or of the remainder
 abbrev pub reading : {N : Type 0} → ℕ → ℕ → Bool → ℕ → View N → View N
-reading word i empty found v = loading word found (record v { known = record v.known { emptied = list_empty v.known.number empty i v.known.emptied } })
+reading word i empty found v = loading word found
+    (record v {
+      known =
+          record v.known { emptied = list_empty v.known.number empty i v.known.emptied };
+    })
 
 -- after a load of the i-th range
 abbrev pub searching : {N : Type 0} → ℕ → ℕ → View N → View N
-searching i found v = reading (range_at i) i (if nat_lt (start_of found) (end_of found) then false else true) found v
+searching i found v = reading (range_at i) i
+    (if nat_lt (start_of found) (end_of found) then false else true) found v
 
 -- after a load of the remainder
 abbrev pub reading_remainder : {N : Type 0} → ℕ → View N → View N
@@ -185,7 +218,11 @@ recalling n v = loading published_at (number_of (Some n) v.known.may_stop) v
 
 -- after an exchange at the word i with which the number k begins
 abbrev pub beginning : {N : Type 0} → ℕ → ℕ → ℕ → ℕ → Option N → View N → View N
-beginning i k found new x v = record (noted (trace i (kind.Begin (round_of v.standing) k) found new) v) { claim = Some k; note = x }
+beginning i k found new x v =
+    record (noted (trace i (kind.Begin (round_of v.standing) k) found new) v) {
+      claim = Some k;
+      note = x;
+    }
 
 -- after the front of a range was claimed, at the word i
 abbrev pub claiming : {N : Type 0} → ℕ → ℕ → Option N → View N → View N
@@ -199,12 +236,15 @@ half_of length = if length / 2 == 0 then 1 else length / 2
 abbrev pub stolen_from : ℕ → ℕ
 stolen_from range = end_of range - half_of (length_of range)
 
--- after the last half of a range was stolen: its first number begins, and the others are the seat's share
+-- after the last half of a range was stolen:
+-- its first number begins, and the others are the seat's share
 abbrev pub stealing : {N : Type 0} → ℕ → ℕ → Option N → View N → View N
-stealing i found x v = record (beginning i (stolen_from found) found (range_word (start_of found) (stolen_from found)) x v) {
-  from = stolen_from found + 1;
-  to = end_of found;
-}
+stealing i found x v =
+    record (beginning i (stolen_from found) found
+    (range_word (start_of found) (stolen_from found)) x v) {
+      from = stolen_from found + 1;
+      to = end_of found;
+    }
 
 -- after the last number of the remainder was claimed, of n jobs
 abbrev pub claiming_remainder : {N : Type 0} → ℕ → ℕ → Option N → View N → View N
@@ -221,18 +261,23 @@ sharing i stored x v = record (beginning i v.from stored stored x v) { from = v.
 
 -- after its claim was counted as finished
 abbrev pub finishing : {N : Type 0} → ℕ → View N → View N
-finishing found v = record (noted (trace finished_at (kind.Finish (round_of v.standing) (number_or v.claim)) found (found + 1)) v) { claim = None; note = None }
+finishing found v =
+    record (noted (trace finished_at (kind.Finish (round_of v.standing) (number_or v.claim)) found
+    (found + 1)) v) { claim = None; note = None }
 
 -- Stopping.
 
 -- after it has stopped the round
 abbrev pub stopping : {N : Type 0} → ℕ → View N → View N
-stopping stored v = noted (trace stopped_at kind.Stop stored stored) (record v { known = record v.known { seen_stop = true } })
+stopping stored v = noted (trace stopped_at kind.Stop stored stored)
+    (record v { known = record v.known { seen_stop = true } })
 
 -- after a load of the word `stopped`: 1 says that the round was stopped
 abbrev pub seeing : {N : Type 0} → ℕ → View N → View N
-seeing found v = loading stopped_at found (record v { known = record v.known { seen_stop = found == 1 } })
+seeing found v = loading stopped_at found
+    (record v { known = record v.known { seen_stop = found == 1 } })
 
 -- after its share went back into the empty range of the word i
 abbrev pub putting_back : {N : Type 0} → ℕ → ℕ → View N → View N
-putting_back i found v = record (noted (trace i kind.PutBack found (range_word v.from v.to)) v) { from = v.to }
+putting_back i found v =
+    record (noted (trace i kind.PutBack found (range_word v.from v.to)) v) { from = v.to }

@@ -1,11 +1,17 @@
--- What each kind of step on a round table tells its seat (`JoinTells`). What becomes of its view by it is in RoundSteps (`joining`).
+-- What each kind of step on a round table tells its seat (`JoinTells`).
+-- What becomes of its view by it is in RoundSteps (`joining`).
 use Rattle.std.specs.Prelude.{◌≡◌, ◌≢◌, ℕ, ◌-◌, ◌%◌, ◌<◌, ◌≤◌, Bool, true, false, Option, Some}
 use Rattle.atomic_table.specs.Table.{Me, Step, carried_after}
 use Rattle.spindle_rounds.specs.declared.round_table.view.Standing.TheVariants.{Inside}
 use Rattle.spindle_rounds.specs.declared.round_table.view.View.{View}
 use Rattle.spindle_rounds.specs.Words.{range_at, high_half, sense_of, start_of}
 use Rattle.spindle_rounds.specs.RoundSlots.{Discipline}
-use Rattle.spindle_rounds.specs.RoundSteps.{loading, missing, joining, arriving, looking, leaving, exiting, closer_reading, clearing, ending, learning, filling, publishing, searching, reading_remainder, recalling, claiming, stolen_from, stealing, claiming_remainder, number_or, sharing, finishing, stopping, seeing, putting_back}
+use Rattle.spindle_rounds.specs.RoundSteps.{loading, missing, joining, arriving, looking, leaving}
+use Rattle.spindle_rounds.specs.RoundSteps.{exiting, closer_reading, clearing, ending, learning}
+use Rattle.spindle_rounds.specs.RoundSteps.{filling, publishing, searching, reading_remainder}
+use Rattle.spindle_rounds.specs.RoundSteps.{recalling, claiming, stolen_from, stealing}
+use Rattle.spindle_rounds.specs.RoundSteps.{claiming_remainder, number_or, sharing, finishing}
+use Rattle.spindle_rounds.specs.RoundSteps.{stopping, seeing, putting_back}
 
 module _ {S N : Type 0} where
   -- the step leaves the seat's slots, and makes its view a function of the value found
@@ -14,11 +20,14 @@ module _ {S N : Type 0} where
 
   -- the same of an exchange, which does it where it found what it expected
   abbrev pub Exchanges : (ℕ → View N → View N) → Step S → Me S (View N) → ℕ → Me S (View N) → Type 0
-  Exchanges f st m found m' = (m'.1 ≡ m.1) × (found ≡ st.first → m'.0 ≡ f found m.0) × (found ≢ st.first → m'.0 ≡ missing st.word found m.0)
+  Exchanges f st m found m' = (m'.1 ≡ m.1) × (found ≡ st.first → m'.0 ≡ f found m.0)
+      × (found ≢ st.first → m'.0 ≡ missing st.word found m.0)
 
   -- an exchange with which a number begins
-  abbrev pub Begun : Discipline S N → (ℕ → ℕ) → (ℕ → Option N → View N → View N) → Step S → Me S (View N) → ℕ → Me S (View N) → Type 0
-  Begun D number f st m found m' = (found ≡ st.first → (x : Option N) × (m'.0 ≡ f found x m.0) × D.took (number found) m.1 x m'.1) ×
+  abbrev pub Begun : Discipline S N → (ℕ → ℕ) → (ℕ → Option N → View N → View N) → Step S
+      → Me S (View N) → ℕ → Me S (View N) → Type 0
+  Begun D number f st m found m' = (found ≡ st.first → (x : Option N) × (m'.0 ≡ f found x m.0)
+      × D.took (number found) m.1 x m'.1) ×
       (found ≢ st.first → (m'.1 ≡ m.1) × (m'.0 ≡ missing st.word found m.0))
 
 -- The barrier word.
@@ -29,7 +38,8 @@ LoadTells st m found m' = (m'.1 ≡ m.1) × (m'.0 ≡ loading st.word found m.0)
 
 -- a party that joins may have seen the stop of this round before
 abbrev pub JoinTells : {S N : Type 0} → Step S → Me S (View N) → ℕ → Me S (View N) → Type 0
-JoinTells st m found m' = (m'.1 ≡ m.1) × (found ≡ st.first → (q : ℕ) × (seen : Bool) × (q % 2 ≡ sense_of found) × (m'.0 ≡ joining q seen found m.0)) ×
+JoinTells st m found m' = (m'.1 ≡ m.1) × (found ≡ st.first → (q : ℕ) × (seen : Bool)
+    × (q % 2 ≡ sense_of found) × (m'.0 ≡ joining q seen found m.0)) ×
     (found ≢ st.first → m'.0 ≡ missing st.word found m.0)
 
 -- an arrival
@@ -50,7 +60,8 @@ ExitTells = Exchanges exiting
 
 -- the closer's load
 abbrev pub CloserReadTells : {S N : Type 0} → Step S → Me S (View N) → ℕ → Me S (View N) → Type 0
-CloserReadTells st m found m' = (m'.1 ≡ m.1) × (m'.0 ≡ closer_reading found m.0) × (found < high_half)
+CloserReadTells st m found m' = (m'.1 ≡ m.1) × (m'.0 ≡ closer_reading found m.0)
+    × (found < high_half)
 
 -- a clear
 abbrev pub ClearTells : {S N : Type 0} → Step S → Me S (View N) → ℕ → Me S (View N) → Type 0
@@ -82,7 +93,8 @@ PublishTryTells = Turns (λ stored. publishing true (stored % high_half))
 
 -- a load of a range
 abbrev pub SearchTells : {S N : Type 0} → Step S → Me S (View N) → ℕ → Me S (View N) → Type 0
-SearchTells st m found m' = (m'.1 ≡ m.1) × ((i : ℕ) → st.word ≡ range_at i → m'.0 ≡ searching i found m.0)
+SearchTells st m found m' = (m'.1 ≡ m.1) × ((i : ℕ) → st.word ≡ range_at i
+    → m'.0 ≡ searching i found m.0)
 
 -- a load of the remainder: who knows the number finds no more than that
 abbrev pub RemainderReadTells : {S N : Type 0} → Step S → Me S (View N) → ℕ → Me S (View N) → Type 0
@@ -91,27 +103,35 @@ RemainderReadTells st m found m' = (m'.1 ≡ m.1) × (m'.0 ≡ reading_remainder
 
 -- who knows the number finds it again
 abbrev pub RecallTells : {S N : Type 0} → Step S → Me S (View N) → ℕ → Me S (View N) → Type 0
-RecallTells st m found m' = (m'.1 ≡ m.1) × ((q n : ℕ) → m.0.standing ≡ Inside q → m.0.known.number ≡ Some n → (m'.0 ≡ recalling n m.0) ×
+RecallTells st m found m' = (m'.1 ≡ m.1) × ((q n : ℕ) → m.0.standing ≡ Inside q
+    → m.0.known.number ≡ Some n → (m'.0 ≡ recalling n m.0) ×
     (found % high_half ≡ n))
 
 -- a claim of the front of a range
-abbrev pub ClaimTells : {S N : Type 0} → Discipline S N → Step S → Me S (View N) → ℕ → Me S (View N) → Type 0
+abbrev pub ClaimTells : {S N : Type 0} → Discipline S N → Step S → Me S (View N) → ℕ → Me S (View N)
+    → Type 0
 ClaimTells D st = Begun D start_of (claiming st.word) st
 
 -- a steal
-abbrev pub StealTells : {S N : Type 0} → Discipline S N → Step S → Me S (View N) → ℕ → Me S (View N) → Type 0
+abbrev pub StealTells : {S N : Type 0} → Discipline S N → Step S → Me S (View N) → ℕ → Me S (View N)
+    → Type 0
 StealTells D st = Begun D stolen_from (stealing st.word) st
 
 -- a claim on the remainder
-abbrev pub RemainderClaimTells : {S N : Type 0} → Discipline S N → Step S → Me S (View N) → ℕ → Me S (View N) → Type 0
-RemainderClaimTells D st m = Begun D (λ found. number_or m.0.known.number - found) (claiming_remainder (number_or m.0.known.number)) st m
+abbrev pub RemainderClaimTells : {S N : Type 0} → Discipline S N → Step S → Me S (View N) → ℕ
+    → Me S (View N) → Type 0
+RemainderClaimTells D st m = Begun D (λ found. number_or m.0.known.number - found)
+    (claiming_remainder (number_or m.0.known.number)) st m
 
 -- a store with which a number of the share begins
-abbrev pub ShareTells : {S N : Type 0} → Discipline S N → Step S → Me S (View N) → ℕ → Me S (View N) → Type 0
-ShareTells {N = N} D st m stored m' = (x : Option N) × (m'.0 ≡ sharing st.word stored x m.0) × D.took m.0.from m.1 x m'.1
+abbrev pub ShareTells : {S N : Type 0} → Discipline S N → Step S → Me S (View N) → ℕ → Me S (View N)
+    → Type 0
+ShareTells {N = N} D st m stored m' = (x : Option N) × (m'.0 ≡ sharing st.word stored x m.0)
+    × D.took m.0.from m.1 x m'.1
 
 -- a finish: the claim's slot goes back
-abbrev pub FinishTells : {S N : Type 0} → Discipline S N → Step S → Me S (View N) → ℕ → Me S (View N) → Type 0
+abbrev pub FinishTells : {S N : Type 0} → Discipline S N → Step S → Me S (View N) → ℕ
+    → Me S (View N) → Type 0
 FinishTells D st m found m' = (m'.1 ≡ carried_after m.1 D.gives) × (m'.0 ≡ finishing found m.0)
 
 -- Stopping.

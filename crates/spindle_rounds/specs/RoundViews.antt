@@ -1,4 +1,5 @@
--- What a party's calls in one round keep of what its seat knows, for the loops of those who call them.
+-- What a party's calls in one round keep of what its seat knows,
+-- for the loops of those who call them.
 use Rattle.std.specs.Prelude.{◌≡◌, ℕ, ◌<◌, Bool, List, [], ◌∷◌, Some}
 use Rattle.spindle_parts.specs.declared.trail.Trace.{Trace}
 use Rattle.spindle_rounds.specs.declared.round_table.view.Kind.{Kind}
@@ -56,6 +57,8 @@ AfterClaim claim.Again v w = Onward v w × SeesAsBefore v w × SharesAsBefore v 
 
 -- after a steal: the same, with a share; or every range was read as empty; or it may claim again
 abbrev pub AfterSteal : {N : Type 0} → ℕ → Steal → View N → View N → Type 0
-AfterSteal t (steal.Job c share) v w = Onward v w × SeesAsBefore v w × MayFinish c w × IsItsShare share w
-AfterSteal t steal.Nothing v w = Onward v w × SeesAsBefore v w × SharesAsBefore v w × MayClaim w × ((i : ℕ) → i < t → IsListed i w.known.emptied)
+AfterSteal t (steal.Job c share) v w = Onward v w × SeesAsBefore v w × MayFinish c w
+    × IsItsShare share w
+AfterSteal t steal.Nothing v w = Onward v w × SeesAsBefore v w × SharesAsBefore v w × MayClaim w
+    × ((i : ℕ) → i < t → IsListed i w.known.emptied)
 AfterSteal t steal.Again v w = Onward v w × SeesAsBefore v w × SharesAsBefore v w × MayClaim w

@@ -20,5 +20,6 @@ IsSameTable one other = other.table.shared.table_id ≡ one.table.shared.table_i
 abbrev pub slots_of : {T S N : Type 0} → BarrierInit T S N → ℕ
 slots_of init = init.table.shared.table_id.slots
 
+-- its table was opened with so many slots
 abbrev pub HasSlots : {T S N : Type 0} → BarrierInit T S N → ℕ → Type 0
 HasSlots init slots = slots_of init ≡ slots

@@ -1,4 +1,5 @@
--- A barrier lends its seat: a write through the reference lands in the barrier, and nothing else of it changes.
+-- A barrier lends its seat: a write through the reference lands in the barrier,
+-- and nothing else of it changes.
 use denote.RattleType.{RattleType}
 use mir.Syntax.{named}
 use Rattle.std.specs.Prelude.{[]}
@@ -12,5 +13,9 @@ use Rattle.atomic_table.specs.declared.shared.Seat.{Seat}
 use Rattle.atomic_table.specs.contracts.shared.Seat as seat
 
 module _ (T S N : RattleType) (d : slots.Ghosts T.Denot S.Denot N.Denot) where
-  abbrev pub LendsSeat : MutBor (Barrier T.Denot S.Denot N.Denot) → MutBor (Seat S.Denot (View N.Denot)) → Fml
-  LendsSeat b r = Lends (barrier.the_row (record { mir = named 0; lft = [] }) T S N d) (seat.the_row S (view.the_row N)) b r (λ w. record b.now { seat = w })
+  -- the reference r shows the seat of the barrier b,
+  -- and what is written through it becomes that seat
+  abbrev pub LendsSeat : MutBor (Barrier T.Denot S.Denot N.Denot)
+      → MutBor (Seat S.Denot (View N.Denot)) → Fml
+  LendsSeat b r = Lends (barrier.the_row (record { mir = named 0; lft = [] }) T S N d)
+      (seat.the_row S (view.the_row N)) b r (λ w. record b.now { seat = w })

@@ -1,4 +1,5 @@
--- The slots in their leader's hand between two rounds, and where they stand on its board while a round lasts.
+-- The slots in their leader's hand between two rounds,
+-- and where they stand on its board while a round lasts.
 use Rattle.std.specs.Prelude.{◌≡◌, ℕ, zero, suc, ◌<◌, ◌≤◌, true, List}
 use Rattle.atomic_table.specs.Table.{Me, turned}
 use Rattle.spindle_rounds.specs.declared.round_table.view.View.{View}
@@ -33,7 +34,8 @@ pub record HoldsAll {P A : Type 0} (slots : ℕ) (m : Me (Stand P A) (View P)) :
   pub out : AllOut slots m.0.board
 
 -- the leader of a table with so many slots, between two rounds
-pub record LeadsWith {T P A : Type 0} (slots : ℕ) (round : Round T (Stand P A) P) (b : Barrier T (Stand P A) P) : Type 0 where
+pub record LeadsWith {T P A : Type 0} (slots : ℕ) (round : Round T (Stand P A) P)
+    (b : Barrier T (Stand P A) P) : Type 0 where
   pub party : IsIn round true b
   pub unpublished : MayFill b.seat.me.0
   pub holds : HoldsAll slots b.seat.me
@@ -44,12 +46,14 @@ module _ {P : Type 0} (Is : ℕ → P → Type 0) where
   abbrev pub WaitsAs : {A : Type 0} → ℕ → Stand P A → Type 0
   WaitsAs k y = (x : P) × (y ≡ Waits x) × Is k x
 
-  -- in the round r the leader put such pieces into the first n of so many slots, and nothing into the others
+  -- in the round r the leader put such pieces into the first n of so many slots,
+  -- and nothing into the others
   pub record LaidOut (slots n r : ℕ) (b : List (ℕ × Spot P)) : Type 0 where
     pub filled : (k : ℕ) → k < n → (x : P) × (spot_at b k ≡ Filled r x) × Is k x
     pub vacant : (k : ℕ) → n ≤ k → k < slots → spot_at b k ≡ Vacant
 
   -- below n the slot k holds an answer to such a piece, and from n on it is empty
-  pub record AnsweredAs {A : Type 0} (answers : P → A → Type 0) (n k : ℕ) (y : Stand P A) : Type 0 where
+  pub record AnsweredAs {A : Type 0} (answers : P → A → Type 0) (n k : ℕ)
+      (y : Stand P A) : Type 0 where
     pub done : k < n → (x : P) × (o : A) × (y ≡ Done o) × answers x o × Is k x
     pub empty : n ≤ k → y ≡ Empty

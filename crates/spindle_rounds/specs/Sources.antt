@@ -27,12 +27,13 @@ HasEmptied (Range i) v = IsListed i v.known.emptied
 HasEmptied Longest v = (i : ℕ) → i < v.threads → IsListed i v.known.emptied
 HasEmptied Remainder v = IsListed v.threads v.known.emptied
 
--- a claim's answer, and a steal's
+-- what a claim that answers so took
 abbrev pub of_claim : Claim → Taken
 of_claim (claim.Job c) = Job c None
 of_claim claim.Nothing = Nothing
 of_claim claim.Again = Again
 
+-- what a steal that answers so took
 abbrev pub of_steal : Steal → Taken
 of_steal (steal.Job c share) = Job c (Some share)
 of_steal steal.Nothing = Nothing
@@ -43,8 +44,12 @@ abbrev pub HasLeft : {N : Type 0} → Option Span → View N → Type 0
 HasLeft None v = v.to ≤ v.from
 HasLeft (Some share) v = IsItsShare share v
 
--- after a claim: the number may be finished, and its slot was taken; or the source was empty; or the seat may claim again
-abbrev pub AfterTaking : {S N : Type 0} → Discipline S N → Source → Taken → Me S (View N) → Me S (View N) → Type 0
-AfterTaking D source (Job c share) m w = Onward m.0 w.0 × SeesAsBefore m.0 w.0 × MayFinish c w.0 × HasLeft share w.0 × D.took c m.1 w.0.note w.1
-AfterTaking D source Nothing m w = Onward m.0 w.0 × SeesAsBefore m.0 w.0 × MayClaim w.0 × (w.1 ≡ m.1) × HasEmptied source w.0
+-- after a claim: the number may be finished, and its slot was taken;
+-- or the source was empty; or the seat may claim again
+abbrev pub AfterTaking : {S N : Type 0} → Discipline S N → Source → Taken → Me S (View N)
+    → Me S (View N) → Type 0
+AfterTaking D source (Job c share) m w = Onward m.0 w.0 × SeesAsBefore m.0 w.0 × MayFinish c w.0
+    × HasLeft share w.0 × D.took c m.1 w.0.note w.1
+AfterTaking D source Nothing m w = Onward m.0 w.0 × SeesAsBefore m.0 w.0 × MayClaim w.0
+    × (w.1 ≡ m.1) × HasEmptied source w.0
 AfterTaking D source Again m w = Onward m.0 w.0 × SeesAsBefore m.0 w.0 × MayClaim w.0 × (w.1 ≡ m.1)

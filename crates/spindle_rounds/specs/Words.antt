@@ -1,5 +1,8 @@
--- The words of a round table by their names: where each stands, which bits it has, and what its fields say.
+-- The words of a round table by their names: where each stands, and what the fields of a range say.
+-- The bits and fields of the barrier word are those of the model's.
 use Rattle.std.specs.Prelude.{ℕ, ◌+◌, ◌-◌, ◌*◌, ◌/◌, ◌%◌}
+pub use Rattle.spindle_parts.specs.Words.{field_size, one_member, one_party, sense_bit}
+pub use Rattle.spindle_parts.specs.Words.{count_of, most_of, sense_of, most_parties, most_jobs}
 
 -- Where each word stands.
 
@@ -39,49 +42,12 @@ filled_at j = 16 + 8 * j
 abbrev pub words_of : ℕ → ℕ
 words_of t = 40 + 16 * t
 
--- The bits of a word.
-
--- one past the 15 bits that count parties
-abbrev pub field_size : ℕ
-field_size = 32768
-
--- a member more in the barrier word
-abbrev pub one_member : ℕ
-one_member = 65536
-
--- a party more there: a member that hasn't arrived
-abbrev pub one_party : ℕ
-one_party = 65537
-
--- the bit of the sense
-abbrev pub sense_bit : ℕ
-sense_bit = 2147483648
-
--- one in the high half of a word: where a range's end starts, and the bit of a published word whose round may stop
+-- one in the high half of a word: where a range's end starts,
+-- and the bit of a published word whose round may stop
 abbrev pub high_half : ℕ
 high_half = 4294967296
 
--- the most parties of a barrier
-abbrev pub most_parties : ℕ
-most_parties = 32767
-
--- the most jobs of a round
-abbrev pub most_jobs : ℕ
-most_jobs = 4294967295
-
--- The fields of a word.
-
--- how many members haven't arrived, in a barrier word
-abbrev pub count_of : ℕ → ℕ
-count_of n = n % field_size
-
--- how many members there are
-abbrev pub most_of : ℕ → ℕ
-most_of n = n / one_member % field_size
-
--- its sense
-abbrev pub sense_of : ℕ → ℕ
-sense_of n = n / sense_bit
+-- The fields of a range.
 
 -- where a range starts
 abbrev pub start_of : ℕ → ℕ

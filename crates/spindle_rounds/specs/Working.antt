@@ -16,7 +16,8 @@ IsIdle v = (v.claim ≡ None) × (v.to ≤ v.from)
 
 -- one round more was published, of n jobs, which may stop or not, and it has ended
 abbrev pub PlayedRoundOf : {N : Type 0} → ℕ → Bool → View N → View N → Type 0
-PlayedRoundOf n may_stop v w = (published_of w.trail ≡ Showed (round_of v.standing) n may_stop ∷ published_of v.trail)
+PlayedRoundOf n may_stop v w = (published_of w.trail ≡ Showed (round_of v.standing) n may_stop
+    ∷ published_of v.trail)
     × (w.standing ≡ Inside (round_of v.standing + 1))
 
 -- the same of a round that can't stop

@@ -5,6 +5,8 @@
 #![tactic(auto)]
 
 pub mod barrier;
+#[cfg(test)]
+mod checks;
 pub mod round;
 pub mod round_table;
 #[cfg(test)]

@@ -4,13 +4,13 @@ ghost use Rattle.spindle_rounds.specs.RoundSteps.{clearing};
 ghost use Rattle.spindle_rounds.specs.RoundAnswers.{EndedBy};
 ghost use Rattle.spindle_rounds.specs.RoundConditions.{IsClosing, HasCleared};
 ghost use Rattle.spindle_rounds.specs.Holding.{IsHeld, Keeps, EndTold};
-ghost use Rattle.spindle_rounds.specs.Seating.{IsSameSeat};
+ghost use Rattle.spindle_rounds.specs.Seating.{IsSeatAt, IsSameSeat};
 
-use super::Barrier;
 use super::word::{FIELD, MEMBER, SENSE};
+use super::{Barrier, BarrierInit};
 use crate::round_table::plays::{Clears, CloserReads, Ends};
 use crate::round_table::slots::Slots;
-use crate::round_table::{BARRIER, PUBLISHED, Seat, SharedWords};
+use crate::round_table::{BARRIER, PUBLISHED, Seat};
 
 /// What the closer has after the round's end.
 #[derive(Drop)]
@@ -21,12 +21,13 @@ pub enum AfterEnd<'a, D: Slots> {
     Gone(Seat<D>),
 }
 
-pub(crate) fn end_round<D: Slots>(words: &SharedWords<D>, seat: &mut Seat<D>)
-    requires seated { (seat.old.table_id ≡ words.now.table_id) × (0 < words.now.table_id.words) }
+pub(crate) fn end_round<D: Slots>(init: &BarrierInit<D>, seat: &mut Seat<D>)
+    requires seated { IsSeatAt init.now seat.old }
     requires cleared { HasCleared seat.old.me.0 }
     ensures seat { IsSameSeat seat.old seat.new }
     ensures step { EndedBy seat.old.me seat.new.me }
 {
+    let words = &init.table.shared;
     let word = words.load::<CloserReads>(seat, BARRIER);
     let most = word / MEMBER % FIELD;
     let turned = most + MEMBER * most + SENSE * (1 - word / SENSE);
@@ -51,7 +52,7 @@ impl<'a, D: Slots> Barrier<'a, D> {
         requires cleared { HasCleared self.seat.me.0 }
         ensures { EndTold self.entry result }
     {
-        end_round(&self.init.table.shared, &mut self.seat);
+        end_round(self.init, &mut self.seat);
         if self.is_member {
             AfterEnd::Next(self)
         } else {

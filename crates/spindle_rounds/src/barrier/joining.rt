@@ -1,7 +1,7 @@
 //! Joining the barrier.
 ghost use Rattle.std.specs.Prelude.{◌≡◌, ◌<◌, IfOk, IfErr};
 ghost use Rattle.spindle_rounds.specs.RoundAnswers.{JoinedBy, JoinRefusedBy};
-ghost use Rattle.spindle_rounds.specs.Holding.{IsHeld};
+ghost use Rattle.spindle_rounds.specs.Holding.{IsHeld, IsPartyOf};
 ghost use Rattle.spindle_rounds.specs.declared.round_table.view.Standing.TheVariants.{Away};
 ghost use Rattle.spindle_rounds.specs.declared.barrier.steps.JoinStep.TheVariants.{Joined};
 ghost use Rattle.spindle_rounds.specs.Seating.{IsSeatAt, IsSameSeat};
@@ -11,14 +11,15 @@ use super::word::{FIELD, MEMBER, PARTY, SENSE};
 use super::{Barrier, BarrierInit, JoinRefused, MASK};
 use crate::round_table::plays::{Joins, Loads};
 use crate::round_table::slots::Slots;
-use crate::round_table::{BARRIER, Seat, SharedWords};
+use crate::round_table::{BARRIER, Seat};
 
-fn join<D: Slots>(words: &SharedWords<D>, seat: &mut Seat<D>) -> JoinStep
-    requires seated { (seat.old.table_id ≡ words.now.table_id) × (0 < words.now.table_id.words) }
+fn join<D: Slots>(init: &BarrierInit<D>, seat: &mut Seat<D>) -> JoinStep
+    requires seated { IsSeatAt init.now seat.old }
     requires away { seat.old.me.0.standing ≡ Away }
     ensures seat { IsSameSeat seat.old seat.new }
     ensures step { JoinedBy result seat.old.me seat.new.me }
 {
+    let words = &init.table.shared;
     let word = words.load::<Loads>(seat, BARRIER);
     let most = word / MEMBER % FIELD;
     if most == MASK as u64 {
@@ -47,11 +48,11 @@ impl<D: Slots> BarrierInit<D> {
         requires seated { IsSeatAt self.now seat }
         requires away { seat.me.0.standing ≡ Away }
         ensures joined { IfOk result (λ b. JoinedBy (Joined b.sense) seat.me b.seat.me
-            × (b.seat.id ≡ seat.id) × (b.thread_id ≡ thread_id)) }
+            × IsPartyOf seat thread_id b) }
         ensures held { IfOk result (λ b. IsHeld b × (b.init.now ≡ self.now)) }
         ensures refused { IfErr result (λ e. JoinRefusedBy seat e) }
     {
-        match join(&self.table.shared, &mut seat) {
+        match join(self, &mut seat) {
             JoinStep::Joined(sense) => Ok(Barrier {
                 init: self,
                 seat,

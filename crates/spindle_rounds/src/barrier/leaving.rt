@@ -3,14 +3,14 @@ ghost use Rattle.std.specs.Prelude.{◌≡◌, ◌<◌, ◌⊎◌, true, false};
 ghost use Rattle.spindle_rounds.specs.RoundAnswers.{LeftBy, ExitedBy};
 ghost use Rattle.spindle_rounds.specs.RoundConditions.{MayLeave, MayExit, HasSense};
 ghost use Rattle.spindle_rounds.specs.Holding.{IsHeld, LeaveTold, ExitTold};
-ghost use Rattle.spindle_rounds.specs.Seating.{IsSameSeat};
+ghost use Rattle.spindle_rounds.specs.Seating.{IsSeatAt, IsSameSeat};
 
-use super::Barrier;
 use super::steps::{ExitStep, LeaveStep};
 use super::word::{FIELD, MEMBER, PARTY, SENSE};
+use super::{Barrier, BarrierInit};
 use crate::round_table::plays::{Exits, Leaves, Loads, Looks};
 use crate::round_table::slots::Slots;
-use crate::round_table::{BARRIER, Seat, SharedWords};
+use crate::round_table::{BARRIER, Seat};
 
 /// What came of one attempt to leave.
 #[derive(Drop)]
@@ -36,13 +36,14 @@ pub enum Exit<'a, D: Slots> {
     Again(Barrier<'a, D>),
 }
 
-fn leave_once<D: Slots>(words: &SharedWords<D>, seat: &mut Seat<D>, sense: u64) -> LeaveStep
-    requires seated { (seat.old.table_id ≡ words.now.table_id) × (0 < words.now.table_id.words) }
+fn leave_once<D: Slots>(init: &BarrierInit<D>, seat: &mut Seat<D>, sense: u64) -> LeaveStep
+    requires seated { IsSeatAt init.now seat.old }
     requires waiting { MayLeave seat.old.me.0 }
     requires sense { HasSense seat.old.me.0.standing sense }
     ensures seat { IsSameSeat seat.old seat.new }
     ensures step { LeftBy sense result seat.old.me seat.new.me }
 {
+    let words = &init.table.shared;
     let word = words.load::<Looks>(seat, BARRIER);
     if word / SENSE == sense {
         return LeaveStep::Ended;
@@ -58,12 +59,13 @@ fn leave_once<D: Slots>(words: &SharedWords<D>, seat: &mut Seat<D>, sense: u64) 
     }
 }
 
-fn exit_once<D: Slots>(words: &SharedWords<D>, seat: &mut Seat<D>) -> ExitStep
-    requires seated { (seat.old.table_id ≡ words.now.table_id) × (0 < words.now.table_id.words) }
+fn exit_once<D: Slots>(init: &BarrierInit<D>, seat: &mut Seat<D>) -> ExitStep
+    requires seated { IsSeatAt init.now seat.old }
     requires free { MayExit seat.old.me.0 }
     ensures seat { IsSameSeat seat.old seat.new }
     ensures step { ExitedBy result seat.old.me seat.new.me }
 {
+    let words = &init.table.shared;
     let word = words.load::<Loads>(seat, BARRIER);
     let most = word / MEMBER % FIELD;
     let less = if most == 1 {
@@ -88,7 +90,7 @@ impl<'a, D: Slots> Barrier<'a, D> {
         ensures { LeaveTold self.entry result }
     {
         let sense = self.sense;
-        match leave_once(&self.init.table.shared, &mut self.seat, sense) {
+        match leave_once(self.init, &mut self.seat, sense) {
             LeaveStep::Left => Leave::Left(self.seat),
             LeaveStep::Ended => Leave::Ended(self),
             LeaveStep::Closing => Leave::Closing(self),
@@ -103,7 +105,7 @@ impl<'a, D: Slots> Barrier<'a, D> {
         requires free { MayExit self.seat.me.0 }
         ensures { ExitTold self.entry result }
     {
-        match exit_once(&self.init.table.shared, &mut self.seat) {
+        match exit_once(self.init, &mut self.seat) {
             ExitStep::Gone => Exit::Gone(self.seat),
             ExitStep::Closer => {
                 self.sense = 1 - self.sense;

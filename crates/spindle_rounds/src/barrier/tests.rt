@@ -1,6 +1,6 @@
 //! A barrier without a round: scripts by one thread, and threads that come and go.
 ghost use Rattle.std.specs.Prelude.{◌≡◌, IfSome};
-ghost use Rattle.spindle_rounds.specs.Holding.{IsHeld, IsSeatOf};
+ghost use Rattle.spindle_rounds.specs.Holding.{IsHeld};
 ghost use Rattle.spindle_rounds.specs.RoundConditions.{MayExit};
 ghost use Rattle.spindle_rounds.specs.Working.{IsIdle};
 ghost use Rattle.spindle_rounds.specs.declared.round_table.view.Standing.TheVariants.{Away};
@@ -11,6 +11,7 @@ use crate::barrier::leaving::{Exit, Leave};
 use crate::barrier::steps::Arrival;
 use crate::barrier::waiting::ExitStatus;
 use crate::barrier::{Barrier, BarrierInit, JoinRefused};
+use crate::checks::is;
 use crate::round_table::slots::Bare;
 use crate::round_table::{BARRIER, Seat};
 use spindle_parts::fault::Fault;
@@ -33,30 +34,30 @@ fn the_last_to_arrive_ends_the_round(rt: HostRuntime) -> Result<(), Fail> {
     let Ok(mut zero) = init.try_join(seat, 0) else {
         return Err(Fail::new("the first join was refused"));
     };
-    assert_eq!(rt; word(&init), 0x0001_0001);
+    is(&rt, word(&init), 0x0001_0001);
     let Ok(mut one) = init.try_join(other, 1) else {
         return Err(Fail::new("the second join was refused"));
     };
-    assert_eq!(rt; word(&init), 0x0002_0002);
+    is(&rt, word(&init), 0x0002_0002);
     let Arrival::Arrived = zero.arrive() else {
         return Err(Fail::new("the first to arrive closes"));
     };
-    assert_eq!(rt; word(&init), 0x0002_0001);
-    assert_eq!(rt; init.current_num_threads(), 2);
+    is(&rt, word(&init), 0x0002_0001);
+    is(&rt, init.current_num_threads(), 2);
     let Arrival::Closer = one.arrive() else {
         return Err(Fail::new("the last to arrive doesn't close"));
     };
-    assert_eq!(rt; word(&init), 0x0002_0000);
+    is(&rt, word(&init), 0x0002_0000);
     let Leave::Closing(_zero) = zero.try_leave() else {
         return Err(Fail::new("a leave while the round closes"));
     };
     one.clear();
-    assert_eq!(rt; word(&init), 0x0002_0000);
+    is(&rt, word(&init), 0x0002_0000);
     let AfterEnd::Next(_one) = one.end() else {
         return Err(Fail::new("the closer isn't in the next round"));
     };
-    assert_eq!(rt; word(&init), 0x8002_0002);
-    assert_eq!(rt; init.current_num_threads(), 2);
+    is(&rt, word(&init), 0x8002_0002);
+    is(&rt, init.current_num_threads(), 2);
     Ok(())
 }
 
@@ -70,25 +71,25 @@ fn a_leave_before_the_last_arrival_stands(rt: HostRuntime) -> Result<(), Fail> {
     let Ok(mut one) = init.try_join(other, 1) else {
         return Err(Fail::new("the second join was refused"));
     };
-    assert_eq!(rt; word(&init), 0x0002_0002);
+    is(&rt, word(&init), 0x0002_0002);
     let Arrival::Arrived = zero.arrive() else {
         return Err(Fail::new("the first to arrive closes"));
     };
-    assert_eq!(rt; word(&init), 0x0002_0001);
+    is(&rt, word(&init), 0x0002_0001);
     let Leave::Left(_seat) = zero.try_leave() else {
         return Err(Fail::new("the leave failed"));
     };
-    assert_eq!(rt; word(&init), 0x0001_0001);
+    is(&rt, word(&init), 0x0001_0001);
     let Arrival::Closer = one.arrive() else {
         return Err(Fail::new("the last to arrive doesn't close"));
     };
-    assert_eq!(rt; word(&init), 0x0001_0000);
+    is(&rt, word(&init), 0x0001_0000);
     one.clear();
     let AfterEnd::Next(_one) = one.end() else {
         return Err(Fail::new("the closer isn't in the next round"));
     };
-    assert_eq!(rt; word(&init), 0x8001_0001);
-    assert_eq!(rt; init.current_num_threads(), 1);
+    is(&rt, word(&init), 0x8001_0001);
+    is(&rt, init.current_num_threads(), 1);
     Ok(())
 }
 
@@ -99,16 +100,16 @@ fn a_sole_party_that_exits_ends_the_round(rt: HostRuntime) -> Result<(), Fail> {
     let Ok(zero) = init.try_join(seat, 0) else {
         return Err(Fail::new("the first join was refused"));
     };
-    assert_eq!(rt; word(&init), 0x0001_0001);
+    is(&rt, word(&init), 0x0001_0001);
     let Exit::Gone(_seat) = zero.try_exit() else {
         return Err(Fail::new("the exit failed"));
     };
-    assert_eq!(rt; word(&init), 0x8000_0000);
-    assert_eq!(rt; init.current_num_threads(), 0);
+    is(&rt, word(&init), 0x8000_0000);
+    is(&rt, init.current_num_threads(), 0);
     let Ok(_one) = init.try_join(other, 1) else {
         return Err(Fail::new("the second join was refused"));
     };
-    assert_eq!(rt; word(&init), 0x8001_0001);
+    is(&rt, word(&init), 0x8001_0001);
     Ok(())
 }
 
@@ -128,12 +129,12 @@ fn one_that_exits_after_all_have_arrived_closes(rt: HostRuntime) -> Result<(), F
     let Exit::Closer(mut one) = one.try_exit() else {
         return Err(Fail::new("whom the others wait for doesn't close"));
     };
-    assert_eq!(rt; word(&init), 0x0001_0000);
+    is(&rt, word(&init), 0x0001_0000);
     one.clear();
     let AfterEnd::Gone(_seat) = one.end() else {
         return Err(Fail::new("one that exited is in the next round"));
     };
-    assert_eq!(rt; word(&init), 0x8001_0001);
+    is(&rt, word(&init), 0x8001_0001);
     Ok(())
 }
 
@@ -148,19 +149,19 @@ fn a_barrier_holds_32767_parties(rt: HostRuntime) -> Result<(), Fail> {
     let Ok(last) = init.try_join(seat, 0) else {
         return Err(Fail::new("the last join was refused"));
     };
-    assert_eq!(rt; init.current_num_threads(), 32767);
+    is(&rt, init.current_num_threads(), 32767);
     let Err(JoinRefused::Full(spare)) = init.try_join(spare, 0) else {
         return Err(Fail::new("a party too many has joined"));
     };
     let Err(full) = init.barrier(&rt, spare, 0) else {
         return Err(Fail::new("a party too many was let in"));
     };
-    assert_eq!(rt; init.current_num_threads(), 32767);
+    is(&rt, init.current_num_threads(), 32767);
     let Exit::Gone(_seat) = last.try_exit() else {
         return Err(Fail::new("the exit failed"));
     };
     assert!(rt; init.try_join(full.seat, 0).is_ok());
-    assert_eq!(rt; init.current_num_threads(), 32767);
+    is(&rt, init.current_num_threads(), 32767);
     Ok(())
 }
 
@@ -240,7 +241,7 @@ fn meet<R: Threads + Wait + Sync>(rt: &R, comers: Vec<Comer>) {
 fn four_threads_come_and_go(rt: HostRuntime) -> Result<(), Fail> {
     let (init, seat) = BarrierInit::new(rt.alloc())?;
     meet(&rt, comers(rt.alloc(), &init, seat, 4)?);
-    assert_eq!(rt; init.current_num_threads(), 0);
+    is(&rt, init.current_num_threads(), 0);
     Ok(())
 }
 
@@ -248,7 +249,7 @@ fn four_threads_come_and_go(rt: HostRuntime) -> Result<(), Fail> {
 fn more_threads_than_cores_come_and_go(rt: HostRuntime) -> Result<(), Fail> {
     let (init, seat) = BarrierInit::new(rt.alloc())?;
     meet(&rt, comers(rt.alloc(), &init, seat, 9)?);
-    assert_eq!(rt; init.current_num_threads(), 0);
+    is(&rt, init.current_num_threads(), 0);
     Ok(())
 }
 
@@ -256,7 +257,7 @@ fn more_threads_than_cores_come_and_go(rt: HostRuntime) -> Result<(), Fail> {
 #[test]
 fn a_barrier_without_memory_is_refused(rt: HostRuntime) {
     match BarrierInit::new(rt.alloc()) {
-        Ok((init, _seat)) => assert_eq!(rt; init.current_num_threads(), 0),
+        Ok((init, _seat)) => is(&rt, init.current_num_threads(), 0),
         Err(fault) => assert!(rt; matches!(fault, Fault::Memory)),
     }
 }

@@ -1,7 +1,7 @@
 //! The forms of the barrier's calls that wait: loops, which spin between the first looks and then yield.
 ghost use Rattle.std.specs.Prelude.{◌≡◌, ◌⊎◌, ℕ, ◌<◌, IfOk, IfErr, true, false, Option, Bool};
 ghost use Rattle.spindle_rounds.specs.RoundConditions.{IsFreeInside, IsDone, IsWaiting, MayExit, MayLeave};
-ghost use Rattle.spindle_rounds.specs.Holding.{IsHeld, Keeps, IsSeatOf, AwaitTold, StatusTold, TurnsLast, WaitTold, TurnsTold};
+ghost use Rattle.spindle_rounds.specs.Holding.{IsHeld, IsPartyOf, Keeps, AwaitTold, StatusTold, TurnsLast, WaitTold, TurnsTold};
 ghost use Rattle.spindle_rounds.specs.Passing.{Stayed, InNext, WentOut, JoinedAtLast, FullAtLast, TurnsOn};
 ghost use Rattle.spindle_rounds.specs.declared.round_table.view.Standing.TheVariants.{Away, Closing};
 ghost use Rattle.spindle_rounds.specs.Seating.{IsSeatAt, IsSameSeat};
@@ -91,7 +91,7 @@ impl<D: Slots> BarrierInit<D> {
         requires seated { IsSeatAt self.now seat }
         requires away { seat.me.0.standing ≡ Away }
         ensures joined { IfOk result (λ b. JoinedAtLast b.sense seat.me b.seat.me
-            × (b.seat.id ≡ seat.id) × (b.thread_id ≡ thread_id)) }
+            × IsPartyOf seat thread_id b) }
         ensures held { IfOk result (λ b. IsHeld b × (b.init.now ≡ self.now)) }
         ensures full { IfErr result (λ e. IsSameSeat seat e.seat
             × FullAtLast seat.me e.seat.me) }
@@ -139,7 +139,7 @@ impl<'a, D: Slots> Barrier<'a, D> {
     pub fn exit<R: Wait>(self, rt: &R) -> Seat<D>
         requires held { IsHeld self }
         requires free { MayExit self.seat.me.0 }
-        ensures seat { IsSeatOf self.entry result }
+        ensures seat { IsSameSeat self.entry.seat result }
         ensures out { WentOut self.entry.seat.me result.me }
     {
         let mut pauses = Pauses::new();
@@ -256,7 +256,7 @@ impl<'a, D: Slots> Barrier<'a, D> {
         ensures next { InNext self.old.seat.me self.new.seat.me }
     {
         self.clear();
-        end_round(&self.init.table.shared, &mut self.seat);
+        end_round(self.init, &mut self.seat);
     }
 
     // The closer's two stores, by one that has exited.
@@ -264,11 +264,11 @@ impl<'a, D: Slots> Barrier<'a, D> {
         requires held { IsHeld self }
         requires closer { (q : ℕ) × (was : Bool) × (read : Option ℕ)
             × (self.seat.me.0.standing ≡ Closing q false was read) }
-        ensures seat { IsSeatOf self.entry result }
+        ensures seat { IsSameSeat self.entry.seat result }
         ensures out { WentOut self.entry.seat.me result.me }
     {
         self.clear();
-        end_round(&self.init.table.shared, &mut self.seat);
+        end_round(self.init, &mut self.seat);
         self.seat
     }
 }

@@ -1,6 +1,7 @@
 //! Rounds played by one thread, with the words of the table beside them.
 
 use self::play::{lead, lead_try, own, own_from_to, rest, steal, steal_and_stop, word};
+use crate::checks::is;
 use crate::round::Round;
 use crate::round::stopping::PutBack;
 use std::test::Fail;
@@ -12,6 +13,7 @@ mod leading;
 mod lines;
 mod play;
 mod scripts;
+mod slot_threads;
 mod slots;
 mod threads;
 mod turns;
@@ -24,18 +26,18 @@ fn a_round_of_ten_jobs_on_four_threads(rt: HostRuntime) -> Result<(), Fail> {
     };
     let seat = leader.seat();
     lead(&round, seat, 10);
-    assert_eq!(rt; word(&round, 40), 0x0000000200000000);
-    assert_eq!(rt; word(&round, 48), 0x0000000400000002);
-    assert_eq!(rt; word(&round, 56), 0x0000000600000004);
-    assert_eq!(rt; word(&round, 64), 0x0000000800000006);
-    assert_eq!(rt; word(&round, 32), 2);
+    is(&rt, word(&round, 40), 0x0000000200000000);
+    is(&rt, word(&round, 48), 0x0000000400000002);
+    is(&rt, word(&round, 56), 0x0000000600000004);
+    is(&rt, word(&round, 64), 0x0000000800000006);
+    is(&rt, word(&round, 32), 2);
     let alloc = rt.alloc();
-    assert_eq!(rt; own(alloc, &round, seat, 1), Some(2));
-    assert_eq!(rt; own(alloc, &round, seat, 1), Some(3));
-    assert_eq!(rt; own(alloc, &round, seat, 1), None);
-    assert_eq!(rt; rest(alloc, &round, seat), Some(8));
-    assert_eq!(rt; rest(alloc, &round, seat), Some(9));
-    assert_eq!(rt; rest(alloc, &round, seat), None);
+    is(&rt, own(alloc, &round, seat, 1), Some(2));
+    is(&rt, own(alloc, &round, seat, 1), Some(3));
+    is(&rt, own(alloc, &round, seat, 1), None);
+    is(&rt, rest(alloc, &round, seat), Some(8));
+    is(&rt, rest(alloc, &round, seat), Some(9));
+    is(&rt, rest(alloc, &round, seat), None);
     Ok(())
 }
 
@@ -48,13 +50,13 @@ fn fewer_jobs_than_threads_are_all_in_the_remainder(rt: HostRuntime) -> Result<(
     let seat = leader.seat();
     lead(&round, seat, 3);
     let alloc = rt.alloc();
-    assert_eq!(rt; own(alloc, &round, seat, 0), None);
-    assert_eq!(rt; own(alloc, &round, seat, 3), None);
-    assert_eq!(rt; steal(alloc, &round, seat), None);
-    assert_eq!(rt; rest(alloc, &round, seat), Some(0));
-    assert_eq!(rt; rest(alloc, &round, seat), Some(1));
-    assert_eq!(rt; rest(alloc, &round, seat), Some(2));
-    assert_eq!(rt; rest(alloc, &round, seat), None);
+    is(&rt, own(alloc, &round, seat, 0), None);
+    is(&rt, own(alloc, &round, seat, 3), None);
+    is(&rt, steal(alloc, &round, seat), None);
+    is(&rt, rest(alloc, &round, seat), Some(0));
+    is(&rt, rest(alloc, &round, seat), Some(1));
+    is(&rt, rest(alloc, &round, seat), Some(2));
+    is(&rt, rest(alloc, &round, seat), None);
     Ok(())
 }
 
@@ -66,9 +68,9 @@ fn a_thief_takes_the_last_half(rt: HostRuntime) -> Result<(), Fail> {
     };
     let seat = leader.seat();
     lead(&round, seat, 5);
-    assert_eq!(rt; word(&round, 40), 0x0000000500000000);
-    assert_eq!(rt; steal(rt.alloc(), &round, seat), Some((3, 1)));
-    assert_eq!(rt; word(&round, 40), 0x0000000300000000);
+    is(&rt, word(&round, 40), 0x0000000500000000);
+    is(&rt, steal(rt.alloc(), &round, seat), Some((3, 1)));
+    is(&rt, word(&round, 40), 0x0000000300000000);
     Ok(())
 }
 
@@ -83,10 +85,10 @@ fn a_thief_takes_the_only_number(rt: HostRuntime) -> Result<(), Fail> {
     let alloc = rt.alloc();
     assert!(rt; own_from_to(alloc, &round, seat, 0, 0, 7));
     assert!(rt; own_from_to(alloc, &round, seat, 1, 8, 16));
-    assert_eq!(rt; word(&round, 40), 0x0000000800000007);
-    assert_eq!(rt; steal(alloc, &round, seat), Some((7, 0)));
-    assert_eq!(rt; word(&round, 40), 0x0000000700000007);
-    assert_eq!(rt; steal(alloc, &round, seat), None);
+    is(&rt, word(&round, 40), 0x0000000800000007);
+    is(&rt, steal(alloc, &round, seat), Some((7, 0)));
+    is(&rt, word(&round, 40), 0x0000000700000007);
+    is(&rt, steal(alloc, &round, seat), None);
     Ok(())
 }
 
@@ -99,11 +101,11 @@ fn a_thief_takes_from_the_longest_range(rt: HostRuntime) -> Result<(), Fail> {
     let seat = leader.seat();
     lead(&round, seat, 10);
     let alloc = rt.alloc();
-    assert_eq!(rt; own(alloc, &round, seat, 0), Some(0));
-    assert_eq!(rt; own(alloc, &round, seat, 1), Some(2));
-    assert_eq!(rt; word(&round, 56), 0x0000000600000004);
-    assert_eq!(rt; steal(alloc, &round, seat), Some((5, 0)));
-    assert_eq!(rt; word(&round, 56), 0x0000000500000004);
+    is(&rt, own(alloc, &round, seat, 0), Some(0));
+    is(&rt, own(alloc, &round, seat, 1), Some(2));
+    is(&rt, word(&round, 56), 0x0000000600000004);
+    is(&rt, steal(alloc, &round, seat), Some((5, 0)));
+    is(&rt, word(&round, 56), 0x0000000500000004);
     Ok(())
 }
 
@@ -115,17 +117,18 @@ fn a_share_goes_back_into_an_empty_range(rt: HostRuntime) -> Result<(), Fail> {
     };
     let seat = leader.seat();
     lead_try(&round, seat, 8);
-    assert_eq!(rt; word(&round, 8), 8 + 4294967296);
+    is(&rt, word(&round, 8), 8 + 4294967296);
     let alloc = rt.alloc();
     assert!(rt; own_from_to(alloc, &round, seat, 0, 0, 4));
-    assert_eq!(rt;
+    is(
+        &rt,
         steal_and_stop(alloc, &round, seat),
-        Some((PutBack::Occupied, PutBack::Put, true))
+        Some((PutBack::Occupied, PutBack::Put, true)),
     );
-    assert_eq!(rt; word(&round, 24), 1);
-    assert_eq!(rt; round.left(seat, 0), 0x0000000800000007);
-    assert_eq!(rt; round.left(seat, 1), 0x0000000600000004);
-    assert_eq!(rt; round.left(seat, 2), 0);
+    is(&rt, word(&round, 24), 1);
+    is(&rt, round.left(seat, 0), 0x0000000800000007);
+    is(&rt, round.left(seat, 1), 0x0000000600000004);
+    is(&rt, round.left(seat, 2), 0);
     Ok(())
 }
 
@@ -134,7 +137,7 @@ fn a_share_goes_back_into_an_empty_range(rt: HostRuntime) -> Result<(), Fail> {
 fn a_table_without_memory_is_refused(rt: HostRuntime) {
     for threads in [1, 4, 32767] {
         match Round::new(rt.alloc(), threads) {
-            Ok((round, _seat)) => assert_eq!(rt; round.init().threads, threads),
+            Ok((round, _seat)) => is(&rt, round.init().threads, threads),
             Err(_fault) => {}
         }
     }

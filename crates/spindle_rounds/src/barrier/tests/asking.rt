@@ -3,6 +3,7 @@
 use super::word;
 use crate::barrier::BarrierInit;
 use crate::barrier::waiting::ExitStatus;
+use crate::checks::is;
 use std::test::Fail;
 
 #[test]
@@ -18,7 +19,7 @@ fn a_party_that_is_not_the_last_leaves_at_an_answer_of_1(rt: HostRuntime) -> Res
     let ExitStatus::Exit(_seat) = zero.wait_and_clear_while(&rt, || 1) else {
         return Err(Fail::new("it didn't leave"));
     };
-    assert_eq!(rt; word(&init), 0x0001_0001);
+    is(&rt, word(&init), 0x0001_0001);
     Ok(())
 }
 
@@ -40,8 +41,8 @@ fn it_leaves_after_its_second_answer(rt: HostRuntime) -> Result<(), Fail> {
     let ExitStatus::Exit(_seat) = status else {
         return Err(Fail::new("it didn't leave"));
     };
-    assert_eq!(rt; asked, 2);
-    assert_eq!(rt; word(&init), 0x0001_0001);
+    is(&rt, asked, 2);
+    is(&rt, word(&init), 0x0001_0001);
     Ok(())
 }
 
@@ -59,7 +60,7 @@ fn the_closer_remains_and_is_not_asked(rt: HostRuntime) -> Result<(), Fail> {
     let ExitStatus::Remain(_sole) = status else {
         return Err(Fail::new("the closer left"));
     };
-    assert_eq!(rt; asked, 0);
-    assert_eq!(rt; word(&init), 0x8001_0001);
+    is(&rt, asked, 0);
+    is(&rt, word(&init), 0x8001_0001);
     Ok(())
 }

@@ -5,6 +5,7 @@ use super::lines::{
 };
 use super::scripts::{begin, finish, is_done, learn, publish_two};
 use crate::barrier::steps::Arrival;
+use crate::checks::is;
 use crate::round::Round;
 use spindle_parts::fault::Fault;
 use spindle_parts::steps::Step::{
@@ -48,12 +49,17 @@ fn come_and_go(rt: &impl Abort, alloc: Global, visits: bool) -> Result<(), Fault
         guest,
         (Rest(1), 0x0002_0002, Some(0)),
     );
-    assert_eq!(rt;
+    is(
+        rt,
         beside.machine.step(Leaves(1)),
-        Reply::Refused(Why::NotWaiting)
+        Reply::Refused(Why::NotWaiting),
     );
-    assert_eq!(rt; beside.machine.step(Exits(1)), Reply::Refused(Why::Holding));
-    assert_eq!(rt; finish(alloc, &round, &mut one, claimed), 0);
+    is(
+        rt,
+        beside.machine.step(Exits(1)),
+        Reply::Refused(Why::Holding),
+    );
+    is(rt, finish(alloc, &round, &mut one, claimed), 0);
     let guest = line(
         rt,
         &mut beside,
@@ -79,7 +85,7 @@ fn come_and_go(rt: &impl Abort, alloc: Global, visits: bool) -> Result<(), Fault
         guest,
         (Leaves(1), 0x0001_0001, None),
     );
-    assert_eq!(rt; finish(alloc, &round, &mut zero, claimed), 1);
+    is(rt, finish(alloc, &round, &mut zero, claimed), 1);
     let guest = line(
         rt,
         &mut beside,
@@ -134,7 +140,7 @@ fn close_by_leaving(rt: &impl Abort, alloc: Global, visits: bool) -> Result<(), 
         guest,
         (Rest(0), 0x0002_0002, Some(0)),
     );
-    assert_eq!(rt; finish(alloc, &round, &mut zero, claimed), 0);
+    is(rt, finish(alloc, &round, &mut zero, claimed), 0);
     let guest = line(
         rt,
         &mut beside,
@@ -152,7 +158,7 @@ fn close_by_leaving(rt: &impl Abort, alloc: Global, visits: bool) -> Result<(), 
         guest,
         (Rest(0), 0x0002_0002, Some(1)),
     );
-    assert_eq!(rt; finish(alloc, &round, &mut zero, claimed), 1);
+    is(rt, finish(alloc, &round, &mut zero, claimed), 1);
     let guest = line(
         rt,
         &mut beside,
@@ -161,7 +167,7 @@ fn close_by_leaving(rt: &impl Abort, alloc: Global, visits: bool) -> Result<(), 
         (Finish(0), 0x0002_0002, None),
     );
     assert!(rt; is_done(&round, &mut zero));
-    assert_eq!(rt; zero.arrive(), Arrival::Arrived);
+    is(rt, zero.arrive(), Arrival::Arrived);
     let _guest = line(
         rt,
         &mut beside,

@@ -12,6 +12,7 @@ ghost use Rattle.spindle_rounds.specs.Working.{IsIdle, OnTask};
 
 use super::counts::Counts;
 use crate::barrier::Barrier;
+use crate::checks::is;
 use crate::round::Round;
 use crate::round::claim::Claimed;
 use crate::round::party::{Party, Work};
@@ -24,7 +25,7 @@ use std::test::Fail;
 use std::thread::Threads;
 
 /// Pieces that are numbers, each answered by twice the number.
-struct Twice;
+pub struct Twice;
 
 impl Answers for Twice {
     type Piece = u32;
@@ -63,7 +64,7 @@ impl<'a> Work<Pieces<Twice>> for Doubling<'a> {
 }
 
 /// Works in the round until nothing is left for the thread.
-fn work<R: Threads + Wait + Sync>(
+pub fn work<R: Threads + Wait + Sync>(
     rt: &R,
     party: Party<'_, Pieces<Twice>>,
     counts: &Counts,
@@ -162,7 +163,7 @@ fn play<R: Threads + Wait + Sync>(
 }
 
 /// The leader of a fresh table joins, and takes its slots.
-fn join<'a, R: Wait>(
+pub fn join<'a, R: Wait>(
     rt: &R,
     round: &'a Round<Pieces<Twice>>,
     seat: Seat<Pieces<Twice>>,
@@ -181,7 +182,7 @@ fn join<'a, R: Wait>(
 }
 
 /// A thousand rounds over eleven slots, of 2 up to 11 pieces.
-fn play_all<R: Threads + Wait + Sync>(
+pub fn play_all<R: Threads + Wait + Sync>(
     rt: &R,
     round: &Round<Pieces<Twice>>,
     counts: &Counts,
@@ -205,7 +206,7 @@ fn one_thread_gets_each_answer_back(rt: HostRuntime) -> Result<(), Fail> {
         return Err(Fail::new("the leader was refused"));
     };
     play_all(&rt, &round, &counts, &mut leader);
-    assert_eq!(rt; counts.rounds(), (1000, 0));
+    is(&rt, counts.rounds(), (1000, 0));
     Ok(())
 }
 
@@ -214,7 +215,7 @@ fn one_thread_gets_each_answer_back(rt: HostRuntime) -> Result<(), Fail> {
 fn refused_slots_are_no_table(rt: HostRuntime) -> Result<(), Fail> {
     for slots in [1, 11, 1000] {
         match Round::<Pieces<Twice>>::with_slots(rt.alloc(), 3, slots) {
-            Ok((round, _seat)) => assert_eq!(rt; round.init().threads, 3),
+            Ok((round, _seat)) => is(&rt, round.init().threads, 3),
             Err(Fault::Memory) => {}
             Err(_) => return Err(Fail::new("refused for something else")),
         }

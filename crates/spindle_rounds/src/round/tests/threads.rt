@@ -4,6 +4,7 @@ ghost use Rattle.spindle_rounds.specs.Parties.{IsOut};
 
 use super::counts::Counts;
 use super::turns::Player;
+use crate::checks::is;
 use crate::round::Round;
 use crate::round_table::Seat;
 use crate::round_table::slots::Bare;
@@ -85,8 +86,8 @@ fn four_threads_count_every_job_once(rt: HostRuntime) -> Result<(), Fail> {
     let counts = Counts::new(rt.alloc())?;
     let (round, seat) = Round::new(rt.alloc(), 4)?;
     meet(&rt, parties(rt.alloc(), &round, &counts, seat)?);
-    assert_eq!(rt; counts.rounds(), (2000, 0));
-    assert_eq!(rt; round.init().current_num_threads(), 0);
+    is(&rt, counts.rounds(), (2000, 0));
+    is(&rt, round.init().current_num_threads(), 0);
     Ok(())
 }
 
@@ -95,7 +96,7 @@ fn more_threads_than_cores_count_every_job_once(rt: HostRuntime) -> Result<(), F
     let counts = Counts::new(rt.alloc())?;
     let (round, seat) = Round::new(rt.alloc(), 9)?;
     meet(&rt, parties(rt.alloc(), &round, &counts, seat)?);
-    assert_eq!(rt; counts.rounds(), (2000, 0));
-    assert_eq!(rt; round.init().current_num_threads(), 0);
+    is(&rt, counts.rounds(), (2000, 0));
+    is(&rt, round.init().current_num_threads(), 0);
     Ok(())
 }

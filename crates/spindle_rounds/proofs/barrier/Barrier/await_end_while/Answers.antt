@@ -1,5 +1,5 @@
 -- The turn that ends the wait, after others that didn't.
-use Rattle.std.proofs.Common.{of_calls, ℕ, [], ◌∷◌, refl, sym, subst}
+use Rattle.std.proofs.Common.{of_calls, ℕ, [], ◌∷◌, refl, subst}
 use Rattle.spindle_rounds.specs.Holding.{TurnsLast}
 use Rattle.spindle_rounds.specs.Passing.{TurnsOn}
 use Rattle.spindle_rounds.proofs.BarrierClients.{stayed_first, stayed_on, keeps_first, keeps_on, await_on, may_wait, same_sense}

@@ -1,5 +1,5 @@
 -- A fresh table meets its rule.
-use Rattle.std.proofs.Common.{ap, ◌≡◌, ◌∙◌, get_or, ℕ, zero, suc, ◌+◌, ◌*◌, List, [], replicate, refl}
+use Rattle.std.proofs.Common.{ap, ◌≡◌, ◌∙◌, get_or, ℕ, zero, suc, List, [], replicate, refl}
 use Rattle.spindle_rounds.proofs.RoundOpening.{opens}
 use Rattle.spindle_rounds.proofs.barrier.BarrierInit.open.Goals as goal
 use Rattle.spindle_rounds.specs.Words.{words_of}

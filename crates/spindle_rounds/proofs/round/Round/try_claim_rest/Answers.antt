@@ -16,8 +16,12 @@ pub load-jobs-requires : goal.load-jobs-requires
 load-jobs-requires g c = (search rules, omega arith, kept (recalls g.D.Slots.discipline g.met.D.Slots.lawful _ _ _ _))
 
 pub compare_exchange-found-requires : goal.compare_exchange-found-requires
-compare_exchange-found-requires g c = let r = recalled_view _ _ _ _ _ c.requires.free c.load-rest.ensures.2.1 c.load-jobs.ensures.2.1 in
-    (search rules, omega arith, kept (remainder_claims g.D.Slots.discipline g.met.D.Slots.lawful _ _ _ _ _ (subst MayClaim (sym r.0) c.requires.free) (omega arith)))
+compare_exchange-found-requires g c = let r = recalled_view _ _ _ _ _ c.requires.free c.load-rest.ensures.2.1 c.load-jobs.ensures.2.1 in (
+  search rules,
+  omega arith,
+  kept (remainder_claims g.D.Slots.discipline g.met.D.Slots.lawful _ _ _ _ _ (subst MayClaim (sym r.0) c.requires.free)
+      (omega arith)),
+)
 
 pub overflow_sub-jobs : goal.overflow_sub-jobs
 overflow_sub-jobs g c = let m = c.requires.free in let r = recalled_view _ _ _ _ _ c.requires.free c.load-rest.ensures.2.1 c.load-jobs.ensures.2.1 in

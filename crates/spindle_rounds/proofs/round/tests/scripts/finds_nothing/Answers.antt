@@ -27,12 +27,14 @@ returns-in-Nothing-try_claim_rest-clause-goes_on c = let u = c.try_steal.new.sea
 pub returns-in-Job-try_claim_rest-clause-goes_on : goal.returns-in-Job-try_claim_rest-clause-goes_on
 returns-in-Job-try_claim_rest-clause-goes_on c = let u = c.try_steal.new.seat.me in let w = c.try_claim_rest.new.seat.me in
     let a = stolen bare c.args.seat.now.me u c.requires.free _ steal.Nothing c.in-Nothing.ensures.step in
-    onward_then c.args.seat.now.me.0 u.0 w.0 a.0 (remainder_claimed bare u w a.3 (number_or u.0.known.number) (claim.Job _) c.in-Job-try_claim_rest.ensures.step).0
+    onward_then c.args.seat.now.me.0 u.0 w.0 a.0 (remainder_claimed bare u w a.3 (number_or u.0.known.number)
+    (claim.Job _) c.in-Job-try_claim_rest.ensures.step).0
 
 pub returns-in-Again-try_claim_rest-clause-goes_on : goal.returns-in-Again-try_claim_rest-clause-goes_on
 returns-in-Again-try_claim_rest-clause-goes_on c = let u = c.try_steal.new.seat.me in let w = c.try_claim_rest.new.seat.me in
     let a = stolen bare c.args.seat.now.me u c.requires.free _ steal.Nothing c.in-Nothing.ensures.step in
-    onward_then c.args.seat.now.me.0 u.0 w.0 a.0 (remainder_claimed bare u w a.3 (number_or u.0.known.number) claim.Again c.in-Again-try_claim_rest.ensures.step).0
+    onward_then c.args.seat.now.me.0 u.0 w.0 a.0
+    (remainder_claimed bare u w a.3 (number_or u.0.known.number) claim.Again c.in-Again-try_claim_rest.ensures.step).0
 
 pub returns-in-Nothing-try_claim_rest-clause-done : goal.returns-in-Nothing-try_claim_rest-clause-done
 returns-in-Nothing-try_claim_rest-clause-done c _ = let v = c.args.seat.now.me in let u = c.try_steal.new.seat.me in let w = c.try_claim_rest.new.seat.me in

@@ -1,5 +1,5 @@
 -- Who reads a number knows it, and that the round can't be stopped.
-use Rattle.std.proofs.Common.{◌≡◌, ◌≢◌, ◌≤◌, arith, ◌∙◌, subst, sym, IsTrue}
+use Rattle.std.proofs.Common.{◌≢◌, ◌≤◌, arith, ◌∙◌, subst, sym, IsTrue}
 use Rattle.spindle_rounds.specs.RoundConditions.{IsFreeInside, MayClaim}
 use Rattle.spindle_rounds.proofs.RoundWords.{by_equal}
 use Rattle.spindle_rounds.proofs.RoundClients.{number_learned}

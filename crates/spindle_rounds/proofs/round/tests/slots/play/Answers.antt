@@ -1,15 +1,13 @@
 -- Pieces go into the slots, and after the round their answers come out of them.
-use Rattle.std.proofs.Common.{◌≡◌, ◌+◌, ◌*◌, ℕ, true, refl, ap, ◌∙◌, sym, subst, arith}
+use Rattle.std.proofs.Common.{◌≡◌, ◌+◌, ◌*◌, ℕ, ap, ◌∙◌, sym, subst, arith}
 use Rattle.spindle_rounds.specs.declared.round_table.view.View.{View}
 use Rattle.spindle_rounds.specs.RoundConditions.{HasSense, HasPart}
 use Rattle.spindle_rounds.specs.RoundPieces.{pieces}
 use Rattle.spindle_rounds.specs.PieceRounds.{AwaitsAnswers}
 use Rattle.spindle_rounds.specs.RoundSteps.{round_of}
-use Rattle.spindle_rounds.specs.RoundSlots.{spot_at}
-use Rattle.spindle_rounds.specs.declared.round_table.view.Spot.TheVariants.{Out}
 use Rattle.spindle_rounds.specs.SlotHands.{AllOut}
 use Rattle.spindle_rounds.specs.SlotSteps.{TakenOut}
-use Rattle.spindle_rounds.proofs.SlotHands.{may_publish, laid_out, awaits, collected, still_out, passed_taking}
+use Rattle.spindle_rounds.proofs.SlotHands.{laid_out, awaits, collected, still_out, passed_taking}
 use Rattle.spindle_rounds.proofs.Workers.{passed_after}
 use Rattle.spindle_rounds.proofs.round.tests.slots.play.Goals as goal
 

@@ -1,5 +1,5 @@
 -- Each turn takes the answer out of the slot at the hand.
-use Rattle.std.proofs.Common.{◌≡◌, ◌+◌, ◌*◌, ◌<◌, ◌≤◌, ℕ, refl, ap, ◌∙◌, sym, subst, arith}
+use Rattle.std.proofs.Common.{◌≡◌, ◌+◌, ◌*◌, ℕ, refl, ap, ◌∙◌, sym, subst, arith}
 use Rattle.spindle_rounds.specs.declared.round_table.pieces.Stand.{Stand}
 use Rattle.spindle_rounds.specs.RoundPieces.{IsAtHand}
 use Rattle.spindle_rounds.specs.SlotHands.{AnsweredAs}
@@ -15,7 +15,11 @@ abbrev twice : ℕ → ℕ → Type 0
 twice x y = y ≡ x * 2
 
 pub loop-slot-init : goal.loop-slot-init
-loop-slot-init c = record { seat = (refl, refl); view = refl; hand = turning_first (AnsweredAs (is c.args.first) twice c.args.jobs) IsEmpty c.args.slots _ c.requires.held }
+loop-slot-init c = record {
+  seat = (refl, refl);
+  view = refl;
+  hand = turning_first (AnsweredAs (is c.args.first) twice c.args.jobs) IsEmpty c.args.slots _ c.requires.held;
+}
 
 pub take_answer-requires-clause-seated : goal.take_answer-requires-clause-seated
 take_answer-requires-clause-seated c = c.loop-slot.invariant.seat.0 ∙ c.requires.seated
