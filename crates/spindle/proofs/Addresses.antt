@@ -1,5 +1,6 @@
 -- Where a number stands among the hands that numbers are dealt in.
-use Rattle.std.proofs.Common.{◌≡◌, ℕ, ◌+◌, ◌-◌, ◌*◌, ◌/◌, ◌%◌, ◌<◌, ◌≤◌, List, ◌++◌, inl, inr, length, take, drop, get_or, Some, ap, ◌∙◌, zero, suc, arith, length-append, refl, min}
+use Rattle.std.proofs.Common.{◌≡◌, ℕ, ◌+◌, ◌-◌, ◌*◌, ◌/◌, ◌%◌, ◌<◌, ◌≤◌, List, ◌++◌, inl, inr, length, take, drop, get_or, Some, ap, ◌∙◌, zero, suc, arith}
+use Rattle.std.proofs.Common.{length-append, refl, min}
 use Rattle.std.specs.Prelude.{slice_get}
 use Rattle.std.proofs.lemmas.List.{get_or-take, get_or-drop, get_or_append_left, get_or-append_right, length-take, length-take-le, length-drop}
 use Rattle.std.proofs.lemmas.Option.{slice_get-get_or}
@@ -9,7 +10,7 @@ use Rattle.spindle_parts.specs.Pieces.{counted, dealt}
 use Rattle.spindle_parts.proofs.Deals.{length-counted}
 
 -- the k-th of the numbers from `from` on
-get_or-counted : (from n k : ℕ) → k < n → get_or (counted from n) k 0 ≡ from + k
+pub get_or-counted : (from n k : ℕ) → k < n → get_or (counted from n) k 0 ≡ from + k
 get_or-counted from zero k h = absurd (omega (arith, h))
 get_or-counted from (suc n) zero h = omega arith
 get_or-counted from (suc n) (suc k) h = omega (arith, get_or-counted (from + 1) n k (omega (arith, h)))

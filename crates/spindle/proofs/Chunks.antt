@@ -66,4 +66,5 @@ module _ {T : Type 0} (items : List T) (size halo : ℕ) where
       let count : ℕ = div_ceil (length items) size in
       let whole : size * count ≡ count * size = grind arith in
       let enough : length items ≤ min (size * count) (length items) = omega (arith, whole, (div_ceil_times (length items) size some).0) in
-      joined_up_to count (λ i lt. let e = begins_within (length items) size i some lt in omega (arith, e)) ∙ take_all (min (size * count) (length items)) items enough
+      joined_up_to count (λ i lt. let e = begins_within (length items) size i some lt in omega (arith, e))
+      ∙ take_all (min (size * count) (length items)) items enough

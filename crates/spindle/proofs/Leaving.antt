@@ -17,12 +17,14 @@ use Rattle.spindle_rounds.specs.declared.round_table.view.Standing.{Standing}
 use Rattle.spindle_rounds.specs.declared.round_table.view.Standing.TheVariants.{Away, Inside}
 use Rattle.spindle_rounds.specs.declared.round_table.view.Known.{Known}
 use Rattle.spindle_rounds.specs.declared.round_table.view.View.{View}
-use Rattle.spindle_rounds.specs.Holding.{IsHeld, Keeps, AwaitTold, IsSeatOf}
+use Rattle.spindle_rounds.specs.Seating.{IsSameSeat}
+use Rattle.spindle_rounds.specs.Holding.{IsHeld, Keeps, AwaitTold}
 use Rattle.spindle_rounds.specs.Passing.{InNext, WentOut}
 use Rattle.spindle_rounds.specs.RoundAnswers.{ArrivedBy}
 use Rattle.spindle_rounds.specs.RoundConditions.{HasPart, HasSense, MayLeave}
 use Rattle.spindle_rounds.specs.RoundSteps.{round_of, unknown}
-use Rattle.spindle_rounds.proofs.BarrierClients.{arrived_waits, keeps_on, leave_left, may_wait, moved_idle, moved_known, moved_leader, moved_on, moved_standing, passed_from, stayed_waiting, went_on}
+use Rattle.spindle_rounds.proofs.BarrierClients.{arrived_waits, keeps_on, leave_left, may_wait, moved_idle, moved_known, moved_leader, moved_on, moved_standing}
+use Rattle.spindle_rounds.proofs.BarrierClients.{passed_from, stayed_waiting, went_on}
 
 -- the same seat at the same ledger, call after call
 pub same_thread_first : (a : Notices) → IsSameThread a a
@@ -64,7 +66,7 @@ module _ {T S N : Type 0} where
   )
 
   -- or it is out
-  pub out_at : (tables : Tables T S N) (a : Barrier T S N) (s : Seat S (View N)) → IsAt tables a → IsIdle a.seat.me.0 → IsSeatOf a s
+  pub out_at : (tables : Tables T S N) (a : Barrier T S N) (s : Seat S (View N)) → IsAt tables a → IsIdle a.seat.me.0 → IsSameSeat a.seat s
       → WentOut a.seat.me s.me → IsOut tables s
   out_at tables a s at idle same out = (
     same.0 ∙ at.1,

@@ -8,8 +8,11 @@ pub mod Places
 pub mod TrayPlaces
 pub mod SlotRounds
 pub mod PieceRuns
+pub mod Reports
 pub mod FreeLists
 mod Helpers
 mod SlotPosts
+mod InPlace
 mod Leaving
+pub mod Rooms
 mod Benches

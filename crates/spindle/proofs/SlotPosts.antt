@@ -1,5 +1,5 @@
 -- A leader with its barrier, and by what it keeps without.
-use Rattle.std.proofs.Common.{◌≡◌, ℕ, zero, suc, ◌<◌, ◌%◌, Bool, true, List, [], ◌∷◌, Option, Some, None, IsSome, length, replicate, refl, ap, sym, subst, ◌∙◌}
+use Rattle.std.proofs.Common.{◌≡◌, ℕ, zero, suc, ◌%◌, Bool, true, List, [], ◌∷◌, Option, Some, None, IsSome, length, replicate, refl, ap, sym, subst, ◌∙◌}
 use mathlib.Core.Option.{some}
 use Rattle.std.specs.Option.{ForSome}
 use lib.ListN.{get_elem?}
@@ -15,7 +15,7 @@ use Rattle.spindle_rounds.specs.declared.round_table.view.View.{View}
 use Rattle.spindle_rounds.specs.RoundConditions.{HasPart, HasSense, MayFill}
 use Rattle.spindle_rounds.specs.RoundSteps.{round_of}
 use Rattle.spindle_rounds.specs.Seating.{slots_of}
-use Rattle.spindle_rounds.specs.SlotHands.{AllOut, HoldsAll}
+use Rattle.spindle_rounds.specs.SlotHands.{AllOut}
 use Rattle.spindle_rounds.specs.SlotLoops.{HoldsEach, IsEmpty}
 use Rattle.spindle_rounds.specs.SlotSteps.{numbered}
 use Rattle.spindle_rounds.specs.Stances.{IsStanceOf}
@@ -57,26 +57,28 @@ module _ {T P A : Type 0} where
   resumed tables b s is home h held = let e : s.seat ≡ b.seat = is.seat in let seated = ap (λ (z : Own P A). z.table_id) (sym e) ∙ h.0 in
       let sense : HasSense s.seat.me.0.standing s.sense = subst (λ (z : Standing). HasSense z s.sense) (sym h.3) h.6 in
       let part : HasPart s.seat.me.0.standing s.is_member = subst (λ (z : Standing). HasPart z s.is_member) (sym h.3) h.7 in record {
-        at = (
-          (
-            seated ∙ sym (ap (λ (i : BarrierInit T (Stand P A) P). i.table.shared.table_id) home),
-            subst (λ (z : Own P A × ℕ). HasSense z.0.me.0.standing z.1) (λ i. (e i, is.sense i)) sense,
-            subst (λ (z : Own P A × Bool). HasPart z.0.me.0.standing z.1) (λ i. (e i, is.member i)) part,
-          ),
-          seated,
-          ap (λ (z : Own P A). z.me.0.threads) (sym e) ∙ h.1,
-        );
-        leads = ap (λ (z : Own P A). z.me.0.leader) (sym e) ∙ h.2;
-        between = subst (λ (z : Own P A). MayFill z.me.0) e ((_, h.3), h.4);
-        idle = subst (λ (z : Own P A). IsIdle z.me.0) e h.5;
-        holds = subst (λ (z : Own P A). HoldsAll (slots_of tables.round.init) z.me) e
-            (record { hand = holds_empty (slots_of tables.round.init) s.seat.me.1 held.0; out = held.1 });
+        stands = record {
+          at = (
+            (
+              seated ∙ sym (ap (λ (i : BarrierInit T (Stand P A) P). i.table.shared.table_id) home),
+              subst (λ (z : Own P A × ℕ). HasSense z.0.me.0.standing z.1) (λ i. (e i, is.sense i)) sense,
+              subst (λ (z : Own P A × Bool). HasPart z.0.me.0.standing z.1) (λ i. (e i, is.member i)) part,
+            ),
+            seated,
+            ap (λ (z : Own P A). z.me.0.threads) (sym e) ∙ h.1,
+          );
+          leads = ap (λ (z : Own P A). z.me.0.leader) (sym e) ∙ h.2;
+          between = subst (λ (z : Own P A). MayFill z.me.0) e ((_, h.3), h.4);
+          idle = subst (λ (z : Own P A). IsIdle z.me.0) e h.5;
+          out = subst (λ (z : Own P A). AllOut (slots_of tables.round.init) z.me.0.board) e held.1;
+        };
+        hand = subst (λ (z : Own P A). HoldsEach IsEmpty (slots_of tables.round.init) z.me.1) e (holds_empty (slots_of tables.round.init) s.seat.me.1 held.0);
       }
 
   -- and the other way round
   pub parted : (tables : Tables T (Stand P A) P) (b : Barrier T (Stand P A) P) (s : Stance T (Stand P A) P) → IsStanceOf b s → LeadsIn tables b
       → StandsAt tables s × HoldsEmpty (slots_of tables.round.init) s
-  parted tables b s is h = let e : s.seat ≡ b.seat = is.seat in let st : Standing = b.seat.me.0.standing in let q : ℕ = h.between.0.0 in
+  parted tables b s is l = let h = l.stands in let e : s.seat ≡ b.seat = is.seat in let st : Standing = b.seat.me.0.standing in let q : ℕ = h.between.0.0 in
       let inside : st ≡ Inside q = h.between.0.1 in let here : s.seat.me.0.standing ≡ st = ap (λ (z : Own P A). z.me.0.standing) e in
       let sense : b.sense ≡ q % 2 = subst (λ (z : Standing). HasSense z b.sense) inside h.at.0.1 in
       let part : b.is_member ≡ true = subst (λ (z : Standing). HasPart z b.is_member) inside h.at.0.2 in (
@@ -91,8 +93,8 @@ module _ {T P A : Type 0} where
           is.member ∙ part,
         ),
         (
-          ap (λ (z : Own P A). z.me.1) e ∙ empty_hand (slots_of tables.round.init) b.seat.me.1 h.holds.hand,
-          subst (λ (z : Own P A). AllOut (slots_of tables.round.init) z.me.0.board) (sym e) h.holds.out,
+          ap (λ (z : Own P A). z.me.1) e ∙ empty_hand (slots_of tables.round.init) b.seat.me.1 l.hand,
+          subst (λ (z : Own P A). AllOut (slots_of tables.round.init) z.me.0.board) (sym e) h.out,
         ),
       )
 

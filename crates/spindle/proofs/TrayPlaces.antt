@@ -1,5 +1,6 @@
 -- The places of a tray: what stands at the one that is written, and at the others.
-use Rattle.std.proofs.Common.{◌≡◌, ◌≢◌, ℕ, ◌+◌, ◌<◌, ◌≤◌, subst, ⊎_elim, List, [], ◌∷◌, length, take, get_or, map, slice_set, Option, Some, Result, Ok, Err, refl, ap, sym, ◌∙◌, zero, suc, OnOk, OnErr, arith}
+use Rattle.std.proofs.Common.{◌≡◌, ◌≢◌, ℕ, ◌+◌, ◌<◌, ◌≤◌, subst, ⊎_elim, List, [], ◌∷◌, length, take, get_or, map, slice_set, Option, Some, Result, Ok, Err}
+use Rattle.std.proofs.Common.{refl, ap, sym, ◌∙◌, zero, suc, OnOk, OnErr, arith}
 use Rattle.std.specs.Prelude.{option_and_then, slice_get, unwrap_or}
 use Rattle.std.proofs.lemmas.List.{get_or-set_same, length-set, take_more, take_more_set, take-map}
 use Rattle.std.proofs.lemmas.Bool.{cases_lt}

@@ -10,4 +10,5 @@ account_of notices = notices.seat.me.0
 
 -- the same seat at the same ledger
 abbrev pub IsSameThread : (old new : Notices) → Type 0
-IsSameThread old new = (new.ledger ≡ old.ledger) × (new.slots ≡ old.slots) × IsSameSeat old.seat new.seat
+IsSameThread old new = (new.ledger ≡ old.ledger) × (new.slots ≡ old.slots)
+    × IsSameSeat old.seat new.seat

@@ -17,7 +17,8 @@ abbrev pub inputs_of : {A : Type 0} → Option (List A) → List A
 inputs_of None = []
 inputs_of (Some inputs) = inputs
 
--- the place of a piece: its number, the piece until a thread takes it, and what the thread brings back
+-- the place of a piece: its number,
+-- the piece until a thread takes it, and what the thread brings back
 pub record PlaceView (A B : Type 0) : Type 0 where
   pub number : ℕ
   pub ready : Option (Given A)

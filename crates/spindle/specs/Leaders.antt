@@ -1,5 +1,5 @@
 -- What contracts see of a leader.
-use Rattle.std.specs.Prelude.{◌≡◌, ℕ}
+use Rattle.std.specs.Prelude.{◌≡◌, ◌↔◌, ℕ, Bool, List, true}
 use Rattle.spindle_parts.specs.declared.fault.Fault.{Fault}
 use Rattle.spindle_parts.specs.declared.fault.Fault.TheVariants.{Memory, Lost}
 use Rattle.spindle_parts.specs.declared.requests.plays.Account.{Account}
@@ -7,8 +7,9 @@ use Rattle.spindle.specs.Accounts as accounts
 use Rattle.spindle.specs.Notices as notices
 use Rattle.spindle.specs.declared.lock.leader.Leader.{Leader}
 use Rattle.spindle_rounds.specs.declared.round_table.view.View.{View}
+use Rattle.spindle_rounds.specs.Leftovers.{IsFoundLeft, IsMarked}
 use Rattle.spindle_rounds.specs.RoundConditions.{MayFill}
-use Rattle.spindle_rounds.specs.Working.{PlayedRound}
+use Rattle.spindle_rounds.specs.Working.{PlayedRound, PlayedRoundOf}
 
 -- the threads of its lock
 abbrev pub threads_of : {J G L I O N S : Type 0} → Leader J G L I O N S → ℕ
@@ -49,3 +50,20 @@ abbrev pub LeftByRefusal : {J G L I O N S : Type 0}
     → (jobs : ℕ) → (old new : Leader J G L I O N S) → Fault → Type 0
 LeftByRefusal jobs old new Memory = MadeNoStep old new
 LeftByRefusal jobs old new (Lost k) = PlayedOnce jobs old new
+
+-- it published once, so many jobs in a round that may stop, and that round has ended
+abbrev pub TriedOnce : {J G L I O N S : Type 0}
+    → (jobs : ℕ) → (old new : Leader J G L I O N S) → Type 0
+TriedOnce jobs old new = PlayedRoundOf jobs true (view_of old) (view_of new)
+
+-- and what it found left then is marked
+abbrev pub TriedAndMarked : {J G L I O N S : Type 0}
+    → (jobs : ℕ) → (marks : List Bool) → (old new : Leader J G L I O N S) → Type 0
+TriedAndMarked jobs marks old new = TriedOnce jobs old new
+    × ((k : ℕ) → IsMarked marks k ↔ IsFoundLeft (view_of new) (hands_of old) jobs k)
+
+-- the same of a round that may stop and was refused
+abbrev pub LeftByTryRefusal : {J G L I O N S : Type 0}
+    → (jobs : ℕ) → (old new : Leader J G L I O N S) → Fault → Type 0
+LeftByTryRefusal jobs old new Memory = MadeNoStep old new
+LeftByTryRefusal jobs old new (Lost k) = TriedOnce jobs old new

@@ -6,6 +6,7 @@ pub mod Done
 pub mod Outputs
 pub mod Trays
 pub mod PieceRuns
+pub mod Reports
 pub mod Leaders
 pub mod Locks
 pub mod Rounds
@@ -18,4 +19,5 @@ pub mod Helpers
 pub mod SlotLeaders
 pub mod SlotRounds
 pub mod SlotPosts
+pub mod InPlace
 pub mod Nested

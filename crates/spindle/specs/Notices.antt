@@ -2,20 +2,9 @@
 use Rattle.std.specs.Prelude.{◌≡◌, ◌⊎◌, ℕ, Bool, true, false, if◌then◌else◌}
 use Rattle.spindle_parts.specs.declared.requests.plays.Account.{Account}
 use Rattle.spindle_parts.specs.declared.requests.TakePlace.TheVariants as answer
+use Rattle.spindle_parts.specs.declared.words.TheConstants.{EXIT, REST}
 use Rattle.spindle_parts.specs.Ledger.{place_word}
 use Rattle.spindle_parts.specs.LedgerSteps.{loading, announcing, subtracting, TookBy}
-
--- the word that counts what nested locks ask for
-abbrev pub requests_word : ℕ
-requests_word = 0
-
--- the word that says that the helpers end
-abbrev pub exit_word : ℕ
-exit_word = 8
-
--- the word that says that idle threads rest
-abbrev pub rest_word : ℕ
-rest_word = 16
 
 -- one load of a notice, which found this
 abbrev pub Read : (word found : ℕ) → (old new : Account) → Type 0
@@ -23,26 +12,30 @@ Read word found old new = new ≡ loading word found old
 
 -- one load of the notice that the helpers end, with this answer
 abbrev pub ReadExit : (announced : Bool) → (old new : Account) → Type 0
-ReadExit announced old new = Read exit_word (if announced then 1 else 0) old new
+ReadExit announced old new = Read EXIT (if announced then 1 else 0) old new
 
 -- one load of the notice that idle threads rest, with this answer
 abbrev pub ReadRest : (announced : Bool) → (old new : Account) → Type 0
-ReadRest announced old new = Read rest_word (if announced then 1 else 0) old new
+ReadRest announced old new = Read REST (if announced then 1 else 0) old new
 
 -- one store: the helpers are to end, and nothing else was done at the ledger
 abbrev pub AnnouncedExit : (old new : Account) → Type 0
-AnnouncedExit old new = new ≡ announcing exit_word 1 old
+AnnouncedExit old new = new ≡ announcing EXIT 1 old
 
 -- one store: idle threads are to rest, and nothing else was done at the ledger
 abbrev pub AnnouncedRest : (old new : Account) → Type 0
-AnnouncedRest old new = new ≡ announcing rest_word 1 old
+AnnouncedRest old new = new ≡ announcing REST 1 old
 
--- idle threads are to make their turns again: the notice was read as 0, or it was read and then 0 stored
+-- idle threads are to make their turns again:
+-- the notice was read as 0, or it was read and then 0 stored
 abbrev pub EndedRest : (old new : Account) → Type 0
 EndedRest old new =
-    Read rest_word 0 old new ⊎ (new ≡ announcing rest_word 0 (loading rest_word 1 old))
+    Read REST 0 old new ⊎ (new ≡ announcing REST 0 (loading REST 1 old))
 
--- one try for a place of the slot: where it was had, requests fell by 1 after it, and the credit is as before
+-- one try for a place of the slot: where it was had,
+-- requests fell by 1 after it, and the credit is as before
 abbrev pub TookPlace : (slot : ℕ) → Bool → (old new : Account) → Type 0
-TookPlace slot true old new = (mid : Account) × (found : ℕ) × TookBy (place_word slot) answer.Taken old mid × (new ≡ subtracting 1 found mid)
-TookPlace slot false old new = TookBy (place_word slot) answer.None old new ⊎ TookBy (place_word slot) answer.Again old new
+TookPlace slot true old new = (mid : Account) × (found : ℕ)
+    × TookBy (place_word slot) answer.Taken old mid × (new ≡ subtracting 1 found mid)
+TookPlace slot false old new = TookBy (place_word slot) answer.None old new
+    ⊎ TookBy (place_word slot) answer.Again old new

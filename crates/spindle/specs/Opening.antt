@@ -8,7 +8,8 @@ use Rattle.spindle_parts.specs.LedgerSteps.{blank}
 use Rattle.spindle_rounds.specs.RoundSteps.{outsider}
 use Rattle.spindle_rounds.specs.Seating.{IsSeatAt}
 
--- the leader's seats at the tables of its lock, from which the helpers' are split: it is in no round yet
+-- the leader's seats at the tables of its lock,
+-- from which the helpers' are split: it is in no round yet
 pub record AreSeatsAt {T S N : Type 0} (tables : Tables T S N) (seats : Seats T S N) : Type 0 where
   pub round : IsSeatAt tables.round.init seats.round
   pub outside : seats.round.me ≡ (outsider tables.round.init.threads true, [])

@@ -1,7 +1,8 @@
 -- The pieces of a list as runs of it.
 use Rattle.std.specs.Prelude.{ℕ, ◌+◌, ◌*◌, ◌/◌, ◌%◌, ◌-◌, List, length, min, take, drop}
 
--- where the piece of a number begins, of so many that a list is cut into: the first ones are longer by one
+-- where the piece of a number begins,
+-- of so many that a list is cut into: the first ones are longer by one
 abbrev pub piece_start : (len pieces number : ℕ) → ℕ
 piece_start len pieces number = len / pieces * number + min (len % pieces) number
 

@@ -27,7 +27,8 @@ IsAt tables b = IsHeld b × IsSeatAt tables.round.init b.seat × IsSized tables 
 
 -- the seat of a party that is no member of the barrier, has nothing to finish, and may join
 abbrev pub IsOut : {T S N : Type 0} → Tables T S N → Seat S (View N) → Type 0
-IsOut tables seat = IsSeatAt tables.round.init seat × IsSized tables seat.me.0 × (seat.me.0.standing ≡ Away) × IsIdle seat.me.0
+IsOut tables seat = IsSeatAt tables.round.init seat × IsSized tables seat.me.0
+    × (seat.me.0.standing ≡ Away) × IsIdle seat.me.0
 
 -- the seats of a helper before its life in the lock and after it: no member, no number, no credit
 pub record AreOut {T S N : Type 0} (tables : Tables T S N) (seats : Seats T S N) : Type 0 where

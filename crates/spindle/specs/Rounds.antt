@@ -1,6 +1,7 @@
 -- What a round answers, and what it may be refused for.
 use Rattle.std.specs.Prelude.{◌≡◌, ℕ, ◌<◌, ◌≤◌, ◌++◌, min, map, List}
 use Rattle.std.specs.List.{AllZip}
+use Rattle.spindle_parts.specs.Words.{most_jobs}
 use Rattle.spindle_parts.specs.Pieces.{joined}
 use Rattle.spindle_parts.specs.declared.cut.Piece.{Piece}
 use Rattle.spindle_parts.specs.declared.fault.Fault.{Fault}
@@ -8,7 +9,7 @@ use Rattle.spindle_parts.specs.declared.fault.Fault.TheVariants.{Memory, Lost}
 
 -- the jobs of a round: the pieces of its items
 abbrev pub job_count : (items n_jobs : ℕ) → ℕ
-job_count items n_jobs = min items (min n_jobs 4294967295)
+job_count items n_jobs = min items (min n_jobs most_jobs)
 
 -- why a round of so many jobs in a lock of so many threads may be refused
 abbrev pub IsRefusal : (threads jobs : ℕ) → Fault → Type 0

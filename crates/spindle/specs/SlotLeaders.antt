@@ -1,8 +1,12 @@
--- What contracts see of the leader of a lock with slots. Its post is hidden behind a type P: what is known of the seat in it is told by a function of P.
+-- What contracts see of the leader of a lock with slots. Its post is hidden behind a type P:
+-- what is known of the seat in it is told by a function of P.
+use denote.Ref.{MutBor}
+use Rattle.std.specs.Fn.{Once, FnOnceTakesAtMut}
 use Rattle.std.specs.Prelude.{◌≡◌, ℕ, min}
 use Rattle.spindle_parts.specs.declared.requests.plays.Account.{Account}
 use Rattle.spindle.specs.Accounts as accounts
 use Rattle.spindle.specs.Notices as notices
+use Rattle.spindle.specs.declared.crew.slot_post.SlotPost.{SlotPost}
 use Rattle.spindle.specs.declared.lock.slot_leader.SlotLeader.{SlotLeader}
 use Rattle.spindle_rounds.specs.declared.round_table.view.View.{View}
 use Rattle.spindle_rounds.specs.RoundConditions.{MayFill}
@@ -11,6 +15,12 @@ use Rattle.spindle_rounds.specs.Working.{PlayedRound}
 -- the threads of its lock
 abbrev pub threads_of : {J G P I O N S : Type 0} → SlotLeader J G P I O N S → ℕ
 threads_of leader = leader.crew.most
+
+-- it leads a lock of so many threads with so many slots, where this tells them of its post
+abbrev pub IsLeaderOf : {J G P I O N S : Type 0} → (P → ℕ) → (threads slots : ℕ)
+    → SlotLeader J G P I O N S → Type 0
+IsLeaderOf slot_count threads slots leader = (threads_of leader ≡ threads)
+    × (slot_count leader.post ≡ slots)
 
 -- what its seat at the ledger knows, with the trail of its own steps
 abbrev pub account_of : {J G P I O N S : Type 0} → SlotLeader J G P I O N S → Account
@@ -21,21 +31,35 @@ abbrev pub AnnouncedRest : {J G P I O N S : Type 0} → (old new : SlotLeader J 
 AnnouncedRest old new = notices.AnnouncedRest (account_of old) (account_of new)
 
 -- what its post tells of it is as before
-abbrev pub IsAsBefore : {J G P I O N S V : Type 0} → (P → V) → (old new : SlotLeader J G P I O N S) → Type 0
+abbrev pub IsAsBefore : {J G P I O N S V : Type 0} → (P → V) → (old new : SlotLeader J G P I O N S)
+    → Type 0
 IsAsBefore told old new = told new.post ≡ told old.post
 
 -- the slots of its lock, where this tells them of its post
 abbrev pub slots_of : {J G P I O N S : Type 0} → (P → ℕ) → SlotLeader J G P I O N S → ℕ
 slots_of slot_count leader = slot_count leader.post
 
+-- the slots of a lock whose leader has its kind of job's own post, as every caller's has
+abbrev pub lock_slots : {J G A P Q I O N S : Type 0} → SlotLeader J G (SlotPost A P Q) I O N S → ℕ
+lock_slots leader = leader.post.slots
+
+-- f may be called with each leader whose lock has so many slots
+abbrev pub TakesLeaders : {J G P I O N S F R : Type 0} → (P → ℕ) → (slots : ℕ)
+    → Once F (MutBor (SlotLeader J G P I O N S) × Unit {0}) R → F → Type 0
+TakesLeaders {J} {G} {P} {I} {O} {N} {S} slot_count slots g f =
+    (leader : SlotLeader J G P I O N S) → slots_of slot_count leader ≡ slots → FnOnceTakesAtMut g f leader
+
 -- the jobs of its round over so many items, asked for in so many jobs
-abbrev pub slot_jobs : {J G P I O N S : Type 0} → (P → ℕ) → SlotLeader J G P I O N S → (items n_jobs : ℕ) → ℕ
+abbrev pub slot_jobs : {J G P I O N S : Type 0} → (P → ℕ) → SlotLeader J G P I O N S
+    → (items n_jobs : ℕ) → ℕ
 slot_jobs slot_count leader items n_jobs = min items (min n_jobs (slot_count leader.post))
 
 -- where this tells what its seat at the round table knows: it is in, and nothing is published
-abbrev pub IsBetweenRounds : {J G P I O N S V : Type 0} → (P → View V) → SlotLeader J G P I O N S → Type 0
+abbrev pub IsBetweenRounds : {J G P I O N S V : Type 0} → (P → View V) → SlotLeader J G P I O N S
+    → Type 0
 IsBetweenRounds view leader = MayFill (view leader.post)
 
 -- it published once, so many jobs, and that round has ended
-abbrev pub PlayedOnce : {J G P I O N S V : Type 0} → (P → View V) → (jobs : ℕ) → (old new : SlotLeader J G P I O N S) → Type 0
+abbrev pub PlayedOnce : {J G P I O N S V : Type 0} → (P → View V) → (jobs : ℕ)
+    → (old new : SlotLeader J G P I O N S) → Type 0
 PlayedOnce view jobs old new = PlayedRound jobs (view old.post) (view new.post)

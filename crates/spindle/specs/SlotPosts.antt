@@ -1,5 +1,5 @@
 -- The leader of a lock with slots between two rounds, by what it keeps without its barrier.
-use Rattle.std.specs.Prelude.{◌≡◌, ℕ, ◌%◌, ◌<◌, List, [], Option, Some, None, true, replicate}
+use Rattle.std.specs.Prelude.{◌≡◌, ℕ, ◌%◌, List, [], Option, Some, None, true, replicate}
 use Rattle.spindle_rounds.specs.declared.barrier.stance.Stance.{Stance}
 use Rattle.spindle_rounds.specs.declared.round_table.pieces.Stand.{Stand}
 use Rattle.spindle_rounds.specs.declared.round_table.pieces.Stand.TheVariants.{Empty}
@@ -19,8 +19,10 @@ empty_slots slots = numbered 0 (replicate slots Empty) []
 
 -- the leader stands at these tables, inside a round in which it has published nothing
 abbrev pub StandsAt : {T S N : Type 0} → Tables T S N → Stance T S N → Type 0
-StandsAt tables s = let v = s.seat.me.0 in IsSeatAt tables.round.init s.seat × IsSized tables v × (v.leader ≡ true)
-    × (v.standing ≡ Inside (round_of v.standing)) × (v.known.unpublished ≡ true) × IsIdle v × (s.sense ≡ round_of v.standing % 2) × (s.is_member ≡ true)
+StandsAt tables s = let v = s.seat.me.0 in IsSeatAt tables.round.init s.seat × IsSized tables v
+    × (v.leader ≡ true)
+    × (v.standing ≡ Inside (round_of v.standing)) × (v.known.unpublished ≡ true) × IsIdle v
+    × (s.sense ≡ round_of v.standing % 2) × (s.is_member ≡ true)
 
 -- and so many slots are at its hand, all of them empty
 abbrev pub HoldsEmpty : {T P A : Type 0} → ℕ → Stance T (Stand P A) P → Type 0

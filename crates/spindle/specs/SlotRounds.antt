@@ -1,29 +1,59 @@
 -- A round whose pieces stand in the slots of the round table.
-use Rattle.std.specs.Prelude.{◌≡◌, ℕ, List, true}
+use Rattle.std.specs.Prelude.{◌≡◌, ℕ, List, [], true}
 use Rattle.std.specs.List.{AllZip}
+use Rattle.atomic_table.specs.Table.{Me}
 use Rattle.spindle_rounds.specs.declared.barrier.Barrier.{Barrier}
 use Rattle.spindle_rounds.specs.declared.round_table.pieces.Stand.{Stand}
+use Rattle.spindle_rounds.specs.declared.round_table.view.View.{View}
+use Rattle.spindle_rounds.specs.Passing.{InNext}
+use Rattle.spindle_rounds.specs.PieceRounds.{PublishedPieces}
 use Rattle.spindle_rounds.specs.RoundConditions.{MayFill}
+use Rattle.spindle_rounds.specs.RoundPieces.{pieces, AreAnswered}
+use Rattle.spindle_rounds.specs.RoundViews.{Onward}
 use Rattle.spindle_rounds.specs.Seating.{slots_of}
-use Rattle.spindle_rounds.specs.SlotHands.{HoldsAll}
+use Rattle.spindle_rounds.specs.SlotHands.{AllOut}
+use Rattle.spindle_rounds.specs.SlotLoops.{HoldsEach, IsEmpty}
+use Rattle.spindle_rounds.specs.SlotSteps.{TakenOut}
 use Rattle.spindle_rounds.specs.Working.{IsIdle}
 use Rattle.spindle.specs.declared.crew.tables.Tables.{Tables}
 use Rattle.spindle.specs.Done.{Given, Done}
 use Rattle.spindle.specs.PieceRuns.{piece_at}
 use Rattle.spindle.specs.Posts.{IsAt, party_view}
 
--- a piece that was run answers the piece that was given: under its number and with its inputs, which the outputs answer
+-- a piece that was run answers the piece that was given:
+-- under its number and with its inputs, which the outputs answer
 abbrev pub IsAnswerTo : {A B : Type 0} → (A → B → Type 0) → Given A → Done A B → Type 0
-IsAnswerTo Meets given done = (done.number ≡ given.number) × (done.inputs ≡ given.inputs) × AllZip Meets done.inputs done.outputs
+IsAnswerTo Meets given done = (done.number ≡ given.number) × (done.inputs ≡ given.inputs)
+    × AllZip Meets done.inputs done.outputs
 
 -- the piece of a number, of so many pieces of these items
 abbrev pub IsPieceOf : {A : Type 0} → List A → (pieces : ℕ) → ℕ → Given A → Type 0
-IsPieceOf items pieces number given = (given.number ≡ number) × (given.inputs ≡ piece_at items pieces number)
+IsPieceOf items pieces number given = (given.number ≡ number)
+    × (given.inputs ≡ piece_at items pieces number)
 
--- the leader of these tables between two rounds, with all their slots at its hand
-pub record LeadsIn {T P A : Type 0} (tables : Tables T (Stand P A) P) (b : Barrier T (Stand P A) P) : Type 0 where
+-- the leader of these tables between two rounds, by what its seat knows: all their slots are out
+pub record LeadsAt {T P A : Type 0} (tables : Tables T (Stand P A) P)
+    (b : Barrier T (Stand P A) P) : Type 0 where
   pub at : IsAt tables b
   pub leads : (party_view b).leader ≡ true
   pub between : MayFill (party_view b)
   pub idle : IsIdle (party_view b)
-  pub holds : HoldsAll (slots_of tables.round.init) b.seat.me
+  pub out : AllOut (slots_of tables.round.init) (party_view b).board
+
+-- and all of them are at its hand, empty
+pub record LeadsIn {T P A : Type 0} (tables : Tables T (Stand P A) P) (b : Barrier T (Stand P A) P) : Type 0 where
+  pub stands : LeadsAt tables b
+  pub hand : HoldsEach IsEmpty (slots_of tables.round.init) b.seat.me.1
+
+-- n pieces at a leader's hand were published, and after their round it has taken all slots out, with their answers
+pub record PlayedPieces {P A : Type 0} (answers : P → A → Type 0) (slots n : ℕ) (old new : Me (Stand P A) (View P)) : Type 0 where
+  pub shown : Me (Stand P A) (View P)
+  pub worked : Me (Stand P A) (View P)
+  pub ended : Me (Stand P A) (View P)
+  pub found : ℕ
+  pub published : PublishedPieces answers n old shown
+  pub on : Onward shown.0 worked.0
+  pub none : worked.1 ≡ []
+  pub next : InNext worked ended
+  pub taken : TakenOut (pieces answers) slots found ended new
+  pub answered : AreAnswered answers n worked.0.board new.1

@@ -1,5 +1,6 @@
 -- What stands in the places of a tray.
-use Rattle.std.specs.Prelude.{◌≡◌, ℕ, ◌+◌, ◌<◌, List, Option, Some, None, length, take, option_and_then, slice_get}
+use Rattle.std.specs.Prelude.{◌≡◌, ℕ, ◌+◌, ◌<◌, List, Option, Some, None, length, take}
+use Rattle.std.specs.Prelude.{option_and_then, slice_get}
 use Rattle.std.specs.List.{AllZip}
 use Rattle.spindle_parts.specs.Pieces.{counted, dealt}
 use Rattle.spindle.specs.Done.{Given, Done, PlaceView}

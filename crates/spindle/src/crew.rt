@@ -9,6 +9,7 @@ pub mod members;
 pub mod notices;
 pub mod phases;
 pub mod post;
+pub mod present;
 pub mod seats;
 pub mod site;
 pub mod sleep;

@@ -11,6 +11,7 @@ use std::thread::Threads;
 pub mod context;
 pub mod gate;
 pub mod nest;
+pub mod remake;
 pub(crate) mod sealed;
 
 /// A kind of job. It stands where spindle takes a closure that the threads of a lock call.
@@ -30,6 +31,9 @@ pub trait Job {
     /// The relation between an input and its output.
     ghost meets: { Self.In → Self.Out → Type 0 };
 
+    /// Which outputs may be told as failures: none, where a kind of job doesn't say.
+    ghost fails: { Self.Out → Type 0 } = { λ _. ⊥ };
+
     /// Runs a job. It meets the relation whatever its context is.
     fn run<H: Threads + Wait + Sync>(
         rt: &H,
@@ -40,8 +44,10 @@ pub trait Job {
         requires { IsSync H.row }
         ensures { meets input.now result };
 
-    /// Whether an output stops a round that may stop early. No other round asks.
-    fn failed(_output: &Self::Out) -> bool {
+    /// Whether an output is a failure, which stops a round that may stop. No other round asks.
+    fn failed(_output: &Self::Out) -> bool
+        ensures { result ≡ true → fails _output.now }
+    {
         false
     }
 

@@ -15,7 +15,7 @@ pub use lists::SharedList;
 pub use lists::gathered::gathered;
 pub use lists::run::ListRun;
 pub use lists::same::EqualIsSame;
-pub use lock::{with_lock, with_slots};
+pub use lock::{with_lock, with_slots, with_slots_in_place};
 pub use spindle_parts::fault::Fault;
 pub use spindle_parts::{aarc_imp, cut, numbers, requests, steps};
 pub use spindle_rounds::{barrier, round, round_table};

@@ -2,12 +2,15 @@
 //! threads take pieces from and bring them back to, and the gathering of what was run.
 
 pub mod address;
+pub mod chunk;
 pub mod finished;
 pub mod gathering;
+pub mod in_place;
 pub mod in_slots;
 pub mod of_kind;
 pub mod place;
 pub mod ready;
 pub mod runs;
+pub mod store;
 pub mod tray;
 pub mod trays;

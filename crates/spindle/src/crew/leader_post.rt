@@ -1,11 +1,13 @@
 //! The leader's post: it publishes rounds, and works in them.
-ghost use Rattle.std.specs.Prelude.{◌≡◌, true};
+ghost use Rattle.std.specs.Prelude.{◌≡◌, ◌↔◌, ℕ, true, length};
 ghost use Rattle.spindle.specs.Posts.{party_view};
 ghost use Rattle.spindle.specs.SlotPosts.{StandsAt};
+ghost use Rattle.spindle_rounds.specs.Leftovers.{IsMarked, IsFoundLeft};
+ghost use Rattle.spindle_rounds.specs.RoundViews.{published_of};
 
 use crate::crew::post::Post;
 use spindle_rounds::barrier::stance::Stance;
-use spindle_rounds::round_table::slots::Slots;
+use spindle_rounds::round_table::slots::{Bare, Slots};
 
 /// The post of a lock's leader, whose thread number is 0.
 #[derive(Drop)]
@@ -37,5 +39,24 @@ impl<'a, D: Slots> LeaderPost<'a, D> {
             thread: _,
         } = post;
         barrier.part()
+    }
+}
+
+impl<'a> LeaderPost<'a, Bare> {
+    /// After a round marks the numbers that it has left, of as many as there are marks.
+    pub(crate) fn mark_left(&mut self, marks: &mut Vec<bool>)
+        requires unmarked { (k : ℕ) → IsMarked marks.old.items k → ⊥ }
+        ensures count { length marks.new.items ≡ length marks.old.items }
+        ensures left { (k : ℕ) → IsMarked marks.new.items k
+            ↔ IsFoundLeft (party_view self.new.post.barrier)
+            self.old.post.tables.now.crew.threads (length marks.old.items) k }
+        ensures standing { (party_view self.new.post.barrier).standing
+            ≡ (party_view self.old.post.barrier).standing }
+        ensures published { published_of (party_view self.new.post.barrier).trail
+            ≡ published_of (party_view self.old.post.barrier).trail }
+        ensures tables { self.new.post.tables ≡ self.old.post.tables }
+    {
+        let post = &mut self.post;
+        post.tables.round.mark_left(&mut post.barrier.seat, marks);
     }
 }

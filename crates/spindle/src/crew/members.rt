@@ -1,6 +1,7 @@
-//! How many threads take part in a lock, in a form that names no slots of the lock's round table.
+//! Where the number of a lock's threads is read, in a form that names no slots of the lock's round table.
 ghost use Rattle.std.specs.Prelude.{◌<◌, ◌≤◌};
 
+use crate::crew::present::Present;
 use spindle_rounds::barrier::BarrierInit;
 use spindle_rounds::round_table::slots::Bare;
 
@@ -9,6 +10,8 @@ use spindle_rounds::round_table::slots::Bare;
 pub enum Members<'a> {
     /// At the lock's barrier, at the moment when it is asked for.
     Barrier(&'a BarrierInit<Bare>),
+    /// At the threads' own count, at the moment when it is asked for.
+    Present(&'a Present),
     /// Nowhere: it was read before, and stays.
     Fixed(usize),
 }
@@ -22,6 +25,7 @@ impl<'a> Members<'a> {
     {
         let members = match self {
             Members::Barrier(barrier) => barrier.current_num_threads(),
+            Members::Present(present) => present.threads(),
             Members::Fixed(members) => *members,
         };
         members.max(1).min(threads)

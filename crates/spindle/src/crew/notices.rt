@@ -3,7 +3,8 @@
 ghost use Rattle.std.specs.Prelude.{◌≡◌, ◌<◌, []};
 ghost use Rattle.spindle_parts.specs.LedgerSeats.{IsSeatOf, slot_count};
 ghost use Rattle.spindle_parts.specs.LedgerSteps.{blank};
-ghost use Rattle.spindle.specs.Notices.{requests_word, Read, ReadExit, ReadRest, AnnouncedExit, AnnouncedRest, EndedRest, TookPlace};
+ghost use Rattle.spindle_parts.specs.declared.words.TheConstants.{REQUESTS};
+ghost use Rattle.spindle.specs.Notices.{Read, ReadExit, ReadRest, AnnouncedExit, AnnouncedRest, EndedRest, TookPlace};
 
 use crate::crew::asking::Asked;
 use spindle_parts::requests::{Requests, Seat, TakePlace};
@@ -58,7 +59,7 @@ impl<'a> Notices<'a> {
 
     /// How many helpers nested locks ask for.
     pub(crate) fn requests(&mut self) -> u64
-        ensures read { Read requests_word result (account_of self.old) (account_of self.new) }
+        ensures read { Read REQUESTS result (account_of self.old) (account_of self.new) }
         ensures same { IsSameThread self.old self.new }
     {
         self.ledger.requests(&mut self.seat)

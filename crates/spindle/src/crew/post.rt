@@ -78,7 +78,10 @@ impl<'a, D: Slots> Post<'a, D> {
     {
         for _ in rt.forever() {
             seat = match tables.round.init().barrier(rt, seat, thread) {
-                Ok(barrier) => return Post::new(tables, barrier, thread),
+                Ok(barrier) => {
+                    tables.present.come();
+                    return Post::new(tables, barrier, thread);
+                }
                 Err(full) => full.seat,
             };
             thread::yield_now();
@@ -114,6 +117,7 @@ impl<'a, D: Slots> Post<'a, D> {
             thread: _,
         } = self;
         let seat = barrier.exit(rt);
+        tables.present.go();
         tables.sleep.wake(rt);
         seat
     }

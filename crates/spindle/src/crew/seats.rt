@@ -6,6 +6,7 @@ ghost use Rattle.spindle_rounds.specs.Seating.{IsSeatAt};
 
 use crate::crew::Crew;
 use crate::crew::limits::Limits;
+use crate::crew::present::Present;
 use crate::crew::sleep::Sleep;
 use crate::crew::tables::Tables;
 use spindle_parts::fault::Fault;
@@ -55,6 +56,7 @@ impl<D: Slots> Tables<D> {
             ledger,
             child_slots,
             sleep,
+            present: Present::new(),
         };
         let seats = Seats {
             round: round_seat,

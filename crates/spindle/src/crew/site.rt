@@ -43,19 +43,6 @@ impl<'a> Site<'a> {
         }
     }
 
-    /// The same where so many threads take part, as it was read before.
-    pub(crate) fn counted(&self, members: usize) -> Site<'a>
-        ensures crew { result.crew ≡ self.now.crew }
-        ensures index { result.index ≡ self.now.index }
-    {
-        Site {
-            crew: self.crew,
-            members: Members::Fixed(members),
-            sleep: self.sleep,
-            index: self.index,
-        }
-    }
-
     /// How many threads take part now.
     pub(crate) fn current(&self) -> usize
         ensures leader { 0 < result }

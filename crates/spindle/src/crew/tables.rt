@@ -1,10 +1,11 @@
-//! What the threads of a lock share, whatever the kind of job: rounds, thread numbers, notices, and a place to sleep. What
-//! the slots of its round table hold is a parameter.
+//! What the threads of a lock share, whatever the kind of job: rounds, thread numbers, notices, a place to sleep, and who is
+//! there. What the slots of its round table hold is a parameter.
 ghost use Rattle.std.specs.Prelude.{◌≡◌, ◌<◌};
 ghost use Rattle.spindle_parts.specs.LedgerSeats.{slot_count};
 
 use crate::crew::Crew;
 use crate::crew::members::Members;
+use crate::crew::present::Present;
 use crate::crew::site::Site;
 use crate::crew::sleep::Sleep;
 use spindle_parts::numbers::Numbers;
@@ -21,6 +22,7 @@ pub struct Tables<D: Slots> {
     pub(crate) ledger: Requests,
     pub(crate) child_slots: usize,
     pub(crate) sleep: Sleep,
+    pub(crate) present: Present,
     ghost rounds: { round.init.threads ≡ crew.threads },
     ghost named: { numbers.threads ≡ crew.threads },
     ghost placed: { slot_count ledger ≡ child_slots },

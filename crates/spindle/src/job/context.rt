@@ -46,7 +46,6 @@ impl<'a, N: Nest> JobCx<'a, N> {
 
     /// How many threads take part in the lock at this moment, its leader counted. In a job that another job runs directly it is
     /// the number of when the job began.
-    /// In a lock with slots it is the number from when the job began.
     pub fn current_num_threads(&self) -> usize
         ensures leader { 0 < result }
         ensures most { result ≤ self.now.threads }

@@ -165,7 +165,10 @@ fn end_part<'a, D: Slots, H: Wait>(
         thread,
     } = post;
     match end_or_leave(rt, tables, barrier, notices) {
-        ExitStatus::Exit(seat) => Whereabouts::Out(seat),
+        ExitStatus::Exit(seat) => {
+            tables.present.go();
+            Whereabouts::Out(seat)
+        }
         ExitStatus::Remain(barrier) => Whereabouts::In(Post::new(tables, barrier, thread)),
     }
 }

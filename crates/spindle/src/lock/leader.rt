@@ -18,6 +18,7 @@ use crate::pieces::runs::Pieces;
 use crate::work::runner::Runner;
 use spindle_parts::cut::cut;
 use spindle_parts::fault::Fault;
+use spindle_rounds::round::task::Task;
 use spindle_rounds::round_table::slots::Bare;
 use std::alloc::Global;
 use std::sync::Wait;
@@ -29,9 +30,9 @@ pub(crate) const MOST_JOBS: usize = 4294967295;
 /// The leader of a lock over jobs of kind J, lent to the closure that the lock was opened for.
 #[derive(Drop)]
 pub struct Leader<'a, J: Job, G: Gate, L = Workspace<J>> {
-    workspace: &'a L,
-    runner: Runner<'a, J, G>,
-    post: LeaderPost<'a, Bare>,
+    pub(crate) workspace: &'a L,
+    pub(crate) runner: Runner<'a, J, G>,
+    pub(crate) post: LeaderPost<'a, Bare>,
 }
 
 impl<'a, J: Opens<L>, G: Gate, L> Leader<'a, J, G, L> {
@@ -130,8 +131,11 @@ impl<'a, J: Opens<L>, G: Gate, L> Leader<'a, J, G, L> {
         let pieces = Pieces::new(SharedList::from_vec(alloc, items)?, jobs);
         let trays = J::trays(self.workspace);
         trays.hand_out(rt, alloc, &pieces)?;
-        self.post
-            .play(rt, alloc, trays, &mut self.runner, pieces.count() as u64);
+        let task = Task {
+            jobs: pieces.count() as u64,
+            may_stop: false,
+        };
+        self.post.play(rt, alloc, trays, &mut self.runner, task);
         match trays.gather(rt, &pieces, &mut outputs) {
             Ok(()) => Ok(outputs),
             Err(number) => Err(Fault::Lost(number)),

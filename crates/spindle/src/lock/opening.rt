@@ -22,6 +22,16 @@ use std::alloc::Global;
 use std::sync::Wait;
 use std::thread::{Scope, Threads};
 
+/// What the leader of a lock comes to: the lock's tables, what stands beside them, its pool, and the leader's seats.
+#[derive(Drop)]
+pub(crate) struct Entrant<'s, D: Slots, G: Gate, L> {
+    pub(crate) tables: &'s Tables<D>,
+    pub(crate) workspace: &'s L,
+    pub(crate) pool: &'s Pool<G>,
+    pub(crate) seats: Seats<D>,
+    ghost seated: { AreSeatsAt tables.now seats },
+}
+
 impl<D: Slots> Seats<D> {
     // A helper's seats, split from the leader's.
     fn recruit<'a>(&mut self, tables: &'a Tables<D>) -> Recruit<'a, D>
@@ -121,27 +131,23 @@ pub(crate) fn lead<
     F: FnOnce(&mut Leader<J, G, L>) -> R,
     L: Send + Sync,
     H: Threads + Wait + Sync + 's,
->(
-    scope: &Scope<'s, E>,
-    rt: &'s H,
-    alloc: Global,
-    tables: &'s Tables<Bare>,
-    workspace: &'s L,
-    pool: &'s Pool<G>,
-    seats: Seats<Bare>,
-    f: F,
-) -> R
+>(scope: &Scope<'s, E>, rt: &'s H, alloc: Global, entrant: Entrant<'s, Bare, G, L>, f: F) -> R
 where
     J::In: Send + Sync,
     J::Out: Send,
     J::Inner: Send,
     <J::Inner as Nest>::Slots: Send + Sync,
     requires callable { F.IsAlwaysCallable f }
-    requires seats { AreSeatsAt tables.now seats }
-    ensures { (old : _) × (new : _) × (threads_of old ≡ tables.now.crew.most)
-        × (hands_of old ≡ tables.now.crew.threads)
+    ensures { (old : _) × (new : _) × (threads_of old ≡ entrant.entry.tables.now.crew.most)
+        × (hands_of old ≡ entrant.entry.tables.now.crew.threads)
         × FnOnceReturnsAtMut F.FnOnce f old result new }
 {
+    let Entrant {
+        tables,
+        workspace,
+        pool,
+        seats,
+    } = entrant;
     let (post, runner) = muster::<_, Bare, J, G, L, H>(
         scope, rt, alloc, tables, workspace, pool, seats,
     );

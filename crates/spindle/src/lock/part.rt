@@ -50,7 +50,7 @@ pub trait TakesPart<D: Slots, L>: Job {
 
 impl<J: Opens<L>, L> TakesPart<Bare, L> for J {
     fn children(workspace: &L) -> &<J::Inner as Nest>::Slots {
-        J::slots(workspace)
+        <J as Opens<L>>::children(workspace)
     }
 
     fn members<'a>(tables: &'a Tables<Bare>) -> Members<'a> {
@@ -75,7 +75,7 @@ impl<J: Job> TakesPart<Pieces<PieceOf<J>>, SlotWorkspace<J>> for J {
     }
 
     fn members<'a>(tables: &'a Tables<Pieces<PieceOf<J>>>) -> Members<'a> {
-        Members::Fixed(tables.round.init().current_num_threads())
+        Members::Present(&tables.present)
     }
 
     fn take_part<'a, G: Gate, H: Threads + Wait + Sync>(

@@ -1,18 +1,15 @@
 //! Opening a root lock: its tables are made, its helpers start, and at its end they are dismissed and joined.
 ghost use Rattle.std.specs.Prelude.{◌≡◌, ◌<◌, IfOk, OnErr, IsErrOf};
 ghost use Rattle.std.specs.Fn.{FnOnceReturnsAtMut};
-ghost use denote.Param.Send.{IsSync};
 ghost use Rattle.spindle.specs.Leaders.{threads_of, hands_of};
 ghost use Rattle.spindle.specs.Locks.{lock_threads};
-ghost use Rattle.spindle.specs.Opening.{AreSeatsAt};
 
 use crate::crew::Crew;
-use crate::crew::seats::Seats;
 use crate::crew::tables::Tables;
 use crate::job::gate::Gate;
 use crate::job::nest::Nest;
 use crate::lock::leader::Leader;
-use crate::lock::opening::lead;
+use crate::lock::opening::{Entrant, lead};
 use crate::lock::pool::Pool;
 use crate::lock::workspace::Opens;
 use spindle_parts::fault::Fault;
@@ -53,7 +50,13 @@ where
     let (round, seat) = Round::new(alloc, crew.threads())?;
     let child_slots = J::Inner::slot_count(crew.threads());
     let (tables, seats) = Tables::new(alloc, crew, pool.limits(), child_slots, round, seat)?;
-    Ok(scoped(rt, alloc, &tables, &workspace, pool, seats, f))
+    let entrant = Entrant {
+        tables: &tables,
+        workspace: &workspace,
+        pool,
+        seats,
+    };
+    Ok(scoped(rt, alloc, entrant, f))
 }
 
 // Opens the scope of the helpers' threads, which joins them at its end.
@@ -64,24 +67,15 @@ fn scoped<
     F: FnOnce(&mut Leader<J, G, L>) -> R,
     L: Send + Sync,
     H: Threads + Wait + Sync,
->(
-    rt: &H,
-    alloc: Global,
-    tables: &Tables<Bare>,
-    workspace: &L,
-    pool: &Pool<G>,
-    seats: Seats<Bare>,
-    f: F,
-) -> R
+>(rt: &H, alloc: Global, entrant: Entrant<'_, Bare, G, L>, f: F) -> R
 where
     J::In: Send + Sync,
     J::Out: Send,
     J::Inner: Send,
     <J::Inner as Nest>::Slots: Send + Sync,
     requires callable { F.IsAlwaysCallable f }
-    requires seats { AreSeatsAt tables.now seats }
-    ensures { (old : _) × (new : _) × (threads_of old ≡ tables.now.crew.most)
-        × (hands_of old ≡ tables.now.crew.threads)
+    ensures { (old : _) × (new : _) × (threads_of old ≡ entrant.entry.tables.now.crew.most)
+        × (hands_of old ≡ entrant.entry.tables.now.crew.threads)
         × FnOnceReturnsAtMut F.FnOnce f old result new }
 {
     thread::scope(
@@ -89,11 +83,9 @@ where
         rt,
         |scope| -> R
             requires callable { F.IsAlwaysCallable f }
-            requires seats { AreSeatsAt tables.now seats }
-            requires sync { IsSync H.row }
-            ensures { (old : _) × (new : _) × (threads_of old ≡ tables.entry.now.crew.most)
-                × (hands_of old ≡ tables.entry.now.crew.threads)
+            ensures { (old : _) × (new : _) × (threads_of old ≡ entrant.entry.tables.now.crew.most)
+                × (hands_of old ≡ entrant.entry.tables.now.crew.threads)
                 × FnOnceReturnsAtMut F.FnOnce f old result new }
-        { lead::<_, J, G, R, F, L, H>(scope, rt, alloc, tables, workspace, pool, seats, f) },
+        { lead::<_, J, G, R, F, L, H>(scope, rt, alloc, entrant, f) },
     )
 }

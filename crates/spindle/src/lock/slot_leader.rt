@@ -6,7 +6,6 @@ ghost use Rattle.std.specs.Prelude.{◌≡◌, ◌<◌, ◌≤◌, IsNone};
 ghost use Rattle.spindle.specs.SlotLeaders.{threads_of, AnnouncedRest, IsAsBefore};
 
 use crate::crew::Crew;
-use crate::crew::members::Members;
 use crate::crew::slot_post::SlotPost;
 use crate::job::Job;
 use crate::job::gate::Gate;
@@ -47,7 +46,7 @@ impl<'a, J: OpensSlots<P>, G: Gate, P> SlotLeader<'a, J, G, P> {
         ensures leader { 0 < result }
         ensures most { result ≤ threads_of self.now }
     {
-        Members::Fixed(J::members(&self.post)).current(self.crew.most())
+        self.runner.site.members.current(self.crew.most())
     }
 
     /// The lock's threads.

@@ -5,20 +5,23 @@ ghost use Rattle.std.specs.Arc.{arc_value};
 ghost use denote.Param.Send.{IsSync};
 ghost use Rattle.spindle.specs.Locks.{lock_threads};
 ghost use Rattle.spindle.specs.Opening.{AreSeatsAt};
-ghost use Rattle.spindle.specs.SlotLeaders.{threads_of};
+ghost use Rattle.spindle.specs.SlotLeaders.{TakesLeaders, IsLeaderOf, threads_of};
 ghost use Rattle.spindle_rounds.specs.Seating.{HasSlots};
 
 use crate::crew::Crew;
+use crate::crew::limits::Limits;
 use crate::crew::seats::Seats;
 use crate::crew::slot_post::Newcomer;
 use crate::crew::tables::Tables;
 use crate::job::gate::Gate;
 use crate::job::nest::Nest;
 use crate::lock::opening::muster;
+use crate::lock::part::TakesPart;
 use crate::lock::pool::Pool;
 use crate::lock::slot_leader::SlotLeader;
 use crate::lock::slot_workspace::{MakesSlots, SlotWorkspace};
 use crate::pieces::of_kind::PieceOf;
+use crate::work::runner::Runner;
 use spindle_parts::fault::Fault;
 use spindle_rounds::round_table::pieces::Pieces;
 use spindle_rounds::round_table::slots::Slots;
@@ -26,14 +29,6 @@ use std::alloc::Global;
 use std::sync::{Arc, Wait};
 use std::thread;
 use std::thread::{Scope, Threads};
-
-/// What the leader of a lock with slots comes with: a share of the lock's tables, and its seats.
-#[derive(Drop)]
-struct Entrant<D: Slots> {
-    tables: Arc<Tables<D>>,
-    seats: Seats<D>,
-    slots: usize,
-}
 
 /// Opens a lock over jobs of kind J whose rounds have at most so many jobs, runs f with its leader, and closes the lock.
 ///
@@ -55,7 +50,7 @@ where
     <J::Inner as Nest>::Slots: Send + Sync,
     requires some { 0 < max_threads }
     requires slots { (1 ≤ slots) × (slots ≤ 4294967295) }
-    requires callable { F.IsAlwaysCallable f }
+    requires callable { TakesLeaders J.OpensSlots.slot_count slots F.FnOnce f }
     ensures promise { IfOk result (λ r. (old : _) × (new : _)
         × (threads_of old ≡ lock_threads pool.now.threads max_threads)
         × (J.OpensSlots.slot_count old.post ≡ slots)
@@ -64,16 +59,82 @@ where
 {
     let crew = Crew::new(pool.max_num_threads(), max_threads);
     let workspace = J::workspace(alloc, crew.threads())?;
-    let (round, seat) = J::rounds(alloc, crew.threads(), slots)?;
-    let child_slots = J::Inner::slot_count(crew.threads());
-    let (tables, seats) = Tables::new(alloc, crew, pool.limits(), child_slots, round, seat)?;
+    let (tables, seats) = make::<J, _, SlotWorkspace<J>, P>(alloc, crew, pool.limits(), slots)?;
     let tables = Arc::new(alloc, tables)?;
     let entrant = Entrant {
-        tables: Arc::try_clone(&tables)?,
+        tables: &*tables,
+        workspace: &workspace,
+        pool,
+        share: Arc::try_clone(&tables)?,
         seats,
         slots,
     };
-    Ok(scoped(rt, alloc, &*tables, &workspace, pool, entrant, f))
+    Ok(scoped(rt, alloc, entrant, f))
+}
+
+/// What the leader of a lock with slots comes to: the lock's tables, with a share of its own, what stands beside them, its pool,
+/// and its seats.
+#[derive(Drop)]
+pub(crate) struct Entrant<'s, D: Slots, G: Gate, L> {
+    pub(crate) tables: &'s Tables<D>,
+    pub(crate) workspace: &'s L,
+    pub(crate) pool: &'s Pool<G>,
+    pub(crate) share: Arc<Tables<D>>,
+    pub(crate) seats: Seats<D>,
+    pub(crate) slots: usize,
+    ghost same: { arc_value share ≡ tables.now },
+    ghost seated: { AreSeatsAt tables.now seats },
+    ghost many: { HasSlots tables.now.round.init slots },
+    ghost few: { (1 ≤ slots) × (slots ≤ 4294967295) },
+}
+
+impl<'s, D: Slots + Send + 's, G: Gate + Sync, L: Send + Sync> Entrant<'s, D, G, L> {
+    // Starts the helpers. The leader joins its barrier, and runs jobs with what comes beside.
+    pub(crate) fn muster<E, J: TakesPart<D, L> + Send + 's, H: Threads + Wait + Sync + 's>(
+        self,
+        scope: &Scope<'s, E>,
+        rt: &'s H,
+        alloc: Global,
+    ) -> (Newcomer<D>, Runner<'s, J, G>)
+    where
+        D::Slot: Send,
+        D::Note: Send,
+        J::In: Send + Sync,
+        J::Out: Send,
+        J::Inner: Send,
+        <J::Inner as Nest>::Slots: Send + Sync,
+        ensures slots { result.0.slots ≡ self.entry.slots }
+        ensures crew { result.1.site.crew ≡ self.entry.tables.now.crew }
+    {
+        let Entrant {
+            tables,
+            workspace,
+            pool,
+            share,
+            seats,
+            slots,
+        } = self;
+        let (post, runner) = muster::<E, D, J, G, L, H>(
+            scope, rt, alloc, tables, workspace, pool, seats,
+        );
+        (Newcomer::new(share, post, slots), runner)
+    }
+}
+
+// The tables of such a lock, and the leader's seats at them.
+pub(crate) fn make<J: MakesSlots<P, D, L>, D: Slots, L, P>(
+    alloc: Global,
+    crew: Crew,
+    limits: Limits,
+    slots: usize,
+) -> Result<(Tables<D>, Seats<D>), Fault>
+    ensures made { IfOk result (λ t. (t.0.crew ≡ crew) × AreSeatsAt t.0 t.1
+        × HasSlots t.0.round.init slots) }
+    ensures memory { OnErr result (IsErrOf result Fault.Memory) }
+{
+    let (round, seat) = J::rounds(alloc, crew.threads(), slots)?;
+    let child_slots = J::Inner::slot_count(crew.threads());
+    Tables::new(alloc, crew, limits, child_slots, round, seat)
 }
 
 // Opens the scope of the helpers' threads, which joins them at its end.
@@ -84,43 +145,27 @@ fn scoped<
     F: FnOnce(&mut SlotLeader<J, G, P>) -> R,
     P: Drop,
     H: Threads + Wait + Sync,
->(
-    rt: &H,
-    alloc: Global,
-    tables: &Tables<Pieces<PieceOf<J>>>,
-    workspace: &SlotWorkspace<J>,
-    pool: &Pool<G>,
-    entrant: Entrant<Pieces<PieceOf<J>>>,
-    f: F,
-) -> R
+>(rt: &H, alloc: Global, entrant: Entrant<'_, Pieces<PieceOf<J>>, G, SlotWorkspace<J>>, f: F) -> R
 where
     J::In: Send + Sync,
     J::Out: Send,
     J::Inner: Send,
     <J::Inner as Nest>::Slots: Send + Sync,
-    requires callable { F.IsAlwaysCallable f }
-    requires share { arc_value entrant.tables ≡ tables.now }
-    requires slots { HasSlots tables.now.round.init entrant.slots
-        × (1 ≤ entrant.slots) × (entrant.slots ≤ 4294967295) }
-    requires seats { AreSeatsAt tables.now entrant.seats }
-    ensures { (old : _) × (new : _) × (threads_of old ≡ tables.now.crew.most)
-        × (J.OpensSlots.slot_count old.post ≡ entrant.slots)
+    requires callable { TakesLeaders J.OpensSlots.slot_count entrant.slots F.FnOnce f }
+    ensures { let of = entrant.entry in (old : _) × (new : _)
+        × IsLeaderOf J.OpensSlots.slot_count of.tables.now.crew.most of.slots old
         × FnOnceReturnsAtMut F.FnOnce f old result new }
 {
     thread::scope(
         thread::scope_env(),
         rt,
         |scope| -> R
-            requires callable { F.IsAlwaysCallable f }
-            requires share { arc_value entrant.tables ≡ tables.now }
-            requires slots { HasSlots tables.now.round.init entrant.slots
-                × (1 ≤ entrant.slots) × (entrant.slots ≤ 4294967295) }
-            requires seats { AreSeatsAt tables.now entrant.seats }
+            requires callable { TakesLeaders J.OpensSlots.slot_count entrant.slots F.FnOnce f }
             requires sync { IsSync H.row }
-            ensures { (old : _) × (new : _) × (threads_of old ≡ tables.entry.now.crew.most)
-                × (J.OpensSlots.slot_count old.post ≡ entrant.slots)
+            ensures { let of = entrant.entry in (old : _) × (new : _)
+                × IsLeaderOf J.OpensSlots.slot_count of.tables.now.crew.most of.slots old
                 × FnOnceReturnsAtMut F.FnOnce f old result new }
-        { lead::<_, J, G, R, F, P, H>(scope, rt, alloc, tables, workspace, pool, entrant, f) },
+        { lead::<_, J, G, R, F, P, H>(scope, rt, alloc, entrant, f) },
     )
 }
 
@@ -138,10 +183,7 @@ fn lead<
     scope: &Scope<'s, E>,
     rt: &'s H,
     alloc: Global,
-    tables: &'s Tables<Pieces<PieceOf<J>>>,
-    workspace: &'s SlotWorkspace<J>,
-    pool: &'s Pool<G>,
-    entrant: Entrant<Pieces<PieceOf<J>>>,
+    entrant: Entrant<'s, Pieces<PieceOf<J>>, G, SlotWorkspace<J>>,
     f: F,
 ) -> R
 where
@@ -149,24 +191,13 @@ where
     J::Out: Send,
     J::Inner: Send,
     <J::Inner as Nest>::Slots: Send + Sync,
-    requires callable { F.IsAlwaysCallable f }
-    requires share { arc_value entrant.tables ≡ tables.now }
-    requires slots { HasSlots tables.now.round.init entrant.slots
-        × (1 ≤ entrant.slots) × (entrant.slots ≤ 4294967295) }
-    requires seats { AreSeatsAt tables.now entrant.seats }
-    ensures { (old : _) × (new : _) × (threads_of old ≡ tables.now.crew.most)
-        × (J.OpensSlots.slot_count old.post ≡ entrant.slots)
+    requires callable { TakesLeaders J.OpensSlots.slot_count entrant.slots F.FnOnce f }
+    ensures { let of = entrant.entry in (old : _) × (new : _)
+        × IsLeaderOf J.OpensSlots.slot_count of.tables.now.crew.most of.slots old
         × FnOnceReturnsAtMut F.FnOnce f old result new }
 {
-    let Entrant {
-        tables: share,
-        seats,
-        slots,
-    } = entrant;
-    let (post, runner) = muster::<_, Pieces<PieceOf<J>>, J, G, SlotWorkspace<J>, H>(
-        scope, rt, alloc, tables, workspace, pool, seats,
-    );
-    let mut newcomer = Some(Newcomer::new(share, post, slots));
+    let (newcomer, runner) = entrant.muster::<E, J, H>(scope, rt, alloc);
+    let mut newcomer = Some(newcomer);
     let mut leader = SlotLeader::new(runner, J::settle(&mut newcomer));
     let answer = f(&mut leader);
     leader.dismiss(rt);

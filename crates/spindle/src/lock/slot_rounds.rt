@@ -10,14 +10,14 @@ ghost use Rattle.spindle.specs.SlotLeaders.{threads_of, slots_of, slot_jobs, IsA
 use crate::job::gate::Gate;
 use crate::lists::SharedList;
 use crate::lock::slot_leader::SlotLeader;
-use crate::lock::slot_workspace::OpensSlots;
+use crate::lock::slot_workspace::PlaysPieces;
 use crate::pieces::runs::Pieces;
 use spindle_parts::fault::Fault;
 use std::alloc::Global;
 use std::sync::Wait;
 use std::thread::Threads;
 
-impl<'a, J: OpensSlots<P>, G: Gate, P> SlotLeader<'a, J, G, P> {
+impl<'a, J: PlaysPieces<P>, G: Gate, P> SlotLeader<'a, J, G, P> {
     /// Runs the items in `n_jobs` jobs, or in as many as there are items or slots where these are fewer. Each job runs a piece
     /// of the items, as `cut` cuts them. Outputs stand in the order of the items.
     ///
@@ -51,8 +51,6 @@ impl<'a, J: OpensSlots<P>, G: Gate, P> SlotLeader<'a, J, G, P> {
         let mut outputs = Vec::with_capacity(alloc, items.len())?;
         if jobs == 1 {
             let inputs = items.as_slice();
-            let members = self.current_num_threads();
-            self.runner.site = self.runner.site.counted(members);
             self.runner.run(rt, alloc, 0, None, inputs, &mut outputs);
         } else {
             let pieces = Pieces::new(SharedList::from_vec(alloc, items)?, jobs);
@@ -63,7 +61,7 @@ impl<'a, J: OpensSlots<P>, G: Gate, P> SlotLeader<'a, J, G, P> {
     }
 }
 
-impl<'a, J: OpensSlots<P, In = usize>, G: Gate, P> SlotLeader<'a, J, G, P> {
+impl<'a, J: PlaysPieces<P, In = usize>, G: Gate, P> SlotLeader<'a, J, G, P> {
     /// Runs the numbers from 0 up to `n_jobs`, the end not included, as `for_each` runs items in so many jobs. There are as
     /// many slots or more.
     pub fn for_each_raw<H: Threads + Wait + Sync>(

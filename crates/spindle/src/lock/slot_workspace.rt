@@ -58,6 +58,12 @@ pub trait OpensSlots<P>: Job + HasWorkspace<P> {
         ensures range { (1 ≤ result) × (result ≤ 4294967295) }
         ensures between { MayFill (Self.OpensSlots.view post.now) };
 
+    /// Wakes all who sleep.
+    fn wake<H: Wait>(rt: &H, post: &P);
+}
+
+/// The kinds of jobs whose leader with a post of type P plays rounds over lists of items.
+pub trait PlaysPieces<P>: OpensSlots<P> {
     /// A round over these pieces, whose outputs are put at the end of the list. Memory is refused before the publish alone.
     fn play<'a, G: Gate, H: Threads + Wait + Sync>(
         rt: &H,
@@ -82,12 +88,6 @@ pub trait OpensSlots<P>: Job + HasWorkspace<P> {
         ensures between { MayFill (Self.OpensSlots.view post.new) }
         ensures slots { Self.OpensSlots.slot_count post.new
             ≡ Self.OpensSlots.slot_count post.old };
-
-    /// How many members the lock's barrier has now.
-    fn members(post: &P) -> usize;
-
-    /// Wakes all who sleep.
-    fn wake<H: Wait>(rt: &H, post: &P);
 }
 
 /// How such a lock is made, where its round table has D's slots. Each kind of job has one D, `Pieces<PieceOf<J>>`.
@@ -145,6 +145,12 @@ impl<J: Job> OpensSlots<SlotPost<PieceOf<J>>> for J {
         post.slots()
     }
 
+    fn wake<H: Wait>(rt: &H, post: &SlotPost<PieceOf<J>>) {
+        post.tables.sleep.wake(rt);
+    }
+}
+
+impl<J: Job> PlaysPieces<SlotPost<PieceOf<J>>> for J {
     fn play<'a, G: Gate, H: Threads + Wait + Sync>(
         rt: &H,
         alloc: Global,
@@ -165,13 +171,5 @@ impl<J: Job> OpensSlots<SlotPost<PieceOf<J>>> for J {
         let played = table.play(rt, alloc, &mut barrier, runner, pieces, outputs);
         post.stance = Some(barrier.part());
         played
-    }
-
-    fn members(post: &SlotPost<PieceOf<J>>) -> usize {
-        post.tables.round.init().current_num_threads()
-    }
-
-    fn wake<H: Wait>(rt: &H, post: &SlotPost<PieceOf<J>>) {
-        post.tables.sleep.wake(rt);
     }
 }

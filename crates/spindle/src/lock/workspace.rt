@@ -15,7 +15,7 @@ use std::alloc::Global;
 /// What the threads of a lock over jobs of kind J share, beside the tables that every lock has.
 #[derive(Drop)]
 pub struct Workspace<J: Job> {
-    slots: <J::Inner as Nest>::Slots,
+    children: <J::Inner as Nest>::Slots,
     trays: Trays<J>,
 }
 
@@ -28,7 +28,7 @@ pub trait Opens<L>: Job + HasWorkspace<L> {
         ensures { OnErr result (IsErrOf result Fault.Memory) };
 
     /// The slots for the locks that its jobs open.
-    fn slots(workspace: &L) -> &<Self::Inner as Nest>::Slots;
+    fn children(workspace: &L) -> &<Self::Inner as Nest>::Slots;
 
     /// The trays of its pieces.
     fn trays(workspace: &L) -> &Trays<Self>;
@@ -41,13 +41,13 @@ impl<J: Job> HasWorkspace<Workspace<J>> for J {}
 
 impl<J: Job> Opens<Workspace<J>> for J {
     fn open(alloc: Global, threads: usize) -> Result<Workspace<J>, Fault> {
-        let slots = <J::Inner as Nest>::make(alloc, threads)?;
+        let children = <J::Inner as Nest>::make(alloc, threads)?;
         let trays = Trays::new(alloc, threads)?;
-        Ok(Workspace { slots, trays })
+        Ok(Workspace { children, trays })
     }
 
-    fn slots(workspace: &Workspace<J>) -> &<J::Inner as Nest>::Slots {
-        &workspace.slots
+    fn children(workspace: &Workspace<J>) -> &<J::Inner as Nest>::Slots {
+        &workspace.children
     }
 
     fn trays(workspace: &Workspace<J>) -> &Trays<J> {

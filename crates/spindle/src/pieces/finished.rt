@@ -1,11 +1,12 @@
 //! A piece that was run: its outputs answer its inputs.
-ghost use Rattle.std.specs.Prelude.{◌≡◌, ◌+◌, ◌≤◌, ◌↔◌, [], IsTrue, length, vec_len, vec_capacity};
-ghost use Rattle.std.specs.List.{AllZip};
+ghost use Rattle.std.specs.Prelude.{◌≡◌, ◌+◌, ◌≤◌, ◌↔◌, [], IsTrue, true, length, vec_len, vec_capacity};
+ghost use Rattle.std.specs.List.{AllZip, Any};
 ghost use Rattle.spindle.specs.Rounds.{AddsAnswers};
 
 use crate::job::Job;
 use crate::lists::are_equal;
 use crate::lists::run::ListRun;
+use crate::work::tally::has_failure;
 use spindle_rounds::round::finishing::Numbered;
 use std::alloc::Global;
 use std::marker::Model;
@@ -96,6 +97,13 @@ impl<J: Job> Finished<J> {
         ensures { IsTrue result ↔ ((self.now.number ≡ number) × (self.now.inputs ≡ items.now)) }
     {
         self.number() == number && are_equal(self.inputs(), items)
+    }
+
+    /// Whether one of the outputs is a failure.
+    pub(crate) fn has_failed(&self) -> bool
+        ensures { result ≡ true → Any J.fails self.now.outputs }
+    {
+        has_failure::<J>(self.outputs.as_slice())
     }
 
     /// Moves the outputs to the end of the list. What is left is a piece of nothing, with the room of its outputs.

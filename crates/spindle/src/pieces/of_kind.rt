@@ -1,7 +1,10 @@
 //! The pieces of a lock with slots, and what answers one.
+ghost use Rattle.std.specs.List.{AllZip};
 ghost use Rattle.spindle.specs.SlotRounds.{IsAnswerTo};
 
 use crate::job::Job;
+use crate::job::remake::Remakes;
+use crate::pieces::chunk::{Chunk, Remade};
 use crate::pieces::finished::Finished;
 use crate::pieces::ready::Ready;
 use spindle_rounds::round_table::pieces::Answers;
@@ -19,4 +22,17 @@ impl<J: Job> Answers for PieceOf<J> {
     type Answer = Finished<J>;
 
     ghost answers = { IsAnswerTo J.meets };
+}
+
+/// A piece in place is answered by what became of its items, each in its place.
+pub struct ChunkOf<J: Remakes> {
+    kind: PhantomData<J>,
+}
+
+impl<J: Remakes> Answers for ChunkOf<J> {
+    type Piece = Chunk<J::Item>;
+
+    type Answer = Remade<J::Item>;
+
+    ghost answers = { AllZip J.remade };
 }

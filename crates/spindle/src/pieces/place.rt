@@ -1,5 +1,6 @@
 //! The place of a piece in a tray: the piece until a thread takes it, and then what the thread brings back.
-ghost use Rattle.std.specs.Prelude.{◌≡◌, ◌+◌, ◌≤◌, ◌↔◌, None, Some, OnOk, OnErr, IfErr, IsTrue, IsOk, true, length, vec_len, vec_capacity};
+ghost use Rattle.std.specs.Prelude.{◌≡◌, ◌+◌, ◌≤◌, ◌↔◌, None, Some, OnOk, OnErr, IfErr, IfSome, IsSome, IsTrue, IsOk, true, length, vec_len, vec_capacity};
+ghost use Rattle.std.specs.List.{AllZip};
 ghost use Rattle.spindle.specs.Rounds.{AddsAnswers};
 ghost use Rattle.spindle.specs.Outputs.{IsDoneOf};
 ghost use Rattle.spindle.specs.Trays.{Awaits};
@@ -102,6 +103,22 @@ impl<J: Job> Place<J> {
         }
         self.finished = Some(finished);
         Ok(())
+    }
+
+    /// Takes the outputs of what was brought back, if it is the piece of a number with these items. Nothing stands here then.
+    pub(crate) fn take_outputs(&mut self, number: usize, items: &[J::In]) -> Option<Vec<J::Out>>
+        ensures answers { IfSome result (λ outputs. AllZip J.meets items.now outputs.items) }
+        ensures held { IsSome result ↔ IsDoneOf number items.now self.old.finished }
+        ensures number { self.new.number ≡ self.old.number }
+        ensures emptied { (self.new.ready ≡ None) × (self.new.finished ≡ None) }
+    {
+        self.ready = None;
+        let finished = self.finished.take()?;
+        if finished.is_of(number, items) {
+            Some(finished.into_outputs())
+        } else {
+            None
+        }
     }
 
     /// Moves the outputs of what was brought back to the end of the list, if it is the piece of a number with these items.

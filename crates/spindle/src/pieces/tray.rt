@@ -2,7 +2,7 @@
 //!
 //! A leader fills the trays before it publishes a round. Whoever claims a number takes its piece out of the tray where
 //! it was dealt, and brings it back there, run. After the round the leader empties the places.
-ghost use Rattle.std.specs.Prelude.{◌≡◌, ℕ, ◌≢◌, ◌+◌, ◌^◌, ◌<◌, ◌≤◌, ◌↔◌, [], true, Some, None, IsTrue, IsOk, IfOk, IfErr, OnOk, OnErr, length, map, take, slice_get, vec_len, vec_capacity};
+ghost use Rattle.std.specs.Prelude.{◌≡◌, ℕ, ◌≢◌, ◌+◌, ◌^◌, ◌<◌, ◌≤◌, ◌↔◌, [], true, Some, None, IsTrue, IsOk, IsSome, IfOk, IfErr, IfSome, OnOk, OnErr, length, map, take, slice_get, vec_len, vec_capacity};
 ghost use Rattle.std.specs.List.{AllZip};
 ghost use Rattle.spindle_parts.specs.Pieces.{counted, dealt};
 ghost use Rattle.spindle.specs.PieceRuns.{items_before};
@@ -103,6 +103,27 @@ impl<J: Job> Tray<J> {
         }
         let place = &mut self.places[at];
         place.put(finished)
+    }
+
+    /// Takes the outputs of what was brought back to a place, if it is the piece of a number with these items. Nothing stands
+    /// there then.
+    pub(crate) fn take_outputs(
+        &mut self,
+        at: usize,
+        number: usize,
+        items: &[J::In],
+    ) -> Option<Vec<J::Out>>
+        ensures answers { IfSome result (λ outputs. AllZip J.meets items.now outputs.items) }
+        ensures held { IsSome result
+            ↔ IsDoneOf number items.now (finished_at self.old.places.items at) }
+        ensures others { (k : ℕ) → k ≢ at
+            → slice_get self.new.places.items k ≡ slice_get self.old.places.items k }
+    {
+        if at >= self.places.len() {
+            return None;
+        }
+        let place = &mut self.places[at];
+        place.take_outputs(number, items)
     }
 
     /// Moves the outputs of so many pieces, whose places begin at `from`, to the end of the list. Ok exactly where each of

@@ -2,6 +2,8 @@
 //! they were dealt never wait for one another.
 ghost use Rattle.std.specs.Prelude.{◌≡◌, ◌<◌, ◌≤◌, [], IfOk, IfErr, IfSome, OnOk, OnErr, IsErrOf, length, vec_len, vec_capacity};
 ghost use Rattle.std.specs.List.{AllZip};
+ghost use Rattle.spindle.specs.PieceRuns.{piece_at};
+ghost use Rattle.spindle.specs.Reports.{IsNoted};
 
 use crate::job::Job;
 use crate::pieces::address::Address;
@@ -9,6 +11,7 @@ use crate::pieces::finished::Finished;
 use crate::pieces::ready::Ready;
 use crate::pieces::runs::Pieces;
 use crate::pieces::tray::Tray;
+use crate::work::tally::Tally;
 use crossbeam_utils::CachePadded;
 use spindle_parts::fault::Fault;
 use std::alloc::Global;
@@ -177,6 +180,46 @@ impl<J: Job> Trays<J> {
                 .gather(each, pieces, each * threads + thread, 1, outputs)?;
         }
         Ok(())
+    }
+}
+
+impl<J: Job> Trays<J> {
+    /// Notes what came of the pieces of a round that may stop, of which some are marked as left. The trays hold no piece
+    /// any more. Takes no memory.
+    pub(crate) fn tally<H: Wait>(
+        &self,
+        rt: &H,
+        pieces: &Pieces<J::In>,
+        left: &[bool],
+        tally: &mut Tally<J::Out>,
+    )
+        requires marks { length left.now ≡ pieces.now.count }
+        requires fresh { IsNoted J.meets J.fails
+            pieces.now.items pieces.now.count left.now 0 tally.old }
+        ensures noted { IsNoted J.meets J.fails
+            pieces.now.items pieces.now.count left.now pieces.now.count tally.new }
+    {
+        for number in 0..pieces.count() {
+            let outputs = self.take_outputs(rt, pieces, number);
+            tally.note::<J>(pieces, left, number, outputs);
+        }
+    }
+
+    // Takes the outputs of a piece, if it stands in its place, run.
+    fn take_outputs<H: Wait>(
+        &self,
+        rt: &H,
+        pieces: &Pieces<J::In>,
+        number: usize,
+    ) -> Option<Vec<J::Out>>
+        requires { number < pieces.now.count }
+        ensures { IfSome result (λ outputs.
+            AllZip J.meets (piece_at pieces.now.items pieces.now.count number) outputs.items) }
+    {
+        let address = Address::new(number, pieces.count(), self.trays.len());
+        self.trays[address.thread]
+            .lock(rt)
+            .take_outputs(address.place, number, pieces.piece(number))
     }
 }
 

@@ -1,12 +1,13 @@
 //! The work of one thread in a round whose pieces stand in the slots of the round table: whoever begins a number has its piece.
-ghost use Rattle.std.specs.Prelude.{◌≡◌, ◌≤◌, [], true, false, length, vec_capacity, OnOk, OnErr, IsErrOf};
+ghost use Rattle.std.specs.Prelude.{◌≡◌, ◌≤◌, ℕ, List, [], true, false, length, vec_capacity, OnOk, OnErr, IsErrOf};
 ghost use Rattle.std.specs.List.{AllZip};
 ghost use Rattle.std.proofs.Common.{refl, ◌∙◌};
 ghost use Rattle.spindle_rounds.specs.RoundConditions.{IsDone};
 ghost use Rattle.spindle_rounds.specs.Seating.{IsSameSeat};
 ghost use Rattle.spindle_rounds.specs.Holding.{Keeps};
 ghost use Rattle.spindle_rounds.specs.Working.{OnTask, PlayedRound};
-ghost use Rattle.spindle.specs.SlotRounds.{IsAnswerTo, LeadsIn};
+ghost use Rattle.spindle_rounds.specs.SlotLoops.{IsEmpty, IsPiece, Turning};
+ghost use Rattle.spindle.specs.SlotRounds.{IsAnswerTo, LeadsAt, LeadsIn, PlayedPieces};
 
 use crate::crew::phases::end_round;
 use crate::crew::post::Post;
@@ -24,7 +25,7 @@ use spindle_rounds::round::claim::Claimed;
 use spindle_rounds::round::party::{Party, Work};
 use spindle_rounds::round::task::Task;
 use spindle_rounds::round_table::Seat;
-use spindle_rounds::round_table::pieces::Pieces;
+use spindle_rounds::round_table::pieces::{Answers, Pieces, Stand};
 use std::alloc::Global;
 use std::sync::Wait;
 use std::thread::Threads;
@@ -67,9 +68,49 @@ impl<'a, J: Job> Post<'a, Pieces<PieceOf<J>>> {
     }
 }
 
+impl<'t, A: Answers> SlotTables<'t, Pieces<A>> {
+    /// A leader's round over the pieces in its slots: they are published, all threads run them, and after the round's end the
+    /// leader takes all slots out.
+    pub(crate) fn play_held<W: Work<Pieces<A>> + Drop, H: Threads + Wait + Sync>(
+        &self,
+        rt: &H,
+        barrier: &mut Barrier<'_, Pieces<A>>,
+        jobs: u64,
+        work: W,
+    )
+        requires leads { LeadsAt self.now.tables.now barrier.old }
+        requires pieces { Turning IsEmpty IsPiece self.now.slots jobs barrier.old.seat.me.1 }
+        requires counted { (2 ≤ jobs) × (jobs ≤ 4294967295) × (jobs ≤ self.now.slots) }
+        requires work { W.holds work [] }
+        requires alone { (w : W) (c : List (ℕ × Stand A.Piece A.Answer)) → W.keeps work w
+            → W.holds w c → c ≡ [] }
+        ensures leads { LeadsAt self.now.tables.now barrier.new }
+        ensures same { Keeps barrier.old barrier.new }
+        ensures answered { PlayedPieces A.answers self.now.slots jobs
+            barrier.old.seat.me barrier.new.seat.me }
+        ensures played { PlayedRound jobs barrier.old.seat.me.0 barrier.new.seat.me.0 }
+    {
+        let tables = self.tables;
+        tables.round.publish_held(&mut barrier.seat, jobs);
+        tables.sleep.wake(rt);
+        let task = Task {
+            jobs,
+            may_stop: false,
+        };
+        let party = Party {
+            round: &tables.round,
+            thread: 0,
+            task,
+        };
+        drop(party.work(rt, &mut barrier.seat, work));
+        end_round(rt, tables, barrier);
+        tables.round.take_answered(&mut barrier.seat, jobs);
+    }
+}
+
 impl<'t, J: Job> SlotTables<'t, Pieces<PieceOf<J>>> {
-    /// A leader's round: the pieces go into the slots and are published, all threads run them, and after the round's end the
-    /// leader takes the outputs out of the slots, in order. Memory is refused before the publish alone.
+    /// A leader's round: the pieces go into the slots, are played, and their outputs come out of the slots, in order. Memory is
+    /// refused before the publish alone.
     pub(crate) fn play<G: Gate, H: Threads + Wait + Sync>(
         &self,
         rt: &H,
@@ -92,29 +133,15 @@ impl<'t, J: Job> SlotTables<'t, Pieces<PieceOf<J>>> {
         ensures left { OnErr result (barrier.new.seat.me.0 ≡ barrier.old.seat.me.0) }
         ensures memory { OnErr result (IsErrOf result Fault.Memory) }
     {
-        let tables = self.tables;
-        let jobs = pieces.count() as u64;
         self.fill(alloc, &mut barrier.seat, pieces)?;
         runner.notices.end_rest();
-        tables.round.publish_held(&mut barrier.seat, jobs);
-        tables.sleep.wake(rt);
-        let task = Task {
-            jobs,
-            may_stop: false,
-        };
-        let party = Party {
-            round: &tables.round,
-            thread: 0,
-            task,
-        };
         let work = SlotWork {
             runner,
             alloc,
             leads: true,
         };
-        drop(party.work(rt, &mut barrier.seat, work));
-        end_round(rt, tables, barrier);
-        tables.round.take_answered(&mut barrier.seat, jobs);
+        let jobs = pieces.count() as u64;
+        self.play_held(rt, barrier, jobs, work);
         self.collect(&mut barrier.seat, pieces, outputs);
         Ok(())
     }
@@ -132,9 +159,8 @@ impl<'r, 'a, J: Job, G: Gate> Work<Pieces<PieceOf<J>>> for SlotWork<'r, 'a, J, G
         seat: &mut Seat<Pieces<PieceOf<J>>>,
         claimed: Claimed,
     ) {
-        let members = party.round.init().current_num_threads();
         let piece = party.round.take_piece(seat, &claimed);
-        let finished = self.run_piece(rt, members, piece);
+        let finished = self.run_piece(rt, piece);
         party.round.finish(seat, claimed, finished);
     }
 
@@ -144,19 +170,13 @@ impl<'r, 'a, J: Job, G: Gate> Work<Pieces<PieceOf<J>>> for SlotWork<'r, 'a, J, G
 }
 
 impl<'r, 'a, J: Job, G: Gate> SlotWork<'r, 'a, J, G> {
-    // Runs a piece. The lock's barrier has so many members now.
-    fn run_piece<H: Threads + Wait + Sync>(
-        &mut self,
-        rt: &H,
-        members: usize,
-        piece: Ready<J>,
-    ) -> Finished<J>
+    // Runs a piece.
+    fn run_piece<H: Threads + Wait + Sync>(&mut self, rt: &H, piece: Ready<J>) -> Finished<J>
         ensures answers { IsAnswerTo J.meets piece result }
         ensures leads { self.new.leads ≡ self.old.leads }
     {
         let number = piece.number();
         let (inputs, mut outputs) = piece.into_parts();
-        self.runner.site = self.runner.site.counted(members);
         let index = self.runner.site.index;
         let items = inputs.as_slice();
         self.runner

@@ -2,7 +2,7 @@
 ghost use Rattle.std.specs.Prelude.{◌≡◌, ◌≤◌, false};
 ghost use Rattle.spindle_rounds.specs.RoundConditions.{IsDone};
 ghost use Rattle.spindle_rounds.specs.Seating.{IsSameSeat};
-ghost use Rattle.spindle_rounds.specs.Working.{OnTask, PlayedRound};
+ghost use Rattle.spindle_rounds.specs.Working.{OnTask, PlayedRoundOf};
 
 use crate::crew::leader_post::LeaderPost;
 use crate::crew::phases::{end_round, publish};
@@ -11,6 +11,7 @@ use crate::job::Job;
 use crate::job::gate::Gate;
 use crate::pieces::finished::Finished;
 use crate::pieces::trays::Trays;
+use crate::work::finishing::finish;
 use crate::work::runner::Runner;
 use spindle_rounds::round::claim::Claimed;
 use spindle_rounds::round::party::{Party, Work};
@@ -64,26 +65,22 @@ impl<'a> Post<'a, Bare> {
 }
 
 impl<'a> LeaderPost<'a, Bare> {
-    /// Publishes so many jobs, whose pieces stand in the trays, takes part, and waits until the round has ended.
+    /// Publishes a task, whose pieces stand in the trays, takes part, and waits until the round has ended.
     pub(crate) fn play<J: Job, G: Gate, H: Threads + Wait + Sync>(
         &mut self,
         rt: &H,
         alloc: Global,
         trays: &Trays<J>,
         runner: &mut Runner<'a, J, G>,
-        jobs: u64,
+        task: Task,
     )
-        requires counted { (2 ≤ jobs) × (jobs ≤ 4294967295) }
-        ensures played { PlayedRound jobs
+        requires counted { (2 ≤ task.jobs) × (task.jobs ≤ 4294967295) }
+        ensures played { PlayedRoundOf task.jobs task.may_stop
             self.old.post.barrier.seat.me.0 self.new.post.barrier.seat.me.0 }
         ensures tables { self.new.post.tables ≡ self.old.post.tables }
     {
         let post = &mut self.post;
         let tables = post.tables;
-        let task = Task {
-            jobs,
-            may_stop: false,
-        };
         publish(rt, tables, &mut post.barrier, &mut runner.notices, task);
         let party = Party {
             round: &tables.round,
@@ -117,7 +114,8 @@ impl<'t, 'r, 'a, J: Job, G: Gate> Work<Bare> for TrayWork<'t, 'r, 'a, J, G> {
     ) {
         let number = claimed.number() as usize;
         let finished = self.run_piece(rt, party.task.jobs as usize, number);
-        party.round.finish(seat, claimed, &finished);
+        let failed = party.task.may_stop && finished.has_failed();
+        finish(party, seat, claimed, &finished, failed);
         self.held = Some(finished);
     }
 

@@ -125,6 +125,6 @@ fn take_lead<'b, K: Opens<L>, L, H: Wait>(
     let notices = Notices::new(&tables.ledger, seats.ledger, tables.child_slots);
     let post = LeaderPost::new(Post::join(rt, tables, seats.round, 0));
     let site = tables.site(Members::Barrier(tables.round.init()), 0);
-    let runner = Runner::new(K::slots(workspace), gate, site, notices);
+    let runner = Runner::new(K::children(workspace), gate, site, notices);
     Leader::new(workspace, runner, post)
 }

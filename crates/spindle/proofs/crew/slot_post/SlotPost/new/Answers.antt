@@ -8,7 +8,8 @@ use Rattle.spindle.proofs.TrayPlaces.{some_is}
 use Rattle.spindle.proofs.crew.slot_post.SlotPost.new.Goals as goal
 
 pub invariant_of-result : goal.invariant_of-result
-invariant_of-result g c = let n = c.args.newcomer in let r = n.stands in let h = c.hold_slots.ensures in let me = h.step.1.2 in let u = ap (λ z. z.0.standing) me in
+invariant_of-result g c = let n = c.args.newcomer in let r = n.stands in let h = c.hold_slots.ensures in let me = h.step.1.2 in
+    let u = ap (λ z. z.0.standing) me in
     let f = ap (λ z. z.0.from) me in let t = ap (λ z. z.0.to) me in let i = r.5.1 in record {
       there = refl;
       stands = λ s e. subst (λ z. StandsAt n.tables.value z) (some_is e) (

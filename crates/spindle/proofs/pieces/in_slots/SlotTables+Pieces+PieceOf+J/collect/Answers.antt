@@ -1,5 +1,5 @@
 -- Each turn takes an answer out of the slot at the hand, and its outputs answer the next piece.
-use Rattle.std.proofs.Common.{◌≡◌, ◌≤◌, ◌+◌, ◌-◌, ◌<◌, ◌++◌, ℕ, [], length, vec_len, vec_capacity, refl, ap, ◌∙◌, sym, subst, arith}
+use Rattle.std.proofs.Common.{◌≡◌, ◌+◌, ◌-◌, ◌++◌, ℕ, [], length, refl, ap, ◌∙◌, sym, subst, arith}
 use Rattle.std.specs.List.{AllZip}
 use Rattle.spindle_rounds.specs.RoundPieces.{IsAtHand}
 use Rattle.spindle_rounds.specs.SlotHands.{turned_by}
@@ -9,7 +9,7 @@ use Rattle.spindle_rounds.proofs.SlotLoops.{turning_first, turning_head, turning
 use Rattle.spindle.proofs.Outputs.{AllZip-AddsAnswers}
 use Rattle.spindle.proofs.PieceRuns.{items_more, next_fits}
 use Rattle.spindle.proofs.SlotRounds.{Held, found_inputs, before_first}
-use Rattle.spindle.specs.PieceRuns.{items_before, piece_at}
+use Rattle.spindle.specs.PieceRuns.{items_before}
 use Rattle.spindle.proofs.pieces.in_slots.SlotTables+Pieces+PieceOf+J.collect.Goals as goal
 
 pub loop-slot-init : goal.loop-slot-init

@@ -1,6 +1,5 @@
 -- Each turn puts a piece into the slot at the hand; where one is refused, all slots are emptied.
-use Rattle.std.proofs.Common.{◌≡◌, ◌+◌, ℕ, refl, ap, ◌∙◌, sym, subst, arith}
-use Rattle.spindle_rounds.specs.declared.round_table.pieces.Stand.{Stand}
+use Rattle.std.proofs.Common.{◌+◌, refl, ap, ◌∙◌, sym, subst, arith}
 use Rattle.spindle_rounds.specs.SlotHands.{WaitsAs}
 use Rattle.spindle_rounds.specs.SlotLoops.{IsAny, IsEmpty, HoldsEach, Turning}
 use Rattle.spindle_rounds.proofs.SlotHands.{settled}

@@ -1,0 +1,19 @@
+-- The leader of the closure is one of this lock, with its slots.
+use Rattle.std.proofs.Common.{ap, refl, ◌∙◌}
+use Rattle.spindle.specs.declared.crew.Crew.{Crew}
+use Rattle.spindle.proofs.lock.place_root.lead.Goals as goal
+
+pub f-answer-requires : goal.f-answer-requires
+f-answer-requires g c = c.requires.callable c.new-leader.result
+    (ap g.J.OpensSlots.slot_count c.new-leader.ensures.post ∙ (c.settle.ensures _ refl ∙ c.muster-newcomer.ensures.slots)) _ refl
+
+pub returns : goal.returns
+returns g c = (
+  c.new-leader.result,
+  _,
+  (
+    c.new-leader.ensures.threads ∙ ap (λ (k : Crew). k.most) c.muster-newcomer.ensures.crew,
+    ap g.J.OpensSlots.slot_count c.new-leader.ensures.post ∙ (c.settle.ensures _ refl ∙ c.muster-newcomer.ensures.slots),
+  ),
+  record { shown = _; shows = refl; left = _; met = c.f-answer.ensures; leaves = refl },
+)

@@ -1,0 +1,7 @@
+-- Taking the chunk leaves the claim.
+use Rattle.std.proofs.Common.{sym, subst}
+use Rattle.spindle_rounds.specs.RoundConditions.{MayFinish}
+use Rattle.spindle.proofs.work.in_place.PlaceWorkWorkPiecesChunkOf.run.Goals as goal
+
+pub finish-requires-clause-own : goal.finish-requires-clause-own
+finish-requires-clause-own g c = subst (λ m. MayFinish c.args.claimed m.0) (sym c.take_piece-chunk.ensures.left) c.requires.own

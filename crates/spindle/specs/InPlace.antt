@@ -1,0 +1,29 @@
+-- Rounds in place: a list in chunks, and the room for them.
+use Rattle.std.specs.Prelude.{◌≡◌, ℕ, zero, suc, ◌-◌, ◌+◌, ◌/◌, ◌≤◌, List, [], ◌∷◌, ◌++◌, length}
+use Rattle.std.specs.List.{AllZip}
+use Rattle.spindle.specs.PieceRuns.{piece_at}
+
+-- the chunk of a number, of so many that these items are cut into, has the items of that piece
+abbrev pub IsChunkOf : {T : Type 0} → List T → (pieces : ℕ) → ℕ → List T → Type 0
+IsChunkOf items pieces number chunk = chunk ≡ piece_at items pieces number
+
+-- the last n pieces of so many, the last one first
+unfoldable pub last_pieces : {T : Type 0} → List T → (pieces n : ℕ) → List (List T)
+last_pieces items pieces zero = []
+last_pieces items pieces (suc n) = last_pieces items pieces n ++ piece_at items pieces (pieces - suc n) ∷ []
+
+-- each has room for so many items
+unfoldable pub HaveRoom : ℕ → List ℕ → Type 0
+HaveRoom items [] = Unit {0}
+HaveRoom items (room ∷ rooms) = (items ≤ room) × HaveRoom items rooms
+
+-- room is ready for so many items in so many chunks, and no chunk waits
+pub record IsReady {T : Type 0} (items jobs : ℕ) (ready : List ℕ) (waiting : List (List T)) (most : ℕ) : Type 0 where
+  pub rooms : HaveRoom (items / jobs + 1) ready
+  pub many : length ready ≡ jobs
+  pub none : waiting ≡ []
+  pub places : jobs ≤ most
+
+-- of these items those before the ones that are left were remade
+abbrev pub HasRemade : {T : Type 0} → (T → T → Type 0) → (items left done : List T) → Type 0
+HasRemade {T} Remade items left done = (before : List T) × (items ≡ before ++ left) × AllZip Remade before done

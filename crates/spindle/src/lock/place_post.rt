@@ -1,0 +1,224 @@
+//! The rounds in place of a leader that knows its post as a type P alone, and the post that it has.
+ghost use Rattle.std.specs.Prelude.{◌≡◌, ◌<◌, ◌≤◌, true, OnOk, OnErr, IsErrOf, vec_len, vec_capacity};
+ghost use Rattle.std.specs.List.{AllZip};
+ghost use denote.Param.Send.{IsSync};
+ghost use Rattle.spindle.specs.InPlace.{IsReady};
+ghost use Rattle.spindle.specs.SlotPosts.{view_in};
+ghost use Rattle.spindle_rounds.specs.RoundConditions.{MayFill};
+ghost use Rattle.spindle_rounds.specs.Working.{PlayedRound};
+
+use crate::crew::members::Members;
+use crate::crew::post::Post;
+use crate::crew::slot_post::{Newcomer, SlotPost};
+use crate::crew::slot_tables::SlotTables;
+use crate::crew::tables::Tables;
+use crate::job::gate::Gate;
+use crate::job::nest::Nest;
+use crate::job::remake::Remakes;
+use crate::job::sealed::HasWorkspace;
+use crate::lock::part::TakesPart;
+use crate::lock::slot_workspace::{MakesSlots, OpensSlots, SlotWorkspace};
+use crate::pieces::chunk::Chunk;
+use crate::pieces::of_kind::ChunkOf;
+use crate::pieces::store::Store;
+use crate::work::runner::Runner;
+use spindle_parts::fault::Fault;
+use spindle_rounds::round::Round;
+use spindle_rounds::round::task::Task;
+use spindle_rounds::round_table::Seat;
+use spindle_rounds::round_table::pieces::Pieces;
+use std::alloc::Global;
+use std::sync::Wait;
+use std::thread::Threads;
+
+/// The post of a leader that plays rounds in place, with the room that it keeps for them.
+#[derive(Drop)]
+pub struct PlacePost<J: Remakes> {
+    post: SlotPost<ChunkOf<J>>,
+    store: Option<Store<J::Item>>,
+}
+
+/// The kinds of jobs whose leader with a post of type P plays rounds in place.
+pub trait PlaysInPlace<P>: OpensSlots<P> + Remakes {
+    /// A round over these items in so many jobs, two at least. Memory is refused before the publish alone, and leaves the items as
+    /// they were.
+    fn play_in_place<'a, G: Gate, H: Threads + Wait + Sync>(
+        rt: &H,
+        alloc: Global,
+        post: &mut P,
+        runner: &mut Runner<'a, Self, G>,
+        jobs: usize,
+        items: &mut Vec<Self::Item>,
+    ) -> Result<(), Fault>
+        requires sync { IsSync H.row }
+        requires jobs { (2 ≤ jobs) × (jobs ≤ vec_len items.old)
+            × (jobs ≤ Self.OpensSlots.slot_count post.old) }
+        ensures remade { OnOk result (AllZip Self.Remakes.remade items.old.items items.new.items) }
+        ensures kept { OnErr result (items.new.items ≡ items.old.items) }
+        ensures memory { OnErr result (IsErrOf result Fault.Memory) }
+        ensures played { OnOk result (PlayedRound jobs
+            (Self.OpensSlots.view post.old) (Self.OpensSlots.view post.new)) }
+        ensures left { OnErr result
+            (Self.OpensSlots.view post.new ≡ Self.OpensSlots.view post.old) }
+        ensures between { MayFill (Self.OpensSlots.view post.new) }
+        ensures slots { Self.OpensSlots.slot_count post.new
+            ≡ Self.OpensSlots.slot_count post.old };
+
+    /// The same in one job, which the leader runs directly.
+    fn play_alone<'a, G: Gate, H: Threads + Wait + Sync>(
+        rt: &H,
+        alloc: Global,
+        post: &mut P,
+        runner: &mut Runner<'a, Self, G>,
+        items: &mut Vec<Self::Item>,
+    ) -> Result<(), Fault>
+        requires sync { IsSync H.row }
+        ensures remade { OnOk result (AllZip Self.Remakes.remade items.old.items items.new.items) }
+        ensures kept { OnErr result (items.new.items ≡ items.old.items) }
+        ensures memory { OnErr result (IsErrOf result Fault.Memory) }
+        ensures view { Self.OpensSlots.view post.new ≡ Self.OpensSlots.view post.old }
+        ensures slots { Self.OpensSlots.slot_count post.new
+            ≡ Self.OpensSlots.slot_count post.old };
+}
+
+impl<J: Remakes> HasWorkspace<PlacePost<J>> for J {}
+
+impl<J: Remakes> TakesPart<Pieces<ChunkOf<J>>, SlotWorkspace<J>> for J {
+    fn children(workspace: &SlotWorkspace<J>) -> &<J::Inner as Nest>::Slots {
+        &workspace.children
+    }
+
+    fn members<'a>(tables: &'a Tables<Pieces<ChunkOf<J>>>) -> Members<'a> {
+        Members::Present(&tables.present)
+    }
+
+    fn take_part<'a, G: Gate, H: Threads + Wait + Sync>(
+        rt: &H,
+        alloc: Global,
+        _workspace: &SlotWorkspace<J>,
+        post: &mut Post<'a, Pieces<ChunkOf<J>>>,
+        runner: &mut Runner<'_, J, G>,
+        task: Task,
+    ) {
+        post.take_part_in_place(rt, alloc, runner, task);
+    }
+}
+
+impl<J: Remakes> OpensSlots<PlacePost<J>> for J {
+    type Note = Chunk<J::Item>;
+
+    ghost view = { λ post. view_in post.post.stance };
+
+    ghost slot_count = { λ post. post.post.slots };
+
+    fn slots(post: &PlacePost<J>) -> usize {
+        post.post.slots()
+    }
+
+    fn wake<H: Wait>(rt: &H, post: &PlacePost<J>) {
+        post.post.tables.sleep.wake(rt);
+    }
+}
+
+impl<J: Remakes> MakesSlots<PlacePost<J>, Pieces<ChunkOf<J>>, SlotWorkspace<J>> for J {
+    fn workspace(alloc: Global, threads: usize) -> Result<SlotWorkspace<J>, Fault> {
+        let children = <J::Inner as Nest>::make(alloc, threads)?;
+        Ok(SlotWorkspace { children })
+    }
+
+    fn rounds(
+        alloc: Global,
+        threads: usize,
+        slots: usize,
+    ) -> Result<(Round<Pieces<ChunkOf<J>>>, Seat<Pieces<ChunkOf<J>>>), Fault> {
+        Round::with_slots(alloc, threads, slots)
+    }
+
+    fn settle(newcomer: &mut Option<Newcomer<Pieces<ChunkOf<J>>>>) -> PlacePost<J> {
+        let Some(newcomer) = newcomer.take() else {
+            unreachable!()
+        };
+        PlacePost {
+            post: SlotPost::new(newcomer),
+            store: None,
+        }
+    }
+}
+
+impl<J: Remakes> PlaysInPlace<PlacePost<J>> for J {
+    fn play_in_place<'a, G: Gate, H: Threads + Wait + Sync>(
+        rt: &H,
+        alloc: Global,
+        post: &mut PlacePost<J>,
+        runner: &mut Runner<'a, J, G>,
+        jobs: usize,
+        items: &mut Vec<J::Item>,
+    ) -> Result<(), Fault> {
+        let mut store = post.room(alloc);
+        store.prepare(alloc, items.len(), jobs)?;
+        post.post.remake(rt, alloc, runner, &mut store, jobs, items);
+        post.store = Some(store);
+        Ok(())
+    }
+
+    fn play_alone<'a, G: Gate, H: Threads + Wait + Sync>(
+        rt: &H,
+        alloc: Global,
+        post: &mut PlacePost<J>,
+        runner: &mut Runner<'a, J, G>,
+        items: &mut Vec<J::Item>,
+    ) -> Result<(), Fault> {
+        let mut store = post.room(alloc);
+        let mut room = store.take(alloc);
+        room.reserve(items.len())?;
+        let chunk = room.load(items, 0);
+        let remade = runner.remake(rt, alloc, 0, None, chunk);
+        store.keep(remade.unload(items));
+        post.store = Some(store);
+        Ok(())
+    }
+}
+
+impl<J: Remakes> PlacePost<J> {
+    // The room that was kept, or none yet.
+    fn room(&mut self, alloc: Global) -> Store<J::Item>
+        ensures { self.new.post ≡ self.old.post }
+    {
+        match self.store.take() {
+            Some(store) => store,
+            None => Store::new(alloc),
+        }
+    }
+}
+
+impl<J: Remakes> SlotPost<ChunkOf<J>> {
+    // Plays a round in place at its barrier.
+    fn remake<G: Gate, H: Threads + Wait + Sync>(
+        &mut self,
+        rt: &H,
+        alloc: Global,
+        runner: &mut Runner<'_, J, G>,
+        store: &mut Store<J::Item>,
+        jobs: usize,
+        items: &mut Vec<J::Item>,
+    )
+        requires jobs { (2 ≤ jobs) × (jobs ≤ vec_len items.old) × (jobs ≤ self.old.slots) }
+        requires ready { IsReady (vec_len items.old) jobs store.old.ready.items
+            store.old.chunks.items (vec_capacity store.old.chunks) }
+        ensures remade { AllZip J.remade items.old.items items.new.items }
+        ensures played { PlayedRound jobs (view_in self.old.stance) (view_in self.new.stance) }
+        ensures slots { self.new.slots ≡ self.old.slots }
+    {
+        let Some(stance) = self.stance.take() else {
+            unreachable!()
+        };
+        let tables: &Tables<Pieces<ChunkOf<J>>> = &*self.tables;
+        let mut barrier = tables.round.init().resume(stance);
+        let table = SlotTables {
+            tables,
+            slots: self.slots,
+        };
+        table.remake(rt, alloc, &mut barrier, runner, store, jobs, items);
+        self.stance = Some(barrier.part());
+    }
+}

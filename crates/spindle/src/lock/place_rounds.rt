@@ -1,0 +1,56 @@
+//! Locks whose rounds are played in place: a job is given its item by value, and answers what becomes of it.
+ghost use Rattle.std.specs.Prelude.{◌≡◌, ◌<◌, ◌≤◌, IfOk, OnOk, OnErr, IsOk, IsErrOf, vec_len};
+ghost use Rattle.std.specs.List.{AllZip};
+ghost use Rattle.spindle.specs.SlotLeaders.{threads_of, slot_jobs, IsAsBefore, IsBetweenRounds, PlayedOnce};
+
+use crate::job::gate::Gate;
+use crate::lock::place_post::PlaysInPlace;
+use crate::lock::slot_leader::SlotLeader;
+use crate::lock::slot_workspace::OpensSlots;
+use spindle_parts::fault::Fault;
+use std::alloc::Global;
+use std::sync::Wait;
+use std::thread::Threads;
+
+impl<'a, J: PlaysInPlace<P>, G: Gate, P> SlotLeader<'a, J, G, P> {
+    /// Remakes the items in `n_jobs` jobs, or in as many as there are items or slots where these are fewer. What becomes of an item
+    /// stands in its place, and the list keeps its room. Each job remakes a piece of the items, as `cut` cuts them.
+    ///
+    /// One job is run by the leader directly. No items are no job: that round takes no memory. The lock keeps the room of a round
+    /// for later ones. A refusal leaves the items as they were, and may give up room that was kept.
+    pub fn remake_each<H: Threads + Wait + Sync>(
+        &mut self,
+        rt: &H,
+        alloc: Global,
+        n_jobs: usize,
+        items: &mut Vec<J::Item>,
+    ) -> Result<(), Fault>
+        requires jobs { 0 < vec_len items.old → 0 < n_jobs }
+        ensures remade { OnOk result (AllZip J.remade items.old.items items.new.items) }
+        ensures kept { OnErr result (items.new.items ≡ items.old.items) }
+        ensures memory { OnErr result (IsErrOf result Fault.Memory) }
+        ensures empty { vec_len items.old ≡ 0 → IsOk result }
+        ensures played { let jobs = slot_jobs J.OpensSlots.slot_count self.old (vec_len items.old) n_jobs in
+            OnOk result (2 ≤ jobs → PlayedOnce J.OpensSlots.view jobs self.old self.new) }
+        ensures direct { slot_jobs J.OpensSlots.slot_count self.old (vec_len items.old) n_jobs ≤ 1
+            → IsAsBefore J.OpensSlots.view self.old self.new }
+        ensures left { OnErr result (IsAsBefore J.OpensSlots.view self.old self.new) }
+        ensures between { IsBetweenRounds J.OpensSlots.view self.new }
+        ensures lock { threads_of self.new ≡ threads_of self.old }
+        ensures slots { IsAsBefore J.OpensSlots.slot_count self.old self.new }
+    {
+        let slots = J::slots(&self.post);
+        if items.is_empty() {
+            return Ok(());
+        }
+        let jobs = items.len().min(n_jobs.min(slots));
+        let (runner, post) = (&mut self.runner, &mut self.post);
+        let played = if jobs == 1 {
+            J::play_alone(rt, alloc, post, runner, items)
+        } else {
+            J::play_in_place(rt, alloc, post, runner, jobs, items)
+        };
+        let _slots = J::slots(&self.post);
+        played
+    }
+}

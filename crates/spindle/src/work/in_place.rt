@@ -1,0 +1,173 @@
+//! The work of one thread in a round in place: whoever begins a number has its chunk, and puts back what became of the items.
+ghost use Rattle.std.specs.Prelude.{◌≡◌, ◌≤◌, ◌<◌, ℕ, [], true, false, length, vec_len, vec_capacity};
+ghost use Rattle.std.specs.List.{AllZip};
+ghost use Rattle.std.specs.Option.{ForSome};
+ghost use Rattle.std.proofs.Common.{refl, ◌∙◌};
+ghost use Rattle.spindle_rounds.specs.RoundConditions.{IsDone};
+ghost use Rattle.spindle_rounds.specs.Seating.{IsSameSeat};
+ghost use Rattle.spindle_rounds.specs.Holding.{Keeps};
+ghost use Rattle.spindle_rounds.specs.Working.{OnTask, PlayedRound};
+ghost use Rattle.spindle.specs.InPlace.{IsReady};
+ghost use Rattle.spindle.specs.SlotRounds.{LeadsIn};
+
+use crate::crew::post::Post;
+use crate::crew::slot_tables::SlotTables;
+use crate::job::context::JobCx;
+use crate::job::gate::Gate;
+use crate::job::remake::Remakes;
+use crate::pieces::chunk::{Chunk, Remade};
+use crate::pieces::of_kind::ChunkOf;
+use crate::pieces::store::Store;
+use crate::work::runner::Runner;
+use spindle_rounds::barrier::Barrier;
+use spindle_rounds::round::claim::Claimed;
+use spindle_rounds::round::party::{Party, Work};
+use spindle_rounds::round::task::Task;
+use spindle_rounds::round_table::Seat;
+use spindle_rounds::round_table::pieces::Pieces;
+use std::alloc::Global;
+use std::sync::Wait;
+use std::thread::Threads;
+
+/// What remakes the chunks of slots. The leader holds no other slot meanwhile.
+#[derive(Drop)]
+struct PlaceWork<'r, 'a, J: Remakes, G: Gate> {
+    runner: &'r mut Runner<'a, J, G>,
+    alloc: Global,
+    leads: bool,
+}
+
+impl<'a, J: Remakes> Post<'a, Pieces<ChunkOf<J>>> {
+    /// Runs the jobs of a published round that are left for the thread.
+    pub(crate) fn take_part_in_place<G: Gate, H: Threads + Wait + Sync>(
+        &mut self,
+        rt: &H,
+        alloc: Global,
+        runner: &mut Runner<'_, J, G>,
+        task: Task,
+    )
+        requires task { OnTask task.jobs task.may_stop self.old.barrier.seat.me.0 }
+        requires helper { self.old.barrier.seat.me.0.leader ≡ false }
+        ensures post { (self.new.tables ≡ self.old.tables) × (self.new.thread ≡ self.old.thread) }
+        ensures leader { self.new.barrier.seat.me.0.leader ≡ false }
+        ensures done { IsDone self.new.barrier.seat.me.0 }
+        ensures seat { IsSameSeat self.old.barrier.seat self.new.barrier.seat }
+    {
+        let party = Party {
+            round: &self.tables.round,
+            thread: self.thread,
+            task,
+        };
+        let work = PlaceWork {
+            runner,
+            alloc,
+            leads: false,
+        };
+        drop(party.work(rt, &mut self.barrier.seat, work));
+    }
+}
+
+impl<'t, J: Remakes> SlotTables<'t, Pieces<ChunkOf<J>>> {
+    /// A leader's round in place, for which all room is ready: the items go into the slots, are remade, and come out of the slots,
+    /// in order.
+    pub(crate) fn remake<G: Gate, H: Threads + Wait + Sync>(
+        &self,
+        rt: &H,
+        alloc: Global,
+        barrier: &mut Barrier<'_, Pieces<ChunkOf<J>>>,
+        runner: &mut Runner<'_, J, G>,
+        store: &mut Store<J::Item>,
+        jobs: usize,
+        items: &mut Vec<J::Item>,
+    )
+        requires leads { LeadsIn self.now.tables.now barrier.old }
+        requires counted { (2 ≤ jobs) × (jobs ≤ 4294967295) × (jobs ≤ self.now.slots)
+            × (jobs ≤ vec_len items.old) }
+        requires ready { IsReady (vec_len items.old) jobs store.old.ready.items
+            store.old.chunks.items (vec_capacity store.old.chunks) }
+        ensures leads { LeadsIn self.now.tables.now barrier.new }
+        ensures same { Keeps barrier.old barrier.new }
+        ensures remade { AllZip J.remade items.old.items items.new.items }
+        ensures played { PlayedRound jobs barrier.old.seat.me.0 barrier.new.seat.me.0 }
+    {
+        let round = &self.tables.round;
+        self.fill_in_place(&mut barrier.seat, store, jobs, items);
+        runner.notices.end_rest();
+        let work = PlaceWork {
+            runner,
+            alloc,
+            leads: true,
+        };
+        self.play_held(rt, barrier, jobs as u64, work);
+        for slot in 0..jobs {
+            let remade = round.take_answer(&mut barrier.seat, slot);
+            store.keep(remade.unload(items));
+        }
+        round.turn_slots(&mut barrier.seat, jobs, self.slots);
+    }
+}
+
+impl<'r, 'a, J: Remakes, G: Gate> Work<Pieces<ChunkOf<J>>> for PlaceWork<'r, 'a, J, G> {
+    ghost holds = { λ work hands. work.leads ≡ true → hands ≡ [] };
+
+    ghost keeps = { λ old new. new.leads ≡ old.leads };
+
+    fn run<H: Threads + Wait + Sync>(
+        &mut self,
+        rt: &H,
+        party: &Party<'_, Pieces<ChunkOf<J>>>,
+        seat: &mut Seat<Pieces<ChunkOf<J>>>,
+        claimed: Claimed,
+    ) {
+        let chunk = party.round.take_piece(seat, &claimed);
+        let index = self.runner.site.index;
+        let number = claimed.number() as usize;
+        let remade = self.runner.remake(rt, self.alloc, number, index, chunk);
+        party.round.finish(seat, claimed, remade);
+    }
+
+    ghost keeps_same = { λ work. refl };
+
+    ghost keeps_then = { λ old then new a b. b ∙ a };
+}
+
+impl<'a, J: Remakes, G: Gate> Runner<'a, J, G> {
+    /// Remakes the items of a chunk, between the two calls of the gate.
+    pub(crate) fn remake<H: Threads + Wait + Sync>(
+        &mut self,
+        rt: &H,
+        alloc: Global,
+        number: usize,
+        index: Option<usize>,
+        chunk: Chunk<J::Item>,
+    ) -> Remade<J::Item>
+        requires index { ForSome index (λ i. i < self.old.site.crew.most) }
+        ensures remade { AllZip J.remade chunk result }
+        ensures site { self.new.site ≡ self.old.site }
+    {
+        let site = self.site.under(index);
+        let notices = self.notices.another();
+        let mut context = JobCx::new(Some(self.slots), notices, site);
+        self.gate.begun(number);
+        let remade = remake_each::<J, H>(rt, alloc, chunk, &mut context);
+        self.gate.done(number);
+        remade
+    }
+}
+
+// Remakes the items one after the other.
+fn remake_each<J: Remakes, H: Threads + Wait + Sync>(
+    rt: &H,
+    alloc: Global,
+    chunk: Chunk<J::Item>,
+    context: &mut JobCx<'_, J::Inner>,
+) -> Remade<J::Item>
+    ensures { AllZip J.remade chunk result }
+{
+    let (mut todo, mut done) = chunk.into_parts();
+    for _ in 0..todo.len() {
+        let mut item = Some(todo.take_last());
+        done.push_reserved(J::remake(rt, alloc, &mut item, context));
+    }
+    Remade::new(todo, done)
+}
