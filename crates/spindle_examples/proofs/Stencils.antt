@@ -1,7 +1,7 @@
 -- A stencil chunk by chunk is the stencil of all values.
-use Rattle.std.proofs.Common.{◌≡◌, ℕ, zero, suc, ◌+◌, ◌-◌, ◌*◌, ◌/◌, ◌<◌, ◌≤◌, List, [], ◌∷◌, ◌++◌, length, map, min, take, drop, get_or, refl, ap, sym, ◌∙◌, arith, append_assoc}
+use Rattle.std.proofs.Common.{◌≡◌, ℕ, zero, suc, ◌+◌, ◌-◌, ◌*◌, ◌/◌, ◌<◌, ◌≤◌, List, [], ◌∷◌, ◌++◌, length, map, min, take, drop, get_or, refl, ap, sym, ◌∙◌, arith}
 use mathlib.Core.Logic.{dite}
-use Rattle.std.proofs.lemmas.List.{map-append, append-nil, get_or-take, get_or-drop, length-drop, length-take}
+use Rattle.std.proofs.lemmas.List.{map-append, get_or-take, get_or-drop, length-take}
 use Rattle.std.proofs.lemmas.Grind.{div_ceil_times}
 use Rattle.std.proofs.Math.Decide.{dec_lt}
 use Rattle.std.specs.Int.{div_ceil}
@@ -9,33 +9,8 @@ use Rattle.spindle_parts.specs.Pieces.{joined, counted}
 use Rattle.spindle_parts.proofs.Lists.{counted_suc, joined_snoc, map_snoc}
 use Rattle.spindle.specs.Chunks.{ChunkView, chunk_from, chunks_around}
 use Rattle.spindle.proofs.Chunks.{begins_within}
+use Rattle.spindle_examples.proofs.Numbers.{counted_add, same_values}
 use Rattle.spindle_examples.specs.Stencil.{before, smooth_at, smooth_part, smooth}
-
--- so many numbers, and so many more behind them
-counted_add : (from n m : ℕ) → counted from (n + m) ≡ counted from n ++ counted (from + n) m
-counted_add from n zero = let e : n + 0 ≡ n = omega arith in ap (counted from) e ∙ sym (append-nil (counted from n))
-counted_add from n (suc m) =
-    let e : n + suc m ≡ suc (n + m) = omega arith in
-    let at : from + (n + m) ≡ from + n + m = omega arith in
-    ap (counted from) e
-    ∙ counted_suc from (n + m)
-    ∙ ap (λ l. l ++ (from + (n + m)) ∷ []) (counted_add from n m)
-    ∙ append_assoc (counted from n) (counted (from + n) m) ((from + (n + m)) ∷ [])
-    ∙ ap (λ k. counted from n ++ (counted (from + n) m ++ k ∷ [])) at
-    ∙ ap (λ l. counted from n ++ l) (sym (counted_suc (from + n) m))
-
--- two functions that agree from two places on
-same_values : (f g : ℕ → ℕ) (n from to : ℕ) → ((i : ℕ) → i < n → f (from + i) ≡ g (to + i)) → map f (counted from n) ≡ map g (counted to n)
-same_values f g zero from to e = refl
-same_values f g (suc n) from to e =
-    let here : from ≡ from + 0 = omega arith in
-    let there : to + 0 ≡ to = omega arith in
-    let first = ap f here ∙ e 0 (omega arith) ∙ ap g there in
-    let later = same_values f g n (from + 1) (to + 1) (λ i lt.
-    let a : from + 1 + i ≡ from + (i + 1) = omega arith in
-    let b : to + (i + 1) ≡ to + 1 + i = omega arith in
-    ap f a ∙ e (i + 1) (omega (arith, lt)) ∙ ap g b) in
-    λ j. first j ∷ later j
 
 -- behind a list's end is nothing
 past : (xs : List ℕ) (k : ℕ) → length xs ≤ k → get_or xs k 0 ≡ 0

@@ -1,2 +1,6 @@
 -- The definitions that contracts of this crate cite.
+pub mod Wrapping
+pub mod Prefix
+pub mod Product
+pub mod Batch
 pub mod Stencil

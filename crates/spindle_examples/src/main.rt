@@ -1,20 +1,41 @@
 //! Programs of the users' fields, each a few dozen lines over the public calls of `spindle`, with its contract in its own
-//! terms: a stencil of many passes.
+//! terms: a batch that loses nothing, prefix sums in two rounds, a matrix product, and a stencil of many passes.
 //!
 //! The program runs each once over fixed numbers, and prints what comes out. The tests compute the same plainly.
 #![tactic(auto)]
 
+mod batch;
+mod prefix;
+mod product;
 mod stencil;
 mod stop;
 #[cfg(test)]
 mod tests;
 
+use crate::batch::Order;
 use crate::stop::Stop;
 use spindle::lock::Pool;
 
 fn main(rt: HostRuntime) -> Result<(), Stop> {
     let alloc = rt.alloc();
     let pool = Pool::of_machine(&rt);
+    let many = Order {
+        count: 3,
+        price: 250,
+    };
+    let dear = Order {
+        count: 65536,
+        price: 65536,
+    };
+    let bills = batch::bills(&rt, alloc, &pool, 2, vec![in alloc; many, dear, many]?)?;
+    println!(rt; "batch {bills:?}")?;
+    let table = vec![in alloc; 3u64, 1, 4, 1, 5, 9, 2, 6]?;
+    let sums = prefix::summed(&rt, alloc, &pool, 3, table)?;
+    println!(rt; "prefix {sums:?}")?;
+    let rows = vec![in alloc; vec![in alloc; 1u64, 2, 3]?, vec![in alloc; 4u64, 5, 6]?]?;
+    let columns = vec![in alloc; 1u64, 0, 1, 0, 2, 2]?;
+    let entries = product::multiplied(&rt, alloc, &pool, 2, rows, columns)?;
+    println!(rt; "product {entries:?}")?;
     let heat = vec![in alloc; 0u32, 0, 0, 0, 4096, 0, 0, 0, 0]?;
     let smooth = stencil::smoothed(&rt, alloc, &pool, 4, heat, 8)?;
     println!(rt; "stencil {smooth:?}")?;

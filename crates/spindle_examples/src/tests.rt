@@ -1,6 +1,7 @@
 //! The examples against the same computed plainly, over random inputs, with one thread and with several.
 
-use crate::stencil;
+use crate::batch::Order;
+use crate::{batch, prefix, product, stencil};
 use spindle::Fault;
 use spindle::lock::{Limits, NoGate, Pool};
 use std::alloc::Global;
@@ -17,6 +18,14 @@ fn numbers(alloc: Global, state: &mut u64, count: usize) -> Result<Vec<u32>, Fau
     let mut numbers = Vec::new(alloc);
     for _ in 0..count {
         numbers.push(next(state))?;
+    }
+    Ok(numbers)
+}
+
+fn wide_numbers(alloc: Global, state: &mut u64, count: usize) -> Result<Vec<u64>, Fault> {
+    let mut numbers = Vec::new(alloc);
+    for _ in 0..count {
+        numbers.push(u64::from(next(state)) << 31)?;
     }
     Ok(numbers)
 }
@@ -57,6 +66,94 @@ fn a_stencil_in_chunks_is_one_over_all_values(rt: HostRuntime) -> Result<(), Fau
                 assert_eq!(rt; smooth, plain.clone()?, "{count} values, chunks of {size}");
                 plain = plain_pass(alloc, plain.as_slice())?;
             }
+        }
+    }
+    Ok(())
+}
+
+// The sums up to each value, in 64 bits.
+fn plain_sums(alloc: Global, values: &[u64]) -> Result<Vec<u64>, Fault> {
+    let mut sums = Vec::new(alloc);
+    let mut total = 0u64;
+    for value in values {
+        total = total.wrapping_add(*value);
+        sums.push(total)?;
+    }
+    Ok(sums)
+}
+
+#[test]
+fn prefix_sums_in_two_rounds_are_those_of_one_loop(rt: HostRuntime) -> Result<(), Fault> {
+    let alloc = rt.alloc();
+    let mut state = 3;
+    for count in [0, 1, 2, 3, 10, 257] {
+        let values = wide_numbers(alloc, &mut state, count)?;
+        let plain = plain_sums(alloc, values.as_slice())?;
+        for (threads, pieces) in [(1, 1), (1, 3), (4, 2), (4, 64), (4, 1000)] {
+            let pool = Pool::new(threads, Limits::new(), NoGate);
+            let sums = prefix::summed(&rt, alloc, &pool, pieces, values.clone()?)?;
+            assert_eq!(rt; sums, plain.clone()?, "{count} values in {pieces} pieces");
+        }
+    }
+    Ok(())
+}
+
+// The sum of the products of a row and what stands in the columns from one place on, in 64 bits.
+fn plain_entry(row: &[u64], columns: &[u64], from: usize) -> u64 {
+    let mut sum = 0u64;
+    for (left, right) in row.iter().zip(columns.iter().skip(from)) {
+        sum = sum.wrapping_add(left.wrapping_mul(*right));
+    }
+    sum
+}
+
+#[test]
+fn a_product_by_blocks_is_the_one_entry_by_entry(rt: HostRuntime) -> Result<(), Fault> {
+    let alloc = rt.alloc();
+    let mut state = 5;
+    for (rows, inner, columns) in [(0, 3, 3), (1, 1, 1), (3, 2, 10), (17, 30, 570)] {
+        let mut left = Vec::new(alloc);
+        for _ in 0..rows {
+            left.push(wide_numbers(alloc, &mut state, inner)?)?;
+        }
+        let right = wide_numbers(alloc, &mut state, columns)?;
+        let mut plain = Vec::new(alloc);
+        for row in left.as_slice() {
+            for from in (0..columns).step_by(inner) {
+                plain.push(plain_entry(row.as_slice(), right.as_slice(), from))?;
+            }
+        }
+        for (threads, jobs) in [(1, 1), (1, 3), (4, 2), (4, 40)] {
+            let pool = Pool::new(threads, Limits::new(), NoGate);
+            let (left, right) = (left.clone()?, right.clone()?);
+            let entries = product::multiplied(&rt, alloc, &pool, jobs, left, right)?;
+            assert_eq!(rt; entries, plain.clone()?, "{rows} rows in {jobs} jobs");
+        }
+    }
+    Ok(())
+}
+
+#[test]
+fn each_order_of_a_batch_has_its_bill(rt: HostRuntime) -> Result<(), Fault> {
+    let alloc = rt.alloc();
+    let mut state = 7;
+    for size in [0, 1, 2, 3, 10, 257] {
+        let mut orders = Vec::new(alloc);
+        let mut plain = Vec::new(alloc);
+        for _ in 0..size {
+            let (count, price) = (next(&mut state) >> 16, next(&mut state) >> 15);
+            let due = u64::from(count) * u64::from(price);
+            orders.push(Order { count, price })?;
+            plain.push(if due >> 32 == 0 {
+                Some(due as u32)
+            } else {
+                None
+            })?;
+        }
+        for (threads, jobs) in [(1, 1), (1, 3), (4, 2), (4, 300)] {
+            let pool = Pool::new(threads, Limits::new(), NoGate);
+            let bills = batch::bills(&rt, alloc, &pool, jobs, orders.clone()?)?;
+            assert_eq!(rt; bills, plain.clone()?, "{size} orders in {jobs} jobs");
         }
     }
     Ok(())

@@ -1,2 +1,3 @@
 -- Lemmas of the program.
+pub mod Grids
 pub mod Said

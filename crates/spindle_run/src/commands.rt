@@ -1,4 +1,5 @@
 //! The commands: what each makes of its numbers, its input and its output.
+use crate::grid::{ends, grid};
 use crate::output::write_line;
 use crate::squares::{squares, squares_in_slots};
 use crate::steps::play;
@@ -46,6 +47,20 @@ pub fn run<H: Threads + Wait + Sync, R: Read, W: Write>(
             let squares = squares_in_slots(rt, alloc, threads, jobs, slots, count)?;
             write_line(alloc, output, squares.as_slice())
         }
+        Command::Grid(plan) => {
+            let numbers = grid(rt, alloc, plan)?;
+            write_summary(alloc, output, numbers.as_slice())
+        }
         Command::Steps => play(alloc, input, output),
     }
+}
+
+// How many numbers there are, the least, and the greatest.
+fn write_summary<W: Write>(alloc: Global, output: &mut W, numbers: &[u32]) -> Result<(), Stop> {
+    let (least, greatest) = ends(numbers).unwrap_or((0, 0));
+    write_line(
+        alloc,
+        output,
+        &[numbers.len() as u64, u64::from(least), u64::from(greatest)],
+    )
 }

@@ -1,9 +1,11 @@
-//! The program `spindle-run`: cuts lists, squares numbers in a lock, and plays the machine of rounds.
+//! The program `spindle-run`: cuts lists, squares numbers in a lock, lets a grid of numbers grow by rounds in jobs, and
+//! plays the machine of rounds.
 //!
 //! `commands` has the public call, `words` what a command line says, `step_lines` what a line of steps says.
 #![tactic(auto)]
 
 mod commands;
+mod grid;
 mod numbers;
 mod output;
 mod squares;

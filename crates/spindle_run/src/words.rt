@@ -2,6 +2,7 @@
 ghost use Rattle.std.specs.Prelude.{◌≡◌, IfSome};
 ghost use Rattle.spindle_run.specs.Words.{IsInRange};
 
+use crate::grid::Plan;
 use crate::numbers::number_within;
 
 /// The longest list that `cut` cuts.
@@ -9,6 +10,12 @@ const LONGEST_LIST: u32 = 1000000;
 
 /// The most items, and the most jobs, of `squares` and of `slots`; and the most slots.
 const MOST_ITEMS: u32 = 100000;
+
+/// The most rows, and the most columns, of `grid`.
+const LONGEST_SIDE: u32 = 512;
+
+/// The most jobs of `grid`, by which its columns are shared out.
+const MOST_CHUNKS: u32 = 4096;
 
 /// The most threads of a lock.
 const MOST_THREADS: u32 = 64;
@@ -34,6 +41,9 @@ pub enum Command {
         jobs: u32,
         slots: u32,
     },
+    /// Prints how many numbers there are in a grid of so many rows and columns, and the least and the greatest of them, after
+    /// as many rounds as it has columns.
+    Grid(Plan),
     /// Plays the steps of the input on a fresh machine.
     Steps,
 }
@@ -48,6 +58,7 @@ impl Command {
             "cut" => cut(numbers),
             "squares" => squares(numbers),
             "slots" => slots(numbers),
+            "grid" => grid(numbers),
             "steps" if numbers.is_empty() => Some(Command::Steps),
             _ => None,
         }
@@ -97,4 +108,22 @@ fn slots(numbers: &[String]) -> Option<Command>
         }),
         _ => None,
     }
+}
+
+fn grid(numbers: &[String]) -> Option<Command>
+    ensures { IfSome result IsInRange }
+{
+    let [rows, columns, threads, jobs] = numbers else {
+        return None;
+    };
+    let rows = number_within(rows.as_str(), 1, LONGEST_SIDE)?;
+    let columns = number_within(columns.as_str(), 1, LONGEST_SIDE)?;
+    let threads = number_within(threads.as_str(), 1, MOST_THREADS)?;
+    let jobs = number_within(jobs.as_str(), 1, MOST_CHUNKS)?;
+    Some(Command::Grid(Plan {
+        rows,
+        columns,
+        threads,
+        jobs,
+    }))
 }

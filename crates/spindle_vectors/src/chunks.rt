@@ -2,6 +2,8 @@
 ghost use Rattle.std.specs.Prelude.{◌≡◌, ◌+◌, IfOk, map};
 ghost use Rattle.std.proofs.Common.{rules};
 
+#[cfg(test)]
+use crate::checks::{are, is};
 use spindle::lists::run::ListRun;
 use spindle::lock::{End, Job, JobCx};
 use std::alloc::{AllocError, Global};
@@ -62,7 +64,7 @@ mod tests {
         let Err(list) = list.try_into_vec() else {
             panic!(rt; "a clone is left");
         };
-        assert_eq!(rt; list.as_slice(), [4, 5, 6].as_slice());
+        are(&rt, list.as_slice(), &[4, 5, 6]);
         drop(clone);
         let run = list.run(1, 3)?;
         let Err(list) = list.try_into_vec() else {
@@ -73,7 +75,7 @@ mod tests {
         let Ok(items) = list.try_into_vec() else {
             panic!(rt; "no clone is left");
         };
-        assert_eq!(rt; items.as_slice(), [4, 5, 6].as_slice());
+        are(&rt, items.as_slice(), &[4, 5, 6]);
         Ok(())
     }
 
@@ -98,12 +100,12 @@ mod tests {
         let alloc = rt.alloc();
         let list = SharedList::from_vec(alloc, vec![in alloc; 1u64, 2, 3, 4, 5]?)?;
         let runs = list.share_out(alloc, &[2, 0, 3])?;
-        assert_eq!(rt; runs.len(), 3);
+        is(&rt, runs.len(), 3);
         assert!(rt;
             is_run(&runs[0], &[1, 2]) && is_run(&runs[1], &[]) && is_run(&runs[2], &[3, 4, 5])
         );
         let inner = runs[2].share_out(alloc, &[1, 2])?;
-        assert_eq!(rt; inner.len(), 2);
+        is(&rt, inner.len(), 2);
         assert!(rt; is_run(&inner[0], &[3]) && is_run(&inner[1], &[4, 5]));
         assert!(rt; is_run(&inner[1].run(1, 2)?, &[5]) && inner[1].clone()? == list.run(3, 5)?);
         let none = SharedList::from_vec(alloc, Vec::<u64>::new(alloc))?;
@@ -116,14 +118,12 @@ mod tests {
         let alloc = rt.alloc();
         let table = SharedList::from_vec(alloc, vec![in alloc; 0u32, 7, u32::MAX]?)?;
         let chunks = table.share_out(alloc, &[1, 2])?;
-        assert_eq!(rt; chunks.len(), 2);
-        assert_eq!(rt;
-            one_more(alloc, chunks[0].as_slice())?.as_slice(),
-            [1].as_slice()
-        );
-        assert_eq!(rt;
+        is(&rt, chunks.len(), 2);
+        are(&rt, one_more(alloc, chunks[0].as_slice())?.as_slice(), &[1]);
+        are(
+            &rt,
             one_more(alloc, chunks[1].as_slice())?.as_slice(),
-            [8, 4294967296].as_slice()
+            &[8, 4294967296],
         );
         Ok(())
     }

@@ -1,6 +1,7 @@
 //! Rows of lists that run outside a lock, and of a pool of the machine's size.
 
 use crate::callers;
+use crate::checks::{are, is};
 use crate::refusals::{are_seven_squares, seven_items};
 use spindle::lock::{Limits, NoGate, Pool};
 use spindle::{DEFAULT_PAUSE_LIMIT, DEFAULT_SPIN_LIMIT, Fault, for_each, for_each_raw};
@@ -30,7 +31,7 @@ fn three_numbers_and_one_more_each(rt: HostRuntime) -> Result<(), Fault> {
         let pool = Pool::new(threads, Limits::new(), NoGate);
         let numbers = vec![in alloc; 5u64, 6, 7]?;
         let more = for_each(&rt, alloc, &pool, 2, numbers, |x| x.wrapping_add(1))?;
-        assert_eq!(rt; more, vec![in alloc; 6, 7, 8]?);
+        are(&rt, &more, &[6, 7, 8]);
     }
     Ok(())
 }
@@ -40,7 +41,7 @@ fn four_numbers_are_squared_and_none_answer_nothing(rt: HostRuntime) -> Result<(
     let alloc = rt.alloc();
     let pool = Pool::new(2, Limits::new(), NoGate);
     let squares = for_each_raw(&rt, alloc, &pool, 4, |n| n.wrapping_mul(n))?;
-    assert_eq!(rt; squares, vec![in alloc; 0, 1, 4, 9]?);
+    are(&rt, &squares, &[0, 1, 4, 9]);
     let none = for_each_raw(&rt, alloc, &pool, 0, |n| n.wrapping_mul(n))?;
     assert!(rt; none.is_empty());
     Ok(())
@@ -71,8 +72,8 @@ fn lists_of_many_lengths_answer_as_a_plain_loop(rt: HostRuntime) -> Result<(), F
         for (threads, jobs) in [(1, 1), (1, 4), (2, 3), (4, 1), (4, 4), (4, usize::MAX)] {
             let pool = Pool::new(threads, Limits::new(), NoGate);
             let items = (0..length).collect(alloc)?;
-            assert_eq!(rt; for_each(&rt, alloc, &pool, jobs, items, f)?, plain);
-            assert_eq!(rt; for_each_raw(&rt, alloc, &pool, length, f)?, plain);
+            are(&rt, &for_each(&rt, alloc, &pool, jobs, items, f)?, &plain);
+            are(&rt, &for_each_raw(&rt, alloc, &pool, length, f)?, &plain);
         }
     }
     Ok(())
@@ -87,7 +88,7 @@ fn a_closure_takes_the_words_of_a_list_away(rt: HostRuntime) -> Result<(), Fault
     let join = String::from_str(alloc, "join")?;
     let words = vec![in alloc; fork, and, join]?;
     let lengths = for_each(&rt, alloc, &pool, 3, words, |word| word.len())?;
-    assert_eq!(rt; lengths, vec![in alloc; 4, 3, 4]?);
+    are(&rt, &lengths, &[4, 3, 4]);
     Ok(())
 }
 
@@ -100,9 +101,9 @@ fn a_closure_is_called_once_for_each_number(rt: HostRuntime) -> Result<(), Fault
         let before = for_each_raw(&rt, alloc, &pool, 9, |_n| {
             calls.fetch_add(1, Ordering::SeqCst)
         })?;
-        assert_eq!(rt; before.len(), 9);
+        is(&rt, before.len(), 9);
     }
-    assert_eq!(rt; calls.load(Ordering::SeqCst), 450);
+    is(&rt, calls.load(Ordering::SeqCst), 450);
     Ok(())
 }
 
@@ -122,10 +123,10 @@ fn two_items_run_side_by_side(rt: HostRuntime) -> Result<(), Fault> {
             items,
             |()| meet(&begun, 2, MOST_TURNS),
         )?;
-        assert_eq!(rt; met, vec![in alloc; true, true]?);
+        are(&rt, &met, &[true, true]);
         let begun = AtomicUsize::new(0);
         let met = for_each_raw(&rt, alloc, &pool, 2, |_n| meet(&begun, 2, MOST_TURNS))?;
-        assert_eq!(rt; met, vec![in alloc; true, true]?);
+        are(&rt, &met, &[true, true]);
     }
     Ok(())
 }
@@ -137,7 +138,7 @@ fn a_pool_of_one_thread_runs_item_after_item(rt: HostRuntime) -> Result<(), Faul
     let begun = AtomicUsize::new(0);
     let items = vec![in alloc; (), ()]?;
     let met = for_each(&rt, alloc, &pool, 2, items, |()| meet(&begun, 2, 100000))?;
-    assert_eq!(rt; met, vec![in alloc; false, true]?);
+    are(&rt, &met, &[false, true]);
     let turn = AtomicUsize::new(0);
     let turns = for_each_raw(
         &rt,
@@ -146,7 +147,7 @@ fn a_pool_of_one_thread_runs_item_after_item(rt: HostRuntime) -> Result<(), Faul
         5000,
         |_n| turn.fetch_add(1, Ordering::SeqCst),
     )?;
-    assert_eq!(rt; turns, (0..5000).collect::<Vec<usize>>(alloc)?);
+    are(&rt, &turns, &(0..5000).collect::<Vec<usize>>(alloc)?);
     Ok(())
 }
 
@@ -158,19 +159,19 @@ fn a_pool_of_the_machine_has_as_many_threads_as_std_tells(rt: HostRuntime) -> Re
         Err(_) => 1,
     };
     let pool = Pool::of_machine(&rt);
-    assert_eq!(rt; pool.max_num_threads(), threads);
+    is(&rt, pool.max_num_threads(), threads);
     let by_lock = callers::squares(&rt, alloc, &pool, 3, vec![in alloc; 0, 1, 2, 3]?)?;
     let numbers = vec![in alloc; 0, 1, 2, 3]?;
     let by_list = callers::squares_without_a_lock(&rt, alloc, &pool, 3, numbers)?;
-    assert_eq!(rt; by_lock, vec![in alloc; 0, 1, 4, 9]?);
-    assert_eq!(rt; by_list, vec![in alloc; 0, 1, 4, 9]?);
+    are(&rt, &by_lock, &[0, 1, 4, 9]);
+    are(&rt, &by_list, &[0, 1, 4, 9]);
     Ok(())
 }
 
 #[test]
 fn new_limits_are_the_defaults(rt: HostRuntime) -> Result<(), Fault> {
-    assert_eq!(rt; Limits::new().spin, DEFAULT_SPIN_LIMIT);
-    assert_eq!(rt; Limits::new().pause, DEFAULT_PAUSE_LIMIT);
+    is(&rt, Limits::new().spin, DEFAULT_SPIN_LIMIT);
+    is(&rt, Limits::new().pause, DEFAULT_PAUSE_LIMIT);
     Ok(())
 }
 

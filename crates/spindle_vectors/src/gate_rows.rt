@@ -1,6 +1,7 @@
 //! Rows of what gates see of jobs: each job runs between its two calls, which it has once and in their order, and the
 //! jobs of one round meet where there are threads for them.
 
+use crate::checks::{are, is};
 use crate::gates::{Marks, Meetings, Noted, Noting, Watching};
 use crate::jobs::{Place, Square};
 use spindle::lock::{Limits, Pool};
@@ -26,9 +27,9 @@ fn each_job_runs_between_its_calls(rt: HostRuntime) -> Result<(), Fault> {
         with_lock::<Noting, _, _, _, _, _>(&rt, alloc, &pool, threads, |leader| {
             for round in 1..=25usize {
                 let numbers = leader.for_each(&rt, alloc, 4, four_jobs(alloc, &marks)?)?;
-                assert_eq!(rt; numbers, vec![in alloc; 0, 1, 2, 3]?);
+                are(&rt, &numbers, &[0, 1, 2, 3]);
                 for job in 0..4 {
-                    assert_eq!(rt; marks.runs_of(job), round);
+                    is(&rt, marks.runs_of(job), round);
                 }
             }
             Ok::<(), Fault>(())
@@ -52,7 +53,7 @@ fn eight_jobs_of_eight_threads_run_at_once(rt: HostRuntime) -> Result<(), Fault>
         }
         Ok::<(), Fault>(())
     })??;
-    assert_eq!(rt; meetings.counts(), (24, 0));
+    is(&rt, meetings.counts(), (24, 0));
     Ok(())
 }
 
@@ -63,11 +64,11 @@ fn helpers_stay_after_a_hundred_rounds(rt: HostRuntime) -> Result<(), Fault> {
     with_lock::<Square, _, _, _, _, _>(&rt, alloc, &meetings.pool(4), 4, |leader| {
         for _ in 0..101 {
             let squares = leader.for_each_raw(&rt, alloc, 4)?;
-            assert_eq!(rt; squares, vec![in alloc; 0, 1, 4, 9]?);
-            assert_eq!(rt; leader.current_num_threads(), 4);
+            are(&rt, &squares, &[0, 1, 4, 9]);
+            is(&rt, leader.current_num_threads(), 4);
         }
         Ok::<(), Fault>(())
     })??;
-    assert_eq!(rt; meetings.counts(), (404, 0));
+    is(&rt, meetings.counts(), (404, 0));
     Ok(())
 }

@@ -3,6 +3,7 @@ ghost use Rattle.std.specs.Prelude.{◌≡◌, ◌∷◌, [], IfOk, length};
 ghost use Rattle.spindle.specs.Rounds.{items_of};
 
 use crate::callers::Square;
+use crate::checks::{are, is};
 use spindle::lists::SharedList;
 use spindle::lock::{Finished, gather};
 use spindle_parts::cut::Piece;
@@ -60,9 +61,9 @@ fn outputs_come_in_the_order_of_the_pieces(rt: HostRuntime) -> Result<(), Fail> 
     let alloc = rt.alloc();
     let (first, second) = (squared(alloc, 0, 1)?, squared(alloc, 1, 2)?);
     let (answer, room, full) = gathered(alloc, Some(first), Some(second))?;
-    assert_eq!(rt; answer, Ok(()));
-    assert_eq!(rt; room.as_slice(), [1, 4].as_slice());
-    assert_eq!(rt; full, 0);
+    is(&rt, answer, Ok(()));
+    are(&rt, room.as_slice(), &[1, 4]);
+    is(&rt, full, 0);
     Ok(())
 }
 
@@ -85,9 +86,9 @@ fn the_first_place_without_its_piece_is_lost(rt: HostRuntime) -> Result<(), Fail
         (exchanged, 0, 2),
         (other_inputs, 1, 2),
     ] {
-        assert_eq!(rt; answer, Err(lost));
+        is(&rt, answer, Err(lost));
         assert!(rt; room.is_empty());
-        assert_eq!(rt; full, left);
+        is(&rt, full, left);
     }
     Ok(())
 }
@@ -97,7 +98,7 @@ fn nothing_handed_out_is_gathered_without_memory(rt: HostRuntime) -> Result<(), 
     let alloc = rt.alloc();
     let mut room = Vec::new(alloc);
     let answer = gather::<Square>(&[], &mut Vec::new(alloc), &mut room);
-    assert_eq!(rt; answer, Ok(()));
+    is(&rt, answer, Ok(()));
     assert!(rt; room.is_empty());
     Ok(())
 }

@@ -1,6 +1,7 @@
 //! Rows of a leader's rounds, over jobs that open no locks.
 
 use crate::callers;
+use crate::checks::{are, is};
 use crate::jobs::{Calls, Counting, Nothing, Place, Square, Zero};
 use spindle::lock::{Limits, NoGate, Pool};
 use spindle::{Fault, with_lock};
@@ -12,10 +13,7 @@ fn ten_numbers_are_squared(rt: HostRuntime) -> Result<(), Fault> {
         let pool = Pool::new(threads, Limits::new(), NoGate);
         let numbers = vec![in alloc; 0, 1, 2, 3, 4, 5, 6, 7, 8, 9]?;
         let squares = callers::squares(&rt, alloc, &pool, jobs, numbers)?;
-        assert_eq!(rt;
-            squares,
-            vec![in alloc; 0, 1, 4, 9, 16, 25, 36, 49, 64, 81]?
-        );
+        are(&rt, &squares, &[0, 1, 4, 9, 16, 25, 36, 49, 64, 81]);
     }
     Ok(())
 }
@@ -28,7 +26,7 @@ fn a_lock_in_a_lock_answers_128_zeros(rt: HostRuntime) -> Result<(), Fault> {
     let zeros = with_lock::<Zero, _, _, _, _, _>(&rt, alloc, &pool, 16, |leader| {
         leader.with_lock(4, |leader| leader.for_each(&rt, alloc, 4, ones))
     })??;
-    assert_eq!(rt; zeros, Vec::from_elem(alloc, 0, 128)?);
+    are(&rt, &zeros, &Vec::from_elem(alloc, 0, 128)?);
     Ok(())
 }
 
@@ -39,7 +37,7 @@ fn two_units_answer_two_units(rt: HostRuntime) -> Result<(), Fault> {
     let units = with_lock::<Nothing, _, _, _, _, _>(&rt, alloc, &pool, 8, |leader| {
         leader.for_each(&rt, alloc, 2, vec![in alloc; (), ()]?)
     })??;
-    assert_eq!(rt; units.len(), 2);
+    is(&rt, units.len(), 2);
     Ok(())
 }
 
@@ -50,12 +48,12 @@ fn a_leader_has_no_number_between_rounds_nor_in_a_round_of_one_job(
     let alloc = rt.alloc();
     let pool = Pool::with_starts(4, Limits::new(), NoGate, 0);
     with_lock::<Place, _, _, _, _, _>(&rt, alloc, &pool, 16, |leader| {
-        assert_eq!(rt; leader.max_num_threads(), 4);
-        assert_eq!(rt; leader.current_thread_index(), None);
+        is(&rt, leader.max_num_threads(), 4);
+        is(&rt, leader.current_thread_index(), None);
         let direct = leader.for_each(&rt, alloc, 1, vec![in alloc; 0, 1]?)?;
-        assert_eq!(rt; direct, vec![in alloc; (None, 1, 4), (None, 1, 4)]?);
+        are(&rt, &direct, &[(None, 1, 4), (None, 1, 4)]);
         leader.relieve_workers();
-        assert_eq!(rt; leader.current_thread_index(), None);
+        is(&rt, leader.current_thread_index(), None);
         Ok::<(), Fault>(())
     })?
 }
@@ -65,10 +63,10 @@ fn a_leader_alone_has_number_0_in_a_round_of_two_jobs(rt: HostRuntime) -> Result
     let alloc = rt.alloc();
     let pool = Pool::new(16, Limits::new(), NoGate);
     let places = with_lock::<Place, _, _, _, _, _>(&rt, alloc, &pool, 1, |leader| {
-        assert_eq!(rt; leader.current_num_threads(), 1);
+        is(&rt, leader.current_num_threads(), 1);
         leader.for_each(&rt, alloc, 2, vec![in alloc; 0, 1]?)
     })??;
-    assert_eq!(rt; places, vec![in alloc; (Some(0), 1, 1), (Some(0), 1, 1)]?);
+    are(&rt, &places, &[(Some(0), 1, 1), (Some(0), 1, 1)]);
     Ok(())
 }
 
@@ -80,13 +78,13 @@ fn one_item_is_one_direct_job(rt: HostRuntime) -> Result<(), Fault> {
     let squares = with_lock::<Square, _, _, _, _, _>(&rt, alloc, &pool, 16, |leader| {
         leader.for_each(&rt, alloc, 8, vec![in alloc; 7]?)
     })??;
-    assert_eq!(rt; squares, vec![in alloc; 49]?);
-    assert_eq!(rt; calls.of_job(0), (1, 1));
-    assert_eq!(rt; calls.in_all(), (1, 1));
+    are(&rt, &squares, &[49]);
+    is(&rt, calls.of_job(0), (1, 1));
+    is(&rt, calls.in_all(), (1, 1));
     let places = with_lock::<Place, _, _, _, _, _>(&rt, alloc, &pool, 16, |leader| {
         leader.for_each(&rt, alloc, 8, vec![in alloc; 7]?)
     })??;
-    assert_eq!(rt; places, vec![in alloc; (None, 1, 16)]?);
+    are(&rt, &places, &[(None, 1, 16)]);
     Ok(())
 }
 
@@ -98,8 +96,8 @@ fn more_jobs_than_items_are_as_many_as_items(rt: HostRuntime) -> Result<(), Faul
     let squares = with_lock::<Square, _, _, _, _, _>(&rt, alloc, &pool, 16, |leader| {
         leader.for_each(&rt, alloc, usize::MAX, vec![in alloc; 1, 2, 3]?)
     })??;
-    assert_eq!(rt; squares, vec![in alloc; 1, 4, 9]?);
-    assert_eq!(rt; calls.in_all(), (3, 3));
+    are(&rt, &squares, &[1, 4, 9]);
+    is(&rt, calls.in_all(), (3, 3));
     Ok(())
 }
 
@@ -115,7 +113,7 @@ fn the_gate_is_called_once_before_and_once_after_each_job(rt: HostRuntime) -> Re
     for number in 0..4 {
         assert_eq!(rt; calls.of_job(number), (1, 1), "job {number}");
     }
-    assert_eq!(rt; calls.in_all(), (4, 4));
+    is(&rt, calls.in_all(), (4, 4));
     Ok(())
 }
 
@@ -125,8 +123,8 @@ fn numbers_alone_are_items_from_0(rt: HostRuntime) -> Result<(), Fault> {
     let pool = Pool::new(2, Limits::new(), NoGate);
     with_lock::<Square, _, _, _, _, _>(&rt, alloc, &pool, 2, |leader| {
         let squares = leader.for_each_raw(&rt, alloc, 4)?;
-        assert_eq!(rt; squares, vec![in alloc; 0, 1, 4, 9]?);
-        assert_eq!(rt; leader.for_each_raw(&rt, alloc, 1)?, vec![in alloc; 0]?);
+        are(&rt, &squares, &[0, 1, 4, 9]);
+        are(&rt, &leader.for_each_raw(&rt, alloc, 1)?, &[0]);
         Ok::<(), Fault>(())
     })?
 }
@@ -140,12 +138,12 @@ fn a_lock_has_the_least_of_three_numbers_of_threads(rt: HostRuntime) -> Result<(
         (1, 1, 1),
     ] {
         let pool = Pool::with_starts(pool_threads, Limits::new(), NoGate, 0);
-        assert_eq!(rt; pool.current_num_threads(), pool_threads);
-        assert_eq!(rt; pool.max_num_threads(), pool_threads);
-        assert_eq!(rt; pool.current_thread_index(), None);
+        is(&rt, pool.current_num_threads(), pool_threads);
+        is(&rt, pool.max_num_threads(), pool_threads);
+        is(&rt, pool.current_thread_index(), None);
         with_lock::<Zero, _, _, _, _, _>(&rt, rt.alloc(), &pool, most, |leader| {
-            assert_eq!(rt; leader.max_num_threads(), threads);
-            assert_eq!(rt; leader.current_num_threads(), 1);
+            is(&rt, leader.max_num_threads(), threads);
+            is(&rt, leader.current_num_threads(), 1);
         })?;
     }
     Ok(())
@@ -158,10 +156,7 @@ fn fewer_starts_change_no_answer(rt: HostRuntime) -> Result<(), Fault> {
         let pool = Pool::with_starts(4, Limits::new(), NoGate, starts);
         let numbers = vec![in alloc; 0, 1, 2, 3, 4, 5, 6, 7, 8, 9]?;
         let squares = callers::squares(&rt, alloc, &pool, 4, numbers)?;
-        assert_eq!(rt;
-            squares,
-            vec![in alloc; 0, 1, 4, 9, 16, 25, 36, 49, 64, 81]?
-        );
+        are(&rt, &squares, &[0, 1, 4, 9, 16, 25, 36, 49, 64, 81]);
     }
     Ok(())
 }
@@ -172,7 +167,7 @@ fn chunks_of_a_list_become_one_more(rt: HostRuntime) -> Result<(), Fault> {
     let pool = Pool::new(4, Limits::new(), NoGate);
     let numbers = vec![in alloc; 3, 1, 4, 1, 5, u32::MAX, 2]?;
     let sums = callers::one_more_each(&rt, alloc, &pool, 3, numbers)?;
-    assert_eq!(rt; sums, vec![in alloc; 4, 2, 5, 2, 6, 4294967296, 3]?);
+    are(&rt, &sums, &[4, 2, 5, 2, 6, 4294967296, 3]);
     let none = callers::one_more_each(&rt, alloc, &pool, 3, Vec::new(alloc))?;
     assert!(rt; none.is_empty());
     Ok(())
@@ -192,8 +187,8 @@ fn one_thread_and_many_answer_alike(rt: HostRuntime) -> Result<(), Fault> {
         numbers,
         equal_numbers,
     )?;
-    assert_eq!(rt; by_one, vec![in alloc; 4, 9, 25]?);
-    assert_eq!(rt; by_many, vec![in alloc; 4, 9, 25]?);
+    are(&rt, &by_one, &[4, 9, 25]);
+    are(&rt, &by_many, &[4, 9, 25]);
     Ok(())
 }
 
@@ -206,7 +201,7 @@ fn two_rounds_of_one_leader_answer_both_lists(rt: HostRuntime) -> Result<(), Fau
         let second = vec![in alloc; 7, 11]?;
         callers::two_rounds(&rt, alloc, leader, 2, first, second)
     })??;
-    assert_eq!(rt; first, vec![in alloc; 4, 9, 25]?);
-    assert_eq!(rt; second, vec![in alloc; 49, 121]?);
+    are(&rt, &first, &[4, 9, 25]);
+    are(&rt, &second, &[49, 121]);
     Ok(())
 }

@@ -3,6 +3,8 @@
 #![tactic(auto)]
 
 pub mod callers;
+#[cfg(test)]
+mod checks;
 pub mod chunks;
 #[cfg(test)]
 mod free_rows;
@@ -21,12 +23,24 @@ mod list_rows;
 #[cfg(test)]
 mod nested_jobs;
 #[cfg(test)]
+mod nested_refusals;
+#[cfg(test)]
+mod nested_rounds;
+#[cfg(test)]
 mod nested_rows;
+#[cfg(test)]
+mod place_rows;
 #[cfg(test)]
 mod refusals;
 #[cfg(test)]
 mod refused_lists;
 #[cfg(test)]
+mod refused_slots;
+#[cfg(test)]
+mod slot_rows;
+#[cfg(test)]
 mod thread_rows;
 #[cfg(test)]
 mod tray_rows;
+#[cfg(test)]
+mod trying_rows;

@@ -1,5 +1,6 @@
 //! Rows of lists that are shared out evenly, or in chunks with what stands around them, and of answers that are gathered.
 
+use crate::checks::are;
 use spindle::lists::chunks::Chunk;
 use spindle::{Fault, ListRun, SharedList, gathered};
 use std::alloc::Global;
@@ -59,7 +60,7 @@ fn the_first_failure_is_the_answer(rt: HostRuntime) -> Result<(), Fault> {
     let Ok(all) = gathered(alloc, answers)? else {
         panic!(rt; "nothing failed");
     };
-    assert_eq!(rt; all, vec![in alloc; 1, 2, 3]?);
+    are(&rt, &all, &[1, 2, 3]);
     let mut answers = Vec::<Result<Vec<u32>, u8>>::new(alloc);
     answers.push(Ok(vec![in alloc; 1, 2]?))?;
     answers.push(Err(7))?;

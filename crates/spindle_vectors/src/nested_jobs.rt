@@ -190,13 +190,14 @@ impl Job for DoubleBoth {
     ghost equal_is_same = { Prim.search rules };
 }
 
-/// Where it runs, and where a lock of four that it opens runs: the numbers of threads there and at most, of both.
+/// Where it runs, and where a lock of four that it opens runs: the numbers of threads there and at most, of both. The last number is
+/// how many answers a round of three jobs had there.
 pub struct Where;
 
 impl Job for Where {
     type In = ();
 
-    type Out = (usize, usize, usize, usize);
+    type Out = (usize, usize, usize, usize, usize);
 
     type Inner = Under<Double>;
 
@@ -207,17 +208,79 @@ impl Job for Where {
         alloc: Global,
         _input: &(),
         cx: &mut JobCx<Under<Double>>,
-    ) -> (usize, usize, usize, usize) {
-        let inner = cx.with_lock(rt, alloc, 4, |leader| {
-            (leader.current_num_threads(), leader.max_num_threads())
-        });
-        let inner = inner.unwrap_or((0, 0));
-        (
-            cx.current_num_threads(),
-            cx.max_num_threads(),
-            inner.0,
-            inner.1,
-        )
+    ) -> (usize, usize, usize, usize, usize) {
+        let current = cx.current_num_threads();
+        let most = cx.max_num_threads();
+        let inner = cx.with_lock(
+            rt,
+            alloc,
+            4,
+            |leader| -> Result<(usize, usize, usize), Fault>
+                requires { IsSync H.row }
+            {
+                let current = leader.current_num_threads();
+                let most = leader.max_num_threads();
+                let numbers = Vec::from_array(alloc, [1, 2, 3])?;
+                let doubles = leader.for_each(rt, alloc, 3, numbers)?;
+                Ok((current, most, doubles.len()))
+            },
+        );
+        let Ok(Ok(inner)) = inner else {
+            return (0, 0, 0, 0, 0);
+        };
+        (current, most, inner.0, inner.1, inner.2)
+    }
+
+    ghost equal_is_same = { Prim.search rules };
+}
+
+/// Does nothing.
+pub struct Idle;
+
+impl Job for Idle {
+    type In = ();
+
+    type Out = ();
+
+    type Inner = End;
+
+    ghost meets = { λ _ _. Unit {0} };
+
+    fn run<H: Threads + Wait + Sync>(_rt: &H, _alloc: Global, _input: &(), _cx: &mut JobCx<End>) {}
+
+    ghost equal_is_same = { Prim.search rules };
+}
+
+/// Runs four units in a lock of four threads that it opens, and answers how many came out; 0 where that was refused.
+pub struct FourUnits;
+
+impl Job for FourUnits {
+    type In = ();
+
+    type Out = usize;
+
+    type Inner = Under<Idle>;
+
+    ghost meets = { λ _ _. Unit {0} };
+
+    fn run<H: Threads + Wait + Sync>(
+        rt: &H,
+        alloc: Global,
+        _input: &(),
+        cx: &mut JobCx<Under<Idle>>,
+    ) -> usize {
+        let answers = cx.with_lock(
+            rt,
+            alloc,
+            4,
+            |leader| -> Result<Vec<()>, Fault>
+                requires { IsSync H.row }
+            { leader.for_each(rt, alloc, 4, Vec::from_elem(alloc, (), 4)?) },
+        );
+        match answers {
+            Ok(Ok(units)) => units.len(),
+            _ => 0,
+        }
     }
 
     ghost equal_is_same = { Prim.search rules };

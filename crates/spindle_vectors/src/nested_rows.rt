@@ -1,6 +1,7 @@
 //! Rows of locks that jobs open: helpers move to them and run jobs there, and leaders work alone where they must.
 
-use crate::nested_jobs::{DoubleBoth, Opener, Rounds, Where};
+use crate::checks::are;
+use crate::nested_jobs::{DoubleBoth, FourUnits, Opener, Rounds, Where};
 use spindle::lock::{Limits, NoGate, Pool};
 use spindle::{Fault, with_lock};
 
@@ -11,7 +12,7 @@ fn a_helper_comes_to_a_lock_that_a_job_opens(rt: HostRuntime) -> Result<(), Faul
     let seen = with_lock::<Opener, _, _, _, _, _>(&rt, alloc, &pool, 2, |leader| {
         leader.for_each(&rt, alloc, 1, vec![in alloc; ()]?)
     })??;
-    assert_eq!(rt; seen, vec![in alloc; 2]?);
+    are(&rt, &seen, &[2]);
     Ok(())
 }
 
@@ -50,6 +51,17 @@ fn a_pool_of_one_thread_has_no_helpers_for_nested_locks(rt: HostRuntime) -> Resu
     let seen = with_lock::<Where, _, _, _, _, _>(&rt, alloc, &pool, 4, |leader| {
         leader.for_each(&rt, alloc, 1, vec![in alloc; ()]?)
     })??;
-    assert_eq!(rt; seen, vec![in alloc; (1, 1, 1, 1)]?);
+    are(&rt, &seen, &[(1, 1, 1, 1, 3)]);
+    Ok(())
+}
+
+#[test]
+fn four_jobs_that_each_answer_four_units(rt: HostRuntime) -> Result<(), Fault> {
+    let alloc = rt.alloc();
+    let pool = Pool::new(16, Limits::new(), NoGate);
+    let units = with_lock::<FourUnits, _, _, _, _, _>(&rt, alloc, &pool, 4, |leader| {
+        leader.for_each(&rt, alloc, 2, vec![in alloc; (); 4]?)
+    })??;
+    are(&rt, &units, &[4; 4]);
     Ok(())
 }

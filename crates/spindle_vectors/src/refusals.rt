@@ -5,6 +5,7 @@
 
 ghost use Rattle.std.specs.Prelude.{◌<◌};
 
+use crate::checks::is;
 use crate::jobs::{Calls, Counting, Square};
 use spindle::lock::{Leader, Limits, Pool};
 use spindle::{Fault, with_lock};
@@ -76,8 +77,8 @@ fn square_in_three_rounds<H: Threads + Wait + Abort + Sync>(
     unopened_or(rt, &opened, answer)
 }
 
-// What the rounds of a lock answered; where the lock was refused, its closure wasn't run.
-fn unopened_or<H: Abort>(
+/// What the rounds of a lock answered; where the lock was refused, its closure wasn't run.
+pub fn unopened_or<H: Abort>(
     rt: &H,
     opened: &AtomicUsize,
     answer: Result<Result<(), Fault>, Fault>,
@@ -86,7 +87,7 @@ fn unopened_or<H: Abort>(
         Ok(rounds) => rounds,
         Err(fault) => {
             assert!(rt; matches!(fault, Fault::Memory));
-            assert_eq!(rt; opened.load(Ordering::SeqCst), 0);
+            is(rt, opened.load(Ordering::SeqCst), 0);
             Ok(())
         }
     }
@@ -109,7 +110,7 @@ fn refused_lock_opens_when_asked_again(rt: HostRuntime) -> Result<(), Fault> {
             Ok(round) => round?,
             Err(fault) => {
                 assert!(rt; matches!(fault, Fault::Memory));
-                assert_eq!(rt; opened.load(Ordering::SeqCst), before);
+                is(&rt, opened.load(Ordering::SeqCst), before);
             }
         }
     }
@@ -132,13 +133,13 @@ fn square_seven_items<H: Threads + Wait + Abort + Sync>(
         Ok(squares) => squares,
         Err(fault) => {
             assert!(rt; matches!(fault, Fault::Memory));
-            assert_eq!(rt; calls.in_all(), before);
+            is(rt, calls.in_all(), before);
             leader.for_each(rt, alloc, jobs, seven_items(alloc)?)?
         }
     };
     assert!(rt; are_seven_squares(squares.as_slice()));
     let after = (before.0.wrapping_add(jobs), before.1.wrapping_add(jobs));
-    assert_eq!(rt; calls.in_all(), after);
+    is(rt, calls.in_all(), after);
     Ok(())
 }
 
@@ -154,12 +155,12 @@ fn refused_round_over_numbers_has_run_no_job(rt: HostRuntime) -> Result<(), Faul
             Ok(squares) => squares,
             Err(fault) => {
                 assert!(rt; matches!(fault, Fault::Memory));
-                assert_eq!(rt; calls.in_all(), (0, 0));
+                is(&rt, calls.in_all(), (0, 0));
                 leader.for_each_raw(&rt, alloc, 7)?
             }
         };
         assert!(rt; are_seven_squares(squares.as_slice()));
-        assert_eq!(rt; calls.in_all(), (7, 7));
+        is(&rt, calls.in_all(), (7, 7));
         Ok::<(), Fault>(())
     });
     unopened_or(&rt, &opened, answer)
@@ -173,7 +174,7 @@ fn more_numbers_than_memory_holds_are_refused(rt: HostRuntime) -> Result<(), Fau
     with_lock::<Square, _, _, _, _, _>(&rt, alloc, &pool, 4, |leader| {
         let refused = leader.for_each_raw(&rt, alloc, usize::MAX);
         assert!(rt; matches!(refused, Err(Fault::Memory)));
-        assert_eq!(rt; calls.in_all(), (0, 0));
+        is(&rt, calls.in_all(), (0, 0));
         let squares = leader.for_each_raw(&rt, alloc, 7);
         assert!(rt; matches!(squares, Ok(_) | Err(Fault::Memory)));
         Ok::<(), Fault>(())
@@ -192,12 +193,12 @@ fn refused_nothing_where_nothing_is_run(rt: HostRuntime) -> Result<(), Fault> {
         for jobs in [0, 1, 4, usize::MAX] {
             let outputs = leader.for_each(&rt, alloc, jobs, Vec::new(alloc))?;
             assert!(rt; outputs.is_empty());
-            assert_eq!(rt; outputs.capacity(), 0);
+            is(&rt, outputs.capacity(), 0);
         }
         let outputs = leader.for_each_raw(&rt, alloc, 0)?;
         assert!(rt; outputs.is_empty());
-        assert_eq!(rt; outputs.capacity(), 0);
-        assert_eq!(rt; calls.in_all(), (0, 0));
+        is(&rt, outputs.capacity(), 0);
+        is(&rt, calls.in_all(), (0, 0));
         Ok::<(), Fault>(())
     });
     unopened_or(&rt, &opened, answer)

@@ -6,6 +6,7 @@
 
 ghost use Rattle.std.specs.Prelude.{◌<◌};
 
+use crate::checks::are;
 use crate::jobs::Length;
 use spindle::lock::{Leader, Limits, NoGate, Pool};
 use spindle::{Fault, SharedList, with_lock};
@@ -38,11 +39,11 @@ fn list_comes_out_again<H: Threads + Wait + Abort + Sync>(
 {
     let list = three_numbers(alloc)?;
     match leader.for_each(rt, alloc, jobs, seven_clones(alloc, &list)?) {
-        Ok(lengths) => assert_eq!(rt; lengths.as_slice(), [3; 7].as_slice()),
+        Ok(lengths) => are(rt, lengths.as_slice(), &[3; 7]),
         Err(fault) => assert!(rt; matches!(fault, Fault::Memory)),
     }
     match list.try_into_vec() {
-        Ok(numbers) => assert_eq!(rt; numbers.as_slice(), [5, 6, 7].as_slice()),
+        Ok(numbers) => are(rt, numbers.as_slice(), &[5, 6, 7]),
         Err(_) => assert!(rt; false, "a clone of the list is kept"),
     }
     Ok(())

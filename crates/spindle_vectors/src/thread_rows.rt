@@ -2,6 +2,7 @@
 //! some of whose threads can't be started.
 
 use crate::callers;
+use crate::checks::{are, is};
 use crate::gates::Meetings;
 use crate::jobs::{Calls, Counting, Place, Square};
 use spindle::lock::{Limits, NoGate, Pool};
@@ -15,7 +16,7 @@ fn threads_that_sleep_at_once_miss_no_round(rt: HostRuntime) -> Result<(), Fault
         for _ in 0..1000 {
             let numbers = vec![in alloc; 0, 1, 2, 3, 4, 5, 6, 7]?;
             let squares = leader.for_each(&rt, alloc, 4, numbers)?;
-            assert_eq!(rt; squares, vec![in alloc; 0, 1, 4, 9, 16, 25, 36, 49]?);
+            are(&rt, &squares, &[0, 1, 4, 9, 16, 25, 36, 49]);
         }
         Ok::<(), Fault>(())
     })?
@@ -30,7 +31,7 @@ fn many_threads_that_sleep_at_once_miss_no_round(rt: HostRuntime) -> Result<(), 
     with_lock::<Square, _, _, _, _, _>(&rt, alloc, &pool, 12, |leader| {
         for _ in 0..3000 {
             let squares = leader.for_each_raw(&rt, alloc, 12)?;
-            assert_eq!(rt; squares[11], 121);
+            is(&rt, squares[11], 121);
         }
         Ok::<(), Fault>(())
     })??;
@@ -46,14 +47,11 @@ fn each_job_of_many_threads_passes_the_gate_once(rt: HostRuntime) -> Result<(), 
     let squares = with_lock::<Square, _, _, _, _, _>(&rt, alloc, &pool, 4, |leader| {
         leader.for_each(&rt, alloc, 4, numbers)
     })??;
-    assert_eq!(rt;
-        squares,
-        vec![in alloc; 0, 1, 4, 9, 16, 25, 36, 49, 64, 81]?
-    );
+    are(&rt, &squares, &[0, 1, 4, 9, 16, 25, 36, 49, 64, 81]);
     for number in 0..4 {
-        assert_eq!(rt; calls.of_job(number), (1, 1));
+        is(&rt, calls.of_job(number), (1, 1));
     }
-    assert_eq!(rt; calls.in_all(), (4, 4));
+    is(&rt, calls.in_all(), (4, 4));
     Ok(())
 }
 
@@ -65,11 +63,11 @@ fn four_jobs_of_each_round_run_at_once(rt: HostRuntime) -> Result<(), Fault> {
     with_lock::<Square, _, _, _, _, _>(&rt, alloc, &pool, 4, |leader| {
         for _ in 0..3 {
             let squares = leader.for_each(&rt, alloc, 4, vec![in alloc; 0, 1, 2, 3]?)?;
-            assert_eq!(rt; squares, vec![in alloc; 0, 1, 4, 9]?);
+            are(&rt, &squares, &[0, 1, 4, 9]);
         }
         Ok::<(), Fault>(())
     })??;
-    assert_eq!(rt; meetings.counts(), (12, 0));
+    is(&rt, meetings.counts(), (12, 0));
     Ok(())
 }
 
@@ -81,7 +79,7 @@ fn four_threads_at_once_have_four_numbers(rt: HostRuntime) -> Result<(), Fault> 
     let places = with_lock::<Place, _, _, _, _, _>(&rt, alloc, &pool, 4, |leader| {
         leader.for_each(&rt, alloc, 4, vec![in alloc; 0, 1, 2, 3]?)
     })??;
-    assert_eq!(rt; meetings.counts(), (4, 0));
+    is(&rt, meetings.counts(), (4, 0));
     for thread in 0..4 {
         let here = places.iter().filter(|place| place.0 == Some(thread));
         assert_eq!(rt; here.count(), 1, "thread {thread}");
@@ -102,7 +100,7 @@ fn two_jobs_that_met_each_count_two_threads(rt: HostRuntime) -> Result<(), Fault
         }
         Ok::<(), Fault>(())
     })??;
-    assert_eq!(rt; meetings.counts(), (100, 0));
+    is(&rt, meetings.counts(), (100, 0));
     Ok(())
 }
 
@@ -114,11 +112,11 @@ fn a_leader_with_helpers_has_no_number_outside_a_published_round(
     let pool = Pool::new(4, Limits::new(), NoGate);
     with_lock::<Place, _, _, _, _, _>(&rt, alloc, &pool, 16, |leader| {
         for _ in 0..100 {
-            assert_eq!(rt; leader.max_num_threads(), 4);
-            assert_eq!(rt; leader.current_thread_index(), None);
+            is(&rt, leader.max_num_threads(), 4);
+            is(&rt, leader.current_thread_index(), None);
             for place in leader.for_each(&rt, alloc, 1, vec![in alloc; 0, 1]?)? {
                 assert!(rt; place.0.is_none());
-                assert_eq!(rt; place.2, 4);
+                is(&rt, place.2, 4);
             }
             for place in leader.for_each(&rt, alloc, 2, vec![in alloc; 0, 1]?)? {
                 assert!(rt; matches!(place.0, Some(0..=3)));
@@ -136,8 +134,8 @@ fn two_jobs_wait_for_each_other(rt: HostRuntime) -> Result<(), Fault> {
     let squares = with_lock::<Square, _, _, _, _, _>(&rt, alloc, &pool, 2, |leader| {
         leader.for_each(&rt, alloc, 2, vec![in alloc; 5, 6]?)
     })??;
-    assert_eq!(rt; squares, vec![in alloc; 25, 36]?);
-    assert_eq!(rt; meetings.counts(), (2, 0));
+    are(&rt, &squares, &[25, 36]);
+    is(&rt, meetings.counts(), (2, 0));
     Ok(())
 }
 
@@ -148,18 +146,15 @@ fn threads_that_cannot_be_started_change_no_answer(rt: HostRuntime) -> Result<()
         let pool = Pool::with_starts(4, Limits::new(), NoGate, starts);
         let numbers = vec![in alloc; 0, 1, 2, 3, 4, 5, 6, 7, 8, 9]?;
         let squares = with_lock::<Square, _, _, _, _, _>(&rt, alloc, &pool, 4, |leader| {
-            assert_eq!(rt; leader.max_num_threads(), 4);
+            is(&rt, leader.max_num_threads(), 4);
             leader.for_each(&rt, alloc, 4, numbers)
         })??;
-        assert_eq!(rt;
-            squares,
-            vec![in alloc; 0, 1, 4, 9, 16, 25, 36, 49, 64, 81]?
-        );
+        are(&rt, &squares, &[0, 1, 4, 9, 16, 25, 36, 49, 64, 81]);
     }
     let pool = Pool::with_starts(4, Limits::new(), NoGate, 0);
     with_lock::<Square, _, _, _, _, _>(&rt, alloc, &pool, 4, |leader| {
-        assert_eq!(rt; leader.max_num_threads(), 4);
-        assert_eq!(rt; leader.current_num_threads(), 1);
+        is(&rt, leader.max_num_threads(), 4);
+        is(&rt, leader.current_num_threads(), 1);
         Ok::<(), Fault>(())
     })?
 }
@@ -172,8 +167,8 @@ fn without_helpers_jobs_cannot_meet(rt: HostRuntime) -> Result<(), Fault> {
     let squares = with_lock::<Square, _, _, _, _, _>(&rt, alloc, &pool, 2, |leader| {
         leader.for_each(&rt, alloc, 2, vec![in alloc; 5, 6]?)
     })??;
-    assert_eq!(rt; squares, vec![in alloc; 25, 36]?);
-    assert_eq!(rt; meetings.counts(), (2, 1));
+    are(&rt, &squares, &[25, 36]);
+    is(&rt, meetings.counts(), (2, 1));
     Ok(())
 }
 
@@ -184,7 +179,7 @@ fn ten_thousand_rounds_in_one_lock(rt: HostRuntime) -> Result<(), Fault> {
     with_lock::<Square, _, _, _, _, _>(&rt, alloc, &pool, 3, |leader| {
         for _ in 0..10000 {
             let squares = leader.for_each(&rt, alloc, 3, vec![in alloc; 1, 2, 3]?)?;
-            assert_eq!(rt; squares, vec![in alloc; 1, 4, 9]?);
+            are(&rt, &squares, &[1, 4, 9]);
         }
         Ok::<(), Fault>(())
     })?
@@ -196,7 +191,7 @@ fn a_thousand_locks_in_turn(rt: HostRuntime) -> Result<(), Fault> {
     let pool = Pool::new(2, Limits::new(), NoGate);
     for _ in 0..1000 {
         let squares = callers::squares(&rt, alloc, &pool, 2, vec![in alloc; 3, 4]?)?;
-        assert_eq!(rt; squares, vec![in alloc; 9, 16]?);
+        are(&rt, &squares, &[9, 16]);
     }
     Ok(())
 }
@@ -221,7 +216,7 @@ fn sixty_four_threads_on_few_processors(rt: HostRuntime) -> Result<(), Fault> {
             for _ in 0..50 {
                 let squares = leader.for_each_raw(&rt, alloc, 100)?;
                 assert_eq!(rt; squares.len(), 100);
-                assert_eq!(rt; squares[99], 9801);
+                is(&rt, squares[99], 9801);
             }
             Ok::<(), Fault>(())
         })??;
@@ -234,7 +229,7 @@ fn a_lock_in_which_nothing_is_published(rt: HostRuntime) -> Result<(), Fault> {
     let alloc = rt.alloc();
     let pool = Pool::new(4, Limits::new(), NoGate);
     let answer = with_lock::<Square, _, _, _, _, _>(&rt, alloc, &pool, 4, |_leader| 7)?;
-    assert_eq!(rt; answer, 7);
+    is(&rt, answer, 7);
     Ok(())
 }
 
@@ -245,15 +240,15 @@ fn a_closure_that_returns_early_closes_its_lock(rt: HostRuntime) -> Result<(), F
     let last = with_lock::<Square, _, _, _, _, _>(&rt, alloc, &pool, 4, |leader| {
         for round in 0..100 {
             let squares = leader.for_each(&rt, alloc, 4, vec![in alloc; 1, 2, 3, 4]?)?;
-            assert_eq!(rt; squares, vec![in alloc; 1, 4, 9, 16]?);
+            are(&rt, &squares, &[1, 4, 9, 16]);
             if round == 5 {
                 return Ok::<usize, Fault>(round);
             }
         }
         Ok(100)
     })??;
-    assert_eq!(rt; last, 5);
+    is(&rt, last, 5);
     let squares = callers::squares(&rt, alloc, &pool, 4, vec![in alloc; 5, 6]?)?;
-    assert_eq!(rt; squares, vec![in alloc; 25, 36]?);
+    are(&rt, &squares, &[25, 36]);
     Ok(())
 }

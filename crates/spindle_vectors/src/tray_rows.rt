@@ -2,6 +2,7 @@
 //! no round of a lock loses a piece: the least of these numbers is lost, and the trays keep nothing.
 
 use crate::callers::Square;
+use crate::checks::{are, is};
 use crate::gathering_rows::squared;
 use spindle::SharedList;
 use spindle::pieces::runs::Pieces;
@@ -21,7 +22,7 @@ fn gathered<H: Wait + Abort>(
     let items = SharedList::from_vec(alloc, vec![in alloc; 1, 2, 3, 4, 5]?)?;
     let kept = items.clone()?;
     let len = items.len();
-    assert_eq!(rt; len, 5);
+    is(rt, len, 5);
     let pieces = Pieces::new(items, 5);
     let trays = Trays::<Square>::new(alloc, 2)?;
     trays.hand_out(rt, alloc, &pieces)?;
@@ -49,8 +50,8 @@ fn pieces_that_are_all_back_give_their_outputs_in_order(rt: HostRuntime) -> Resu
     let backwards = [(4, 5), (2, 3), (3, 4), (1, 2), (0, 1)];
     for brought_back in [ALL, backwards] {
         let (answer, outputs) = gathered(&rt, rt.alloc(), brought_back.as_slice())?;
-        assert_eq!(rt; answer, Ok(()));
-        assert_eq!(rt; outputs.as_slice(), [1, 4, 9, 16, 25].as_slice());
+        is(&rt, answer, Ok(()));
+        are(&rt, outputs.as_slice(), &[1, 4, 9, 16, 25]);
     }
     Ok(())
 }
@@ -65,7 +66,7 @@ fn a_piece_that_is_not_brought_back_is_lost(rt: HostRuntime) -> Result<(), Fail>
             }
         }
         let (answer, _) = gathered(&rt, rt.alloc(), others.as_slice())?;
-        assert_eq!(rt; answer, Err(missing));
+        is(&rt, answer, Err(missing));
     }
     Ok(())
 }
@@ -82,7 +83,7 @@ fn the_least_of_several_missing_pieces_is_lost(rt: HostRuntime) -> Result<(), Fa
         ([].as_slice(), 0),
     ] {
         let (answer, _) = gathered(&rt, rt.alloc(), brought_back)?;
-        assert_eq!(rt; answer, Err(lost));
+        is(&rt, answer, Err(lost));
     }
     Ok(())
 }
@@ -100,7 +101,7 @@ fn a_stranger_is_lost_before_later_missing_pieces(rt: HostRuntime) -> Result<(),
         (gap_before_a_stranger.as_slice(), 2),
     ] {
         let (answer, _) = gathered(&rt, rt.alloc(), brought_back)?;
-        assert_eq!(rt; answer, Err(lost));
+        is(&rt, answer, Err(lost));
     }
     Ok(())
 }

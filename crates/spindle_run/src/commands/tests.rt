@@ -6,6 +6,8 @@ use super::*;
 use crate::trials::{Brief, Torn, as_words, outcome};
 use std::test::Fail;
 
+mod grids;
+
 #[test]
 fn lengths_stand_on_one_line(rt: HostRuntime) -> Result<(), Fail> {
     let rows: [(&[&str], &str); 9] = [
@@ -114,7 +116,7 @@ fn three_hundred_rounds_in_slots_answer_the_squares(rt: HostRuntime) -> Result<(
 
 #[test]
 fn other_words_are_bad(rt: HostRuntime) -> Result<(), Fail> {
-    let rows: [&[&str]; 43] = [
+    let rows: [&[&str]; 54] = [
         &[],
         &[""],
         &["cut"],
@@ -156,7 +158,18 @@ fn other_words_are_bad(rt: HostRuntime) -> Result<(), Fail> {
         &["steps", "0"],
         &["steps", ""],
         &["Steps"],
-        &["grid", "16", "16", "4", "16"],
+        &["grid"],
+        &["grid", "16", "16", "4"],
+        &["grid", "16", "16", "4", "16", "16"],
+        &["grid", "0", "16", "4", "16"],
+        &["grid", "513", "16", "4", "16"],
+        &["grid", "16", "0", "4", "16"],
+        &["grid", "16", "513", "4", "16"],
+        &["grid", "16", "16", "0", "16"],
+        &["grid", "16", "16", "65", "16"],
+        &["grid", "16", "16", "4", "0"],
+        &["grid", "16", "16", "4", "4097"],
+        &["Grid", "16", "16", "4", "16"],
         &["cut", "5", "4\n"],
     ];
     for words in rows {
@@ -227,7 +240,7 @@ fn texts_and_statuses(rt: HostRuntime) -> Result<(), Fail> {
 
 #[test]
 fn refused_memory_leaves_no_half_line(rt: HostRuntime) -> Result<(), Fail> {
-    let rows: [(&[&str], &str); 5] = [
+    let rows: [(&[&str], &str); 6] = [
         (&["cut", "10", "4"], "3 3 2 2\n"),
         (&["squares", "10", "4", "4"], "0 1 4 9 16 25 36 49 64 81\n"),
         (&["squares", "3", "1", "1"], "0 1 4\n"),
@@ -236,6 +249,7 @@ fn refused_memory_leaves_no_half_line(rt: HostRuntime) -> Result<(), Fail> {
             "0 1 4 9 16 25 36 49 64 81\n",
         ),
         (&["slots", "3", "1", "2", "2"], "0 1 4\n"),
+        (&["grid", "2", "4", "2", "2"], "8 4 4\n"),
     ];
     for (words, text) in rows {
         if let Ok(trial) = outcome(&rt, words, "") {

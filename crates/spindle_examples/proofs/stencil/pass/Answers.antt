@@ -1,5 +1,5 @@
 -- The chunks after one pass, one behind the other, are the list after one pass.
-use Rattle.std.proofs.Common.{ℕ, List, ◌∙◌, Ok, map, ap, subst, rules}
+use Rattle.std.proofs.Common.{ℕ, List, ◌∙◌, map, ap, subst, rules}
 use Rattle.std.specs.declared.alloc.AllocError.{AllocError}
 use Rattle.spindle_parts.specs.Pieces.{joined}
 use Rattle.spindle.specs.Chunks.{ChunkView}

@@ -1,5 +1,5 @@
 -- One value more of the chunk.
-use Rattle.std.proofs.Common.{rules, ◌≡◌, ℕ, ◌+◌, ◌-◌, ◌≤◌, ◌++◌, ◌∷◌, [], map, ap, arith}
+use Rattle.std.proofs.Common.{rules, ◌≡◌, ℕ, ◌+◌, ◌-◌, ◌≤◌, ◌++◌, ◌∷◌, [], ap, arith}
 use Rattle.spindle_parts.specs.Pieces.{counted}
 use Rattle.spindle_parts.proofs.Lists.{counted_snoc, map_snoc}
 use Rattle.spindle_examples.specs.Stencil.{smooth_at}

@@ -1,0 +1,235 @@
+//! Rows of locks with slots: a round has as many pieces as slots at most, loses none, and is refused for memory alone.
+ghost use Rattle.std.specs.Prelude.{◌≡◌, ◌<◌};
+ghost use Rattle.spindle.specs.SlotLeaders.{lock_slots};
+
+use crate::checks::{are, is};
+use crate::gates::Meetings;
+use crate::jobs::{Calls, Counting, Place, Square};
+use spindle::lock::{Limits, NoGate, Pool};
+use spindle::{Fault, with_slots};
+use std::sync::atomic::{AtomicUsize, Ordering};
+
+#[test]
+fn ten_numbers_are_squared_in_slots(rt: HostRuntime) -> Result<(), Fault> {
+    let alloc = rt.alloc();
+    for (threads, jobs, slots) in [
+        (4, 8, 3),
+        (4, 8, 1),
+        (1, 4, 16),
+        (4, 1, 16),
+        (4, 10, 10),
+        (4, 11, 64),
+        (64, 3, 2),
+        (64, usize::MAX, 10),
+    ] {
+        let pool = Pool::new(threads, Limits::new(), NoGate);
+        let numbers = vec![in alloc; 0, 1, 2, 3, 4, 5, 6, 7, 8, 9]?;
+        let squares = with_slots::<Square, _, _, _, _, _>(
+            &rt,
+            alloc,
+            &pool,
+            threads,
+            slots,
+            |leader|
+                requires { 0 < jobs }
+            { leader.for_each(&rt, alloc, jobs, numbers) },
+        )??;
+        are(&rt, &squares, &[0, 1, 4, 9, 16, 25, 36, 49, 64, 81]);
+    }
+    Ok(())
+}
+
+#[test]
+fn numbers_alone_are_items_from_0_in_slots(rt: HostRuntime) -> Result<(), Fault> {
+    let alloc = rt.alloc();
+    let pool = Pool::new(2, Limits::new(), NoGate);
+    with_slots::<Square, _, _, _, _, _>(
+        &rt,
+        alloc,
+        &pool,
+        2,
+        4,
+        |leader|
+            requires { lock_slots leader.old ≡ 4 }
+        {
+            let squares = leader.for_each_raw(&rt, alloc, 4)?;
+            are(&rt, &squares, &[0, 1, 4, 9]);
+            are(&rt, &leader.for_each_raw(&rt, alloc, 1)?, &[0]);
+            assert!(rt; leader.for_each_raw(&rt, alloc, 0)?.is_empty());
+            Ok::<(), Fault>(())
+        },
+    )?
+}
+
+// The jobs of a round of ten items, asked for in eight jobs, in a lock of so many slots.
+#[test]
+fn a_round_has_as_many_jobs_as_slots_at_most(rt: HostRuntime) -> Result<(), Fault> {
+    let alloc = rt.alloc();
+    for (slots, jobs) in [(1, 1), (2, 2), (3, 3), (8, 8), (9, 8), (64, 8)] {
+        let calls = Calls::new();
+        let pool = Pool::new(4, Limits::new(), Counting { calls: &calls });
+        let numbers = vec![in alloc; 0, 1, 2, 3, 4, 5, 6, 7, 8, 9]?;
+        let squares = with_slots::<Square, _, _, _, _, _>(
+            &rt,
+            alloc,
+            &pool,
+            4,
+            slots,
+            |leader| { leader.for_each(&rt, alloc, 8, numbers) },
+        )??;
+        are(&rt, &squares, &[0, 1, 4, 9, 16, 25, 36, 49, 64, 81]);
+        assert_eq!(rt; calls.in_all(), (jobs, jobs), "{slots} slots");
+        is(&rt, calls.of_job(0), (1, 1));
+    }
+    Ok(())
+}
+
+#[test]
+fn one_slot_is_one_direct_job(rt: HostRuntime) -> Result<(), Fault> {
+    let alloc = rt.alloc();
+    let pool = Pool::with_starts(4, Limits::new(), NoGate, 0);
+    let places = with_slots::<Place, _, _, _, _, _>(&rt, alloc, &pool, 16, 1, |leader| {
+        is(&rt, leader.max_num_threads(), 4);
+        is(&rt, leader.current_num_threads(), 1);
+        is(&rt, leader.current_thread_index(), None);
+        leader.relieve_workers();
+        leader.for_each(&rt, alloc, 8, vec![in alloc; 0, 1]?)
+    })??;
+    are(&rt, &places, &[(None, 1, 4), (None, 1, 4)]);
+    Ok(())
+}
+
+#[test]
+fn a_leader_alone_has_number_0_in_a_round_in_slots(rt: HostRuntime) -> Result<(), Fault> {
+    let alloc = rt.alloc();
+    let pool = Pool::new(16, Limits::new(), NoGate);
+    let places = with_slots::<Place, _, _, _, _, _>(&rt, alloc, &pool, 1, 2, |leader| {
+        leader.for_each(&rt, alloc, 2, vec![in alloc; 0, 1]?)
+    })??;
+    are(&rt, &places, &[(Some(0), 1, 1), (Some(0), 1, 1)]);
+    Ok(())
+}
+
+#[test]
+fn more_slots_than_memory_holds_are_refused(rt: HostRuntime) {
+    let opened = AtomicUsize::new(0);
+    let pool = Pool::new(4, Limits::new(), NoGate);
+    let refused = with_slots::<Square, _, _, _, _, _>(
+        &rt,
+        rt.alloc(),
+        &pool,
+        4,
+        4294967295,
+        |_leader| {
+            opened.fetch_add(1, Ordering::SeqCst);
+        },
+    );
+    assert!(rt; matches!(refused, Err(Fault::Memory)));
+    is(&rt, opened.load(Ordering::SeqCst), 0);
+}
+
+// A round that its leader ran alone would miss the second job at the gate.
+#[test]
+fn two_jobs_in_slots_wait_for_each_other(rt: HostRuntime) -> Result<(), Fault> {
+    let alloc = rt.alloc();
+    let meetings = Meetings::new();
+    let pool = meetings.pool(2);
+    with_slots::<Square, _, _, _, _, _>(&rt, alloc, &pool, 2, 2, |leader| {
+        for _ in 0..50 {
+            let squares = leader.for_each(&rt, alloc, 2, vec![in alloc; 5, 6]?)?;
+            are(&rt, &squares, &[25, 36]);
+        }
+        Ok::<(), Fault>(())
+    })??;
+    is(&rt, meetings.counts(), (100, 0));
+    Ok(())
+}
+
+#[test]
+fn four_threads_at_once_have_four_numbers_in_slots(rt: HostRuntime) -> Result<(), Fault> {
+    let alloc = rt.alloc();
+    let meetings = Meetings::new();
+    let pool = meetings.pool(4);
+    let places = with_slots::<Place, _, _, _, _, _>(&rt, alloc, &pool, 4, 4, |leader| {
+        leader.for_each(&rt, alloc, 4, vec![in alloc; 0, 1, 2, 3]?)
+    })??;
+    is(&rt, meetings.counts(), (4, 0));
+    for thread in 0..4 {
+        let here = places.iter().filter(|place| place.0 == Some(thread));
+        assert_eq!(rt; here.count(), 1, "thread {thread}");
+    }
+    Ok(())
+}
+
+// The number of threads is read when the job asks for it: at the gate both have come.
+#[test]
+fn two_jobs_in_slots_that_met_each_count_two_threads(rt: HostRuntime) -> Result<(), Fault> {
+    let alloc = rt.alloc();
+    let meetings = Meetings::new();
+    let pool = meetings.pool(2);
+    with_slots::<Place, _, _, _, _, _>(&rt, alloc, &pool, 2, 2, |leader| {
+        for round in 0..50 {
+            let places = leader.for_each(&rt, alloc, 2, vec![in alloc; 0, 1]?)?;
+            assert_eq!(rt; (places[0].1, places[1].1), (2, 2), "round {round}");
+            is(&rt, leader.current_num_threads(), 2);
+        }
+        Ok::<(), Fault>(())
+    })??;
+    is(&rt, meetings.counts(), (100, 0));
+    Ok(())
+}
+
+#[test]
+fn threads_that_cannot_be_started_change_no_answer_in_slots(rt: HostRuntime) -> Result<(), Fault> {
+    let alloc = rt.alloc();
+    for starts in 0..4 {
+        let pool = Pool::with_starts(4, Limits::new(), NoGate, starts);
+        let numbers = vec![in alloc; 0, 1, 2, 3, 4, 5, 6, 7, 8, 9]?;
+        let squares = with_slots::<Square, _, _, _, _, _>(&rt, alloc, &pool, 4, 7, |leader| {
+            is(&rt, leader.max_num_threads(), 4);
+            leader.for_each(&rt, alloc, 7, numbers)
+        })??;
+        are(&rt, &squares, &[0, 1, 4, 9, 16, 25, 36, 49, 64, 81]);
+    }
+    Ok(())
+}
+
+#[test]
+fn ten_thousand_rounds_in_slots(rt: HostRuntime) -> Result<(), Fault> {
+    let alloc = rt.alloc();
+    let pool = Pool::new(3, Limits::new(), NoGate);
+    with_slots::<Square, _, _, _, _, _>(&rt, alloc, &pool, 3, 5, |leader| {
+        for _ in 0..10000 {
+            let squares = leader.for_each(&rt, alloc, 3, vec![in alloc; 1, 2, 3]?)?;
+            are(&rt, &squares, &[1, 4, 9]);
+        }
+        Ok::<(), Fault>(())
+    })?
+}
+
+// More threads than cores, none of which makes a turn before it sleeps, and rounds that leave slots empty.
+#[test]
+fn many_threads_that_sleep_at_once_miss_no_round_in_slots(rt: HostRuntime) -> Result<(), Fault> {
+    let alloc = rt.alloc();
+    let pool = Pool::new(12, Limits { spin: 0, pause: 0 }, NoGate);
+    with_slots::<Square, _, _, _, _, _>(&rt, alloc, &pool, 12, 12, |leader| {
+        for round in 0..3000 {
+            let jobs: usize = round % 12 + 1;
+            let numbers: Vec<usize> = (0..jobs).collect(alloc)?;
+            let squares = leader.for_each(&rt, alloc, 12, numbers)?;
+            is(&rt, squares.len(), jobs);
+            let last = jobs as u128 - 1;
+            is(&rt, squares.last().copied(), Some(last.wrapping_mul(last)));
+        }
+        Ok::<(), Fault>(())
+    })?
+}
+
+#[test]
+fn a_lock_with_slots_in_which_nothing_is_published(rt: HostRuntime) -> Result<(), Fault> {
+    let alloc = rt.alloc();
+    let pool = Pool::new(4, Limits::new(), NoGate);
+    let answer = with_slots::<Square, _, _, _, _, _>(&rt, alloc, &pool, 4, 3, |_leader| 7)?;
+    is(&rt, answer, 7);
+    Ok(())
+}
