@@ -7,7 +7,7 @@ use Rattle.spindle_rounds.specs.declared.round_table.pieces.Stand.TheVariants as
 use Rattle.spindle_rounds.specs.RoundPieces.{IsAtHand}
 use Rattle.spindle_rounds.proofs.PieceClients.{one_at_hand}
 use Rattle.spindle.specs.InPlace.{HaveRoom, IsChunkOf, last_pieces}
-use Rattle.spindle.specs.PieceRuns.{piece_start, items_before, piece_at}
+use Rattle.spindle_trays.specs.PieceRuns.{piece_start, items_before, piece_at}
 
 module _ {T : Type 0} where
   pub take_front : (xs ys : List T) → take (length xs) (xs ++ ys) ≡ xs

@@ -16,10 +16,10 @@ use Rattle.spindle_rounds.proofs.PieceClients.{one_at_hand}
 use Rattle.spindle_rounds.specs.RoundSteps.{round_of}
 use Rattle.spindle_rounds.specs.RoundViews.{Onward}
 use Rattle.spindle_rounds.proofs.SlotHands.{laid_out, awaits, collected, turning_less}
-use Rattle.spindle.specs.Done.{Given, Done}
-use Rattle.spindle.specs.PieceRuns.{piece_start, items_before, piece_at}
+use Rattle.spindle_trays.specs.Done.{Given, Done}
+use Rattle.spindle_trays.specs.PieceRuns.{piece_start, items_before, piece_at}
 use Rattle.spindle.specs.SlotRounds.{IsAnswerTo, IsPieceOf, LeadsAt, PlayedPieces}
-use Rattle.spindle.specs.declared.crew.tables.Tables.{Tables}
+use Rattle.spindle_trays.specs.declared.crew.tables.Tables.{Tables}
 
 module _ {A B : Type 0} where
   abbrev done_in : Stand (Given A) (Done A B) → Done A B → Done A B
@@ -37,10 +37,6 @@ module _ {A B : Type 0} where
   -- what a slot of a round that has ended holds
   abbrev pub Held : (Meets : A → B → Type 0) (items : List A) (pieces : ℕ) → ℕ → Stand (Given A) (Done A B) → Type 0
   Held Meets items pieces = AnsweredAs (IsPieceOf items pieces) (IsAnswerTo Meets) pieces
-
--- nothing stands before the first piece
-pub before_first : {A : Type 0} (items : List A) (pieces : ℕ) → items_before items pieces 0 ≡ []
-before_first items pieces = let zero : piece_start (length items) pieces 0 ≡ 0 = omega arith in ap (λ (n : ℕ). take n items) zero
 
 -- a leader whose seat knows what it knew leads as it did, whatever it did at its hand
 pub still_leads : {T P A : Type 0} (tables : Tables T (Stand P A) P) (b c : Barrier T (Stand P A) P) → c.init ≡ b.init → c.sense ≡ b.sense

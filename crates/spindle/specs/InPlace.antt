@@ -1,7 +1,7 @@
 -- Rounds in place: a list in chunks, and the room for them.
 use Rattle.std.specs.Prelude.{◌≡◌, ℕ, zero, suc, ◌-◌, ◌+◌, ◌/◌, ◌≤◌, List, [], ◌∷◌, ◌++◌, length}
 use Rattle.std.specs.List.{AllZip}
-use Rattle.spindle.specs.PieceRuns.{piece_at}
+use Rattle.spindle_trays.specs.PieceRuns.{piece_at}
 
 -- the chunk of a number, of so many that these items are cut into, has the items of that piece
 abbrev pub IsChunkOf : {T : Type 0} → List T → (pieces : ℕ) → ℕ → List T → Type 0

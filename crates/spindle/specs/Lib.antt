@@ -1,23 +1,4 @@
 -- The definitions that contracts of this crate cite.
-pub mod Same
-pub mod Gathered
-pub mod Chunks
-pub mod Done
-pub mod Outputs
-pub mod Trays
-pub mod PieceRuns
-pub mod Reports
-pub mod Leaders
-pub mod Locks
-pub mod Rounds
-pub mod Opening
-pub mod Alone
-pub mod Posts
-pub mod Notices
-pub mod Accounts
-pub mod Helpers
 pub mod SlotLeaders
 pub mod SlotRounds
-pub mod SlotPosts
 pub mod InPlace
-pub mod Nested

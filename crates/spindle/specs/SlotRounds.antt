@@ -15,10 +15,10 @@ use Rattle.spindle_rounds.specs.SlotHands.{AllOut}
 use Rattle.spindle_rounds.specs.SlotLoops.{HoldsEach, IsEmpty}
 use Rattle.spindle_rounds.specs.SlotSteps.{TakenOut}
 use Rattle.spindle_rounds.specs.Working.{IsIdle}
-use Rattle.spindle.specs.declared.crew.tables.Tables.{Tables}
-use Rattle.spindle.specs.Done.{Given, Done}
-use Rattle.spindle.specs.PieceRuns.{piece_at}
-use Rattle.spindle.specs.Posts.{IsAt, party_view}
+use Rattle.spindle_trays.specs.declared.crew.tables.Tables.{Tables}
+use Rattle.spindle_trays.specs.Done.{Given, Done}
+use Rattle.spindle_trays.specs.PieceRuns.{piece_at}
+use Rattle.spindle_trays.specs.Posts.{IsAt, party_view}
 
 -- a piece that was run answers the piece that was given:
 -- under its number and with its inputs, which the outputs answer

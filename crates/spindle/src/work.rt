@@ -1,11 +1,4 @@
-//! What a thread does with the numbers of a published round: it takes their pieces out of the trays, or, where it is the
-//! lock's only thread, runs them in their order. After a round that may stop, what came of each piece is noted.
+//! What a thread does with the numbers of a published round whose pieces stand in slots.
 
-pub mod alone;
-mod finishing;
 pub mod in_place;
 pub mod in_slots;
-pub mod in_trays;
-pub mod rooms;
-pub mod runner;
-pub mod tally;

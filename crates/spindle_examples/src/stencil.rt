@@ -2,10 +2,10 @@
 //! that stands before it and the one behind it.
 ghost use Rattle.std.specs.Prelude.{◌≡◌, ◌<◌, ◌≤◌, ◌==◌, IfOk, length};
 ghost use Rattle.std.proofs.Common.{rules};
-ghost use Rattle.spindle.specs.Chunks.{equal_chunks_are_same};
+ghost use Rattle.spindle_lists.specs.Chunks.{equal_chunks_are_same};
 ghost use Rattle.spindle_examples.specs.Stencil.{smooth_at, smooth_part, smooth, smooth_times};
 
-use spindle::lists::chunks::Chunk;
+use spindle::Chunk;
 use spindle::lock::{End, Gate, Job, JobCx, Leader, Pool};
 use spindle::{Fault, SharedList, gathered, with_lock};
 use std::alloc::{AllocError, Global};

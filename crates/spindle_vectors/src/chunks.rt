@@ -4,7 +4,7 @@ ghost use Rattle.std.proofs.Common.{rules};
 
 #[cfg(test)]
 use crate::checks::{are, is};
-use spindle::lists::run::ListRun;
+use spindle::ListRun;
 use spindle::lock::{End, Job, JobCx};
 use std::alloc::{AllocError, Global};
 use std::sync::Wait;
@@ -44,7 +44,7 @@ pub fn one_more(alloc: Global, chunk: &[u32]) -> Result<Vec<u64>, AllocError>
 #[cfg(test)]
 mod tests {
     use super::*;
-    use spindle::lists::SharedList;
+    use spindle::SharedList;
     use std::test::Fail;
 
     fn is_input<T: Clone + Eq + Drop + Send + Sync>(input: &T) -> bool {

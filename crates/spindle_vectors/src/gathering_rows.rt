@@ -1,10 +1,10 @@
 //! Gathering the outputs of the pieces [1] and [2]: what the places hold, and what comes of it.
 ghost use Rattle.std.specs.Prelude.{◌≡◌, ◌∷◌, [], IfOk, length};
-ghost use Rattle.spindle.specs.Rounds.{items_of};
+ghost use Rattle.spindle_trays.specs.Rounds.{items_of};
 
 use crate::callers::Square;
 use crate::checks::{are, is};
-use spindle::lists::SharedList;
+use spindle::SharedList;
 use spindle::lock::{Finished, gather};
 use spindle_parts::cut::Piece;
 use std::alloc::{AllocError, Global};

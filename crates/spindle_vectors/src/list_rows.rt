@@ -1,7 +1,7 @@
 //! Rows of lists that are shared out evenly, or in chunks with what stands around them, and of answers that are gathered.
 
 use crate::checks::are;
-use spindle::lists::chunks::Chunk;
+use spindle::Chunk;
 use spindle::{Fault, ListRun, SharedList, gathered};
 use std::alloc::Global;
 

@@ -4,7 +4,7 @@ ghost use denote.Param.Send.{IsSync};
 
 use crate::checks::{are, is};
 use crate::jobs::Square;
-use spindle::lists::run::ListRun;
+use spindle::ListRun;
 use spindle::lock::{End, Job, JobCx, Leader, Limits, NoGate, Opens, Pool, Under};
 use spindle::{Fault, SharedList, gathered, with_lock};
 use std::alloc::Global;

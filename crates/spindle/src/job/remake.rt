@@ -4,9 +4,9 @@ ghost use Rattle.std.specs.Option.{ForSome};
 ghost use Rattle.std.proofs.Common.{refl};
 ghost use denote.Param.Send.{IsSync};
 
-use crate::job::Job;
-use crate::job::context::JobCx;
-use crate::job::nest::Nest;
+use spindle_trays::job::Job;
+use spindle_trays::job::context::JobCx;
+use spindle_trays::job::nest::Nest;
 use std::alloc::Global;
 use std::marker::PhantomData;
 use std::sync::Wait;

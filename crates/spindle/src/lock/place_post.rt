@@ -3,30 +3,31 @@ ghost use Rattle.std.specs.Prelude.{◌≡◌, ◌<◌, ◌≤◌, true, OnOk, O
 ghost use Rattle.std.specs.List.{AllZip};
 ghost use denote.Param.Send.{IsSync};
 ghost use Rattle.spindle.specs.InPlace.{IsReady};
-ghost use Rattle.spindle.specs.SlotPosts.{view_in};
+ghost use Rattle.spindle_trays.specs.SlotPosts.{view_in};
 ghost use Rattle.spindle_rounds.specs.RoundConditions.{MayFill};
 ghost use Rattle.spindle_rounds.specs.Working.{PlayedRound};
 
-use crate::crew::members::Members;
-use crate::crew::post::Post;
 use crate::crew::slot_post::{Newcomer, SlotPost};
 use crate::crew::slot_tables::SlotTables;
-use crate::crew::tables::Tables;
-use crate::job::gate::Gate;
-use crate::job::nest::Nest;
 use crate::job::remake::Remakes;
-use crate::job::sealed::HasWorkspace;
-use crate::lock::part::TakesPart;
+use crate::lock::sealed::HasPost;
 use crate::lock::slot_workspace::{MakesSlots, OpensSlots, SlotWorkspace};
 use crate::pieces::chunk::Chunk;
 use crate::pieces::of_kind::ChunkOf;
 use crate::pieces::store::Store;
-use crate::work::runner::Runner;
+use crate::work::in_place::{remake_chunk, take_part_in_place};
 use spindle_parts::fault::Fault;
 use spindle_rounds::round::Round;
 use spindle_rounds::round::task::Task;
 use spindle_rounds::round_table::Seat;
 use spindle_rounds::round_table::pieces::Pieces;
+use spindle_trays::crew::members::Members;
+use spindle_trays::crew::post::Post;
+use spindle_trays::crew::tables::Tables;
+use spindle_trays::job::gate::Gate;
+use spindle_trays::job::nest::Nest;
+use spindle_trays::lock::part::TakesPart;
+use spindle_trays::work::runner::Runner;
 use std::alloc::Global;
 use std::sync::Wait;
 use std::thread::Threads;
@@ -81,11 +82,11 @@ pub trait PlaysInPlace<P>: OpensSlots<P> + Remakes {
             ≡ Self.OpensSlots.slot_count post.old };
 }
 
-impl<J: Remakes> HasWorkspace<PlacePost<J>> for J {}
+impl<J: Remakes> HasPost<PlacePost<J>> for J {}
 
-impl<J: Remakes> TakesPart<Pieces<ChunkOf<J>>, SlotWorkspace<J>> for J {
-    fn children(workspace: &SlotWorkspace<J>) -> &<J::Inner as Nest>::Slots {
-        &workspace.children
+impl<J: Remakes> TakesPart<J, Pieces<ChunkOf<J>>> for SlotWorkspace<J> {
+    fn children(&self) -> &<J::Inner as Nest>::Slots {
+        &self.children
     }
 
     fn members<'a>(tables: &'a Tables<Pieces<ChunkOf<J>>>) -> Members<'a> {
@@ -93,14 +94,14 @@ impl<J: Remakes> TakesPart<Pieces<ChunkOf<J>>, SlotWorkspace<J>> for J {
     }
 
     fn take_part<'a, G: Gate, H: Threads + Wait + Sync>(
+        &self,
         rt: &H,
         alloc: Global,
-        _workspace: &SlotWorkspace<J>,
         post: &mut Post<'a, Pieces<ChunkOf<J>>>,
         runner: &mut Runner<'_, J, G>,
         task: Task,
     ) {
-        post.take_part_in_place(rt, alloc, runner, task);
+        take_part_in_place(rt, alloc, post, runner, task);
     }
 }
 
@@ -172,7 +173,7 @@ impl<J: Remakes> PlaysInPlace<PlacePost<J>> for J {
         let mut room = store.take(alloc);
         room.reserve(items.len())?;
         let chunk = room.load(items, 0);
-        let remade = runner.remake(rt, alloc, 0, None, chunk);
+        let remade = remake_chunk(rt, alloc, runner, 0, None, chunk);
         store.keep(remade.unload(items));
         post.store = Some(store);
         Ok(())

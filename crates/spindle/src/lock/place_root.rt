@@ -2,20 +2,20 @@
 ghost use Rattle.std.specs.Prelude.{◌≡◌, ◌<◌, ◌≤◌, IfOk, OnErr, IsErrOf};
 ghost use Rattle.std.specs.Fn.{FnOnceReturnsAtMut};
 ghost use denote.Param.Send.{IsSync};
-ghost use Rattle.spindle.specs.Locks.{lock_threads};
+ghost use Rattle.spindle_trays.specs.Locks.{lock_threads};
 ghost use Rattle.spindle.specs.SlotLeaders.{TakesLeaders, IsLeaderOf, threads_of};
 
-use crate::crew::Crew;
-use crate::job::gate::Gate;
-use crate::job::nest::Nest;
 use crate::job::remake::Remakes;
-use crate::lock::pool::Pool;
 use crate::lock::slot_leader::SlotLeader;
 use crate::lock::slot_root::{Entrant, make};
 use crate::lock::slot_workspace::{MakesSlots, SlotWorkspace};
 use crate::pieces::of_kind::ChunkOf;
 use spindle_parts::fault::Fault;
 use spindle_rounds::round_table::pieces::Pieces;
+use spindle_trays::crew::Crew;
+use spindle_trays::job::gate::Gate;
+use spindle_trays::job::nest::Nest;
+use spindle_trays::lock::pool::Pool;
 use std::alloc::Global;
 use std::sync::{Arc, Wait};
 use std::thread;

@@ -3,11 +3,11 @@ ghost use Rattle.std.specs.Prelude.{◌≡◌, ◌<◌, ◌≤◌, IfOk, OnOk, O
 ghost use Rattle.std.specs.List.{AllZip};
 ghost use Rattle.spindle.specs.SlotLeaders.{threads_of, slot_jobs, IsAsBefore, IsBetweenRounds, PlayedOnce};
 
-use crate::job::gate::Gate;
 use crate::lock::place_post::PlaysInPlace;
 use crate::lock::slot_leader::SlotLeader;
 use crate::lock::slot_workspace::OpensSlots;
 use spindle_parts::fault::Fault;
+use spindle_trays::job::gate::Gate;
 use std::alloc::Global;
 use std::sync::Wait;
 use std::thread::Threads;

@@ -5,13 +5,13 @@
 ghost use Rattle.std.specs.Prelude.{◌≡◌, ◌<◌, ◌≤◌, IsNone};
 ghost use Rattle.spindle.specs.SlotLeaders.{threads_of, AnnouncedRest, IsAsBefore};
 
-use crate::crew::Crew;
 use crate::crew::slot_post::SlotPost;
-use crate::job::Job;
-use crate::job::gate::Gate;
 use crate::lock::slot_workspace::OpensSlots;
 use crate::pieces::of_kind::PieceOf;
-use crate::work::runner::Runner;
+use spindle_trays::crew::Crew;
+use spindle_trays::job::Job;
+use spindle_trays::job::gate::Gate;
+use spindle_trays::work::runner::Runner;
 use std::sync::Wait;
 
 /// The leader of a lock with slots over jobs of kind J, lent to the closure that the lock was opened for.

@@ -3,28 +3,29 @@ ghost use Rattle.std.specs.Prelude.{◌≡◌, ◌<◌, ◌≤◌, IfOk, OnErr, 
 ghost use Rattle.std.specs.Fn.{FnOnceReturnsAtMut};
 ghost use Rattle.std.specs.Arc.{arc_value};
 ghost use denote.Param.Send.{IsSync};
-ghost use Rattle.spindle.specs.Locks.{lock_threads};
-ghost use Rattle.spindle.specs.Opening.{AreSeatsAt};
+ghost use Rattle.spindle_trays.specs.Locks.{lock_threads};
+ghost use Rattle.spindle_trays.specs.Opening.{AreSeatsAt};
 ghost use Rattle.spindle.specs.SlotLeaders.{TakesLeaders, IsLeaderOf, threads_of};
 ghost use Rattle.spindle_rounds.specs.Seating.{HasSlots};
 
-use crate::crew::Crew;
-use crate::crew::limits::Limits;
-use crate::crew::seats::Seats;
 use crate::crew::slot_post::Newcomer;
-use crate::crew::tables::Tables;
-use crate::job::gate::Gate;
-use crate::job::nest::Nest;
-use crate::lock::opening::muster;
-use crate::lock::part::TakesPart;
-use crate::lock::pool::Pool;
 use crate::lock::slot_leader::SlotLeader;
 use crate::lock::slot_workspace::{MakesSlots, SlotWorkspace};
 use crate::pieces::of_kind::PieceOf;
-use crate::work::runner::Runner;
 use spindle_parts::fault::Fault;
 use spindle_rounds::round_table::pieces::Pieces;
 use spindle_rounds::round_table::slots::Slots;
+use spindle_trays::crew::Crew;
+use spindle_trays::crew::limits::Limits;
+use spindle_trays::crew::seats::Seats;
+use spindle_trays::crew::tables::Tables;
+use spindle_trays::job::Job;
+use spindle_trays::job::gate::Gate;
+use spindle_trays::job::nest::Nest;
+use spindle_trays::lock::opening::muster;
+use spindle_trays::lock::part::TakesPart;
+use spindle_trays::lock::pool::Pool;
+use spindle_trays::work::runner::Runner;
 use std::alloc::Global;
 use std::sync::{Arc, Wait};
 use std::thread;
@@ -90,7 +91,7 @@ pub(crate) struct Entrant<'s, D: Slots, G: Gate, L> {
 
 impl<'s, D: Slots + Send + 's, G: Gate + Sync, L: Send + Sync> Entrant<'s, D, G, L> {
     // Starts the helpers. The leader joins its barrier, and runs jobs with what comes beside.
-    pub(crate) fn muster<E, J: TakesPart<D, L> + Send + 's, H: Threads + Wait + Sync + 's>(
+    pub(crate) fn muster<E, J: Job + Send + 's, H: Threads + Wait + Sync + 's>(
         self,
         scope: &Scope<'s, E>,
         rt: &'s H,
@@ -103,6 +104,7 @@ impl<'s, D: Slots + Send + 's, G: Gate + Sync, L: Send + Sync> Entrant<'s, D, G,
         J::Out: Send,
         J::Inner: Send,
         <J::Inner as Nest>::Slots: Send + Sync,
+        L: TakesPart<J, D>,
         ensures slots { result.0.slots ≡ self.entry.slots }
         ensures crew { result.1.site.crew ≡ self.entry.tables.now.crew }
     {

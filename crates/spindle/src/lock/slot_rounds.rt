@@ -7,12 +7,12 @@ ghost use Rattle.std.specs.List.{AllZip};
 ghost use Rattle.spindle_parts.specs.Pieces.{counted};
 ghost use Rattle.spindle.specs.SlotLeaders.{threads_of, slots_of, slot_jobs, IsAsBefore, IsBetweenRounds, PlayedOnce};
 
-use crate::job::gate::Gate;
-use crate::lists::SharedList;
 use crate::lock::slot_leader::SlotLeader;
 use crate::lock::slot_workspace::PlaysPieces;
-use crate::pieces::runs::Pieces;
+use spindle_lists::shared::SharedList;
 use spindle_parts::fault::Fault;
+use spindle_trays::job::gate::Gate;
+use spindle_trays::pieces::runs::Pieces;
 use std::alloc::Global;
 use std::sync::Wait;
 use std::thread::Threads;

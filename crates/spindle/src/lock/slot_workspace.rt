@@ -6,7 +6,7 @@ ghost use Rattle.std.specs.Prelude.{◌≡◌, ℕ, ◌<◌, ◌≤◌, [], true
 ghost use Rattle.std.specs.Option.{ForSome};
 ghost use Rattle.std.specs.List.{AllZip};
 ghost use denote.Param.Send.{IsSync};
-ghost use Rattle.spindle.specs.SlotPosts.{view_in};
+ghost use Rattle.spindle_trays.specs.SlotPosts.{view_in};
 ghost use Rattle.spindle_rounds.specs.declared.round_table.view.View.{View};
 ghost use Rattle.spindle_rounds.specs.RoundConditions.{MayFill};
 ghost use Rattle.spindle_rounds.specs.Seating.{HasSlots, IsSeatAt};
@@ -15,21 +15,25 @@ ghost use Rattle.spindle_rounds.specs.Working.{PlayedRound};
 
 use crate::crew::slot_post::{Newcomer, SlotPost};
 use crate::crew::slot_tables::SlotTables;
-use crate::crew::tables::Tables;
-use crate::job::Job;
-use crate::job::gate::Gate;
-use crate::job::nest::Nest;
-use crate::job::sealed::HasWorkspace;
-use crate::lock::part::TakesPart;
+use crate::lock::sealed::HasPost;
 use crate::pieces::of_kind::PieceOf;
-use crate::pieces::ready::Ready;
-use crate::pieces::runs;
-use crate::work::runner::Runner;
+use crate::work::in_slots::take_part_in_slots;
 use spindle_parts::fault::Fault;
 use spindle_rounds::round::Round;
+use spindle_rounds::round::task::Task;
 use spindle_rounds::round_table::Seat;
 use spindle_rounds::round_table::pieces::Pieces;
 use spindle_rounds::round_table::slots::Slots;
+use spindle_trays::crew::members::Members;
+use spindle_trays::crew::post::Post;
+use spindle_trays::crew::tables::Tables;
+use spindle_trays::job::Job;
+use spindle_trays::job::gate::Gate;
+use spindle_trays::job::nest::Nest;
+use spindle_trays::lock::part::TakesPart;
+use spindle_trays::pieces::ready::Ready;
+use spindle_trays::pieces::runs;
+use spindle_trays::work::runner::Runner;
 use std::alloc::Global;
 use std::sync::Wait;
 use std::thread::Threads;
@@ -40,9 +44,30 @@ pub struct SlotWorkspace<J: Job> {
     pub(crate) children: <J::Inner as Nest>::Slots,
 }
 
+impl<J: Job> TakesPart<J, Pieces<PieceOf<J>>> for SlotWorkspace<J> {
+    fn children(&self) -> &<J::Inner as Nest>::Slots {
+        &self.children
+    }
+
+    fn members<'a>(tables: &'a Tables<Pieces<PieceOf<J>>>) -> Members<'a> {
+        Members::Present(&tables.present)
+    }
+
+    fn take_part<'a, G: Gate, H: Threads + Wait + Sync>(
+        &self,
+        rt: &H,
+        alloc: Global,
+        post: &mut Post<'a, Pieces<PieceOf<J>>>,
+        runner: &mut Runner<'_, J, G>,
+        task: Task,
+    ) {
+        take_part_in_slots(rt, alloc, post, runner, task);
+    }
+}
+
 /// The kinds of jobs whose locks with slots have a leader's post of type P. Each kind of job has one, `SlotPost<PieceOf<J>>`,
 /// which a caller leaves to the compiler; the trait's calls are the library's own, and nobody else can implement it.
-pub trait OpensSlots<P>: Job + HasWorkspace<P> {
+pub trait OpensSlots<P>: Job + HasPost<P> {
     /// What a party notes of the piece that it has begun.
     type Note;
 
@@ -91,7 +116,7 @@ pub trait PlaysPieces<P>: OpensSlots<P> {
 }
 
 /// How such a lock is made, where its round table has D's slots. Each kind of job has one D, `Pieces<PieceOf<J>>`.
-pub trait MakesSlots<P, D: Slots, L>: OpensSlots<P> + TakesPart<D, L> {
+pub trait MakesSlots<P, D: Slots, L>: OpensSlots<P> {
     /// The workspace of a lock of so many threads.
     fn workspace(alloc: Global, threads: usize) -> Result<L, Fault>
         ensures { OnErr result (IsErrOf result Fault.Memory) };
@@ -110,7 +135,7 @@ pub trait MakesSlots<P, D: Slots, L>: OpensSlots<P> + TakesPart<D, L> {
         ensures { ForSome newcomer.old (λ n. Self.OpensSlots.slot_count result ≡ n.slots) };
 }
 
-impl<J: Job> HasWorkspace<SlotPost<PieceOf<J>>> for J {}
+impl<J: Job> HasPost<SlotPost<PieceOf<J>>> for J {}
 
 impl<J: Job> MakesSlots<SlotPost<PieceOf<J>>, Pieces<PieceOf<J>>, SlotWorkspace<J>> for J {
     fn workspace(alloc: Global, threads: usize) -> Result<SlotWorkspace<J>, Fault> {

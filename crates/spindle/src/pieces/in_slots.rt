@@ -10,13 +10,13 @@ ghost use Rattle.spindle_rounds.specs.SlotLoops.{HoldsEach, IsEmpty, Turning};
 ghost use Rattle.spindle.specs.SlotRounds.{IsAnswerTo, IsPieceOf};
 
 use crate::crew::slot_tables::SlotTables;
-use crate::job::Job;
 use crate::pieces::of_kind::PieceOf;
-use crate::pieces::ready::Ready;
-use crate::pieces::runs;
 use spindle_parts::fault::Fault;
 use spindle_rounds::round_table::Seat;
 use spindle_rounds::round_table::pieces::{Pieces, Stand};
+use spindle_trays::job::Job;
+use spindle_trays::pieces::ready::Ready;
+use spindle_trays::pieces::runs;
 use std::alloc::{AllocError, Global};
 
 // The piece of a number, with room for its outputs.

@@ -2,12 +2,12 @@
 ghost use Rattle.std.specs.List.{AllZip};
 ghost use Rattle.spindle.specs.SlotRounds.{IsAnswerTo};
 
-use crate::job::Job;
 use crate::job::remake::Remakes;
 use crate::pieces::chunk::{Chunk, Remade};
-use crate::pieces::finished::Finished;
-use crate::pieces::ready::Ready;
 use spindle_rounds::round_table::pieces::Answers;
+use spindle_trays::job::Job;
+use spindle_trays::pieces::finished::Finished;
+use spindle_trays::pieces::ready::Ready;
 use std::marker::PhantomData;
 
 /// A piece of a kind of job is answered by the same piece, run: under its number, with its inputs, and with an output for each

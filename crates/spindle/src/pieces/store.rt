@@ -2,7 +2,7 @@
 //! memory.
 ghost use Rattle.std.specs.Prelude.{◌≡◌, ◌<◌, ◌≤◌, ◌+◌, ◌/◌, [], OnOk, OnErr, IsErrOf, length, vec_len, vec_capacity};
 ghost use Rattle.spindle.specs.InPlace.{IsReady, last_pieces};
-ghost use Rattle.spindle.specs.PieceRuns.{piece_start};
+ghost use Rattle.spindle_trays.specs.PieceRuns.{piece_start};
 
 use crate::pieces::chunk::{Chunk, Room};
 use spindle_parts::fault::Fault;

@@ -10,21 +10,21 @@ ghost use Rattle.spindle_rounds.specs.Working.{OnTask, PlayedRound};
 ghost use Rattle.spindle.specs.InPlace.{IsReady};
 ghost use Rattle.spindle.specs.SlotRounds.{LeadsIn};
 
-use crate::crew::post::Post;
 use crate::crew::slot_tables::SlotTables;
-use crate::job::context::JobCx;
-use crate::job::gate::Gate;
 use crate::job::remake::Remakes;
 use crate::pieces::chunk::{Chunk, Remade};
 use crate::pieces::of_kind::ChunkOf;
 use crate::pieces::store::Store;
-use crate::work::runner::Runner;
 use spindle_rounds::barrier::Barrier;
 use spindle_rounds::round::claim::Claimed;
 use spindle_rounds::round::party::{Party, Work};
 use spindle_rounds::round::task::Task;
 use spindle_rounds::round_table::Seat;
 use spindle_rounds::round_table::pieces::Pieces;
+use spindle_trays::crew::post::Post;
+use spindle_trays::job::context::JobCx;
+use spindle_trays::job::gate::Gate;
+use spindle_trays::work::runner::Runner;
 use std::alloc::Global;
 use std::sync::Wait;
 use std::thread::Threads;
@@ -37,34 +37,32 @@ struct PlaceWork<'r, 'a, J: Remakes, G: Gate> {
     leads: bool,
 }
 
-impl<'a, J: Remakes> Post<'a, Pieces<ChunkOf<J>>> {
-    /// Runs the jobs of a published round that are left for the thread.
-    pub(crate) fn take_part_in_place<G: Gate, H: Threads + Wait + Sync>(
-        &mut self,
-        rt: &H,
-        alloc: Global,
-        runner: &mut Runner<'_, J, G>,
-        task: Task,
-    )
-        requires task { OnTask task.jobs task.may_stop self.old.barrier.seat.me.0 }
-        requires helper { self.old.barrier.seat.me.0.leader ≡ false }
-        ensures post { (self.new.tables ≡ self.old.tables) × (self.new.thread ≡ self.old.thread) }
-        ensures leader { self.new.barrier.seat.me.0.leader ≡ false }
-        ensures done { IsDone self.new.barrier.seat.me.0 }
-        ensures seat { IsSameSeat self.old.barrier.seat self.new.barrier.seat }
-    {
-        let party = Party {
-            round: &self.tables.round,
-            thread: self.thread,
-            task,
-        };
-        let work = PlaceWork {
-            runner,
-            alloc,
-            leads: false,
-        };
-        drop(party.work(rt, &mut self.barrier.seat, work));
-    }
+/// Runs the jobs of a published round that are left for the thread of this post.
+pub(crate) fn take_part_in_place<J: Remakes, G: Gate, H: Threads + Wait + Sync>(
+    rt: &H,
+    alloc: Global,
+    post: &mut Post<'_, Pieces<ChunkOf<J>>>,
+    runner: &mut Runner<'_, J, G>,
+    task: Task,
+)
+    requires task { OnTask task.jobs task.may_stop post.old.barrier.seat.me.0 }
+    requires helper { post.old.barrier.seat.me.0.leader ≡ false }
+    ensures post { (post.new.tables ≡ post.old.tables) × (post.new.thread ≡ post.old.thread) }
+    ensures leader { post.new.barrier.seat.me.0.leader ≡ false }
+    ensures done { IsDone post.new.barrier.seat.me.0 }
+    ensures seat { IsSameSeat post.old.barrier.seat post.new.barrier.seat }
+{
+    let party = Party {
+        round: &post.tables.round,
+        thread: post.thread,
+        task,
+    };
+    let work = PlaceWork {
+        runner,
+        alloc,
+        leads: false,
+    };
+    drop(party.work(rt, &mut post.barrier.seat, work));
 }
 
 impl<'t, J: Remakes> SlotTables<'t, Pieces<ChunkOf<J>>> {
@@ -122,7 +120,7 @@ impl<'r, 'a, J: Remakes, G: Gate> Work<Pieces<ChunkOf<J>>> for PlaceWork<'r, 'a,
         let chunk = party.round.take_piece(seat, &claimed);
         let index = self.runner.site.index;
         let number = claimed.number() as usize;
-        let remade = self.runner.remake(rt, self.alloc, number, index, chunk);
+        let remade = remake_chunk(rt, self.alloc, self.runner, number, index, chunk);
         party.round.finish(seat, claimed, remade);
     }
 
@@ -131,28 +129,26 @@ impl<'r, 'a, J: Remakes, G: Gate> Work<Pieces<ChunkOf<J>>> for PlaceWork<'r, 'a,
     ghost keeps_then = { λ old then new a b. b ∙ a };
 }
 
-impl<'a, J: Remakes, G: Gate> Runner<'a, J, G> {
-    /// Remakes the items of a chunk, between the two calls of the gate.
-    pub(crate) fn remake<H: Threads + Wait + Sync>(
-        &mut self,
-        rt: &H,
-        alloc: Global,
-        number: usize,
-        index: Option<usize>,
-        chunk: Chunk<J::Item>,
-    ) -> Remade<J::Item>
-        requires index { ForSome index (λ i. i < self.old.site.crew.most) }
-        ensures remade { AllZip J.remade chunk result }
-        ensures site { self.new.site ≡ self.old.site }
-    {
-        let site = self.site.under(index);
-        let notices = self.notices.another();
-        let mut context = JobCx::new(Some(self.slots), notices, site);
-        self.gate.begun(number);
-        let remade = remake_each::<J, H>(rt, alloc, chunk, &mut context);
-        self.gate.done(number);
-        remade
-    }
+/// Remakes the items of a chunk, between the two calls of the gate.
+pub(crate) fn remake_chunk<J: Remakes, G: Gate, H: Threads + Wait + Sync>(
+    rt: &H,
+    alloc: Global,
+    runner: &mut Runner<'_, J, G>,
+    number: usize,
+    index: Option<usize>,
+    chunk: Chunk<J::Item>,
+) -> Remade<J::Item>
+    requires index { ForSome index (λ i. i < runner.old.site.crew.most) }
+    ensures remade { AllZip J.remade chunk result }
+    ensures site { runner.new.site ≡ runner.old.site }
+{
+    let site = runner.site.under(index);
+    let notices = runner.notices.another();
+    let mut context = JobCx::new(Some(runner.slots), notices, site);
+    runner.gate.begun(number);
+    let remade = remake_each::<J, H>(rt, alloc, chunk, &mut context);
+    runner.gate.done(number);
+    remade
 }
 
 // Remakes the items one after the other.

@@ -9,16 +9,8 @@ ghost use Rattle.spindle_rounds.specs.Working.{OnTask, PlayedRound};
 ghost use Rattle.spindle_rounds.specs.SlotLoops.{IsEmpty, IsPiece, Turning};
 ghost use Rattle.spindle.specs.SlotRounds.{IsAnswerTo, LeadsAt, LeadsIn, PlayedPieces};
 
-use crate::crew::phases::end_round;
-use crate::crew::post::Post;
 use crate::crew::slot_tables::SlotTables;
-use crate::job::Job;
-use crate::job::gate::Gate;
-use crate::pieces::finished::Finished;
 use crate::pieces::of_kind::PieceOf;
-use crate::pieces::ready::Ready;
-use crate::pieces::runs;
-use crate::work::runner::Runner;
 use spindle_parts::fault::Fault;
 use spindle_rounds::barrier::Barrier;
 use spindle_rounds::round::claim::Claimed;
@@ -26,6 +18,14 @@ use spindle_rounds::round::party::{Party, Work};
 use spindle_rounds::round::task::Task;
 use spindle_rounds::round_table::Seat;
 use spindle_rounds::round_table::pieces::{Answers, Pieces, Stand};
+use spindle_trays::crew::phases::end_round;
+use spindle_trays::crew::post::Post;
+use spindle_trays::job::Job;
+use spindle_trays::job::gate::Gate;
+use spindle_trays::pieces::finished::Finished;
+use spindle_trays::pieces::ready::Ready;
+use spindle_trays::pieces::runs;
+use spindle_trays::work::runner::Runner;
 use std::alloc::Global;
 use std::sync::Wait;
 use std::thread::Threads;
@@ -38,34 +38,32 @@ struct SlotWork<'r, 'a, J: Job, G: Gate> {
     leads: bool,
 }
 
-impl<'a, J: Job> Post<'a, Pieces<PieceOf<J>>> {
-    /// Runs the jobs of a published round that are left for the thread.
-    pub(crate) fn take_part_in_slots<G: Gate, H: Threads + Wait + Sync>(
-        &mut self,
-        rt: &H,
-        alloc: Global,
-        runner: &mut Runner<'_, J, G>,
-        task: Task,
-    )
-        requires task { OnTask task.jobs task.may_stop self.old.barrier.seat.me.0 }
-        requires helper { self.old.barrier.seat.me.0.leader ≡ false }
-        ensures post { (self.new.tables ≡ self.old.tables) × (self.new.thread ≡ self.old.thread) }
-        ensures leader { self.new.barrier.seat.me.0.leader ≡ false }
-        ensures done { IsDone self.new.barrier.seat.me.0 }
-        ensures seat { IsSameSeat self.old.barrier.seat self.new.barrier.seat }
-    {
-        let party = Party {
-            round: &self.tables.round,
-            thread: self.thread,
-            task,
-        };
-        let work = SlotWork {
-            runner,
-            alloc,
-            leads: false,
-        };
-        drop(party.work(rt, &mut self.barrier.seat, work));
-    }
+/// Runs the jobs of a published round that are left for the thread of this post.
+pub(crate) fn take_part_in_slots<J: Job, G: Gate, H: Threads + Wait + Sync>(
+    rt: &H,
+    alloc: Global,
+    post: &mut Post<'_, Pieces<PieceOf<J>>>,
+    runner: &mut Runner<'_, J, G>,
+    task: Task,
+)
+    requires task { OnTask task.jobs task.may_stop post.old.barrier.seat.me.0 }
+    requires helper { post.old.barrier.seat.me.0.leader ≡ false }
+    ensures post { (post.new.tables ≡ post.old.tables) × (post.new.thread ≡ post.old.thread) }
+    ensures leader { post.new.barrier.seat.me.0.leader ≡ false }
+    ensures done { IsDone post.new.barrier.seat.me.0 }
+    ensures seat { IsSameSeat post.old.barrier.seat post.new.barrier.seat }
+{
+    let party = Party {
+        round: &post.tables.round,
+        thread: post.thread,
+        task,
+    };
+    let work = SlotWork {
+        runner,
+        alloc,
+        leads: false,
+    };
+    drop(party.work(rt, &mut post.barrier.seat, work));
 }
 
 impl<'t, A: Answers> SlotTables<'t, Pieces<A>> {

@@ -2,8 +2,8 @@
 use Rattle.std.proofs.Common.{ℕ, List, Vec, Global, ◌∙◌, map, ap, subst}
 use Rattle.std.specs.declared.alloc.AllocError.{AllocError}
 use Rattle.spindle_parts.specs.Pieces.{joined}
-use Rattle.spindle.specs.Gathered.{IsGathered}
-use Rattle.spindle.proofs.GatheredLists.{gathered_values}
+use Rattle.spindle_lists.specs.Gathered.{IsGathered}
+use Rattle.spindle_lists.proofs.GatheredLists.{gathered_values}
 use Rattle.spindle_examples.specs.Product.{row_of, product}
 use Rattle.spindle_examples.proofs.Products.{joined_rows}
 use Rattle.spindle_examples.proofs.product.multiplied.Goals as goal

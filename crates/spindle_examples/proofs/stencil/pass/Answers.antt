@@ -2,9 +2,9 @@
 use Rattle.std.proofs.Common.{ℕ, List, ◌∙◌, map, ap, subst, rules}
 use Rattle.std.specs.declared.alloc.AllocError.{AllocError}
 use Rattle.spindle_parts.specs.Pieces.{joined}
-use Rattle.spindle.specs.Chunks.{ChunkView}
-use Rattle.spindle.specs.Gathered.{IsGathered}
-use Rattle.spindle.proofs.GatheredLists.{gathered_values}
+use Rattle.spindle_lists.specs.Chunks.{ChunkView}
+use Rattle.spindle_lists.specs.Gathered.{IsGathered}
+use Rattle.spindle_lists.proofs.GatheredLists.{gathered_values}
 use Rattle.spindle_examples.specs.Stencil.{smooth_part, smooth}
 use Rattle.spindle_examples.proofs.Stencils.{smooth_joined}
 use Rattle.spindle_examples.proofs.stencil.pass.Goals as goal

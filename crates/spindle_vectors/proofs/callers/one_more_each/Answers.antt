@@ -1,8 +1,8 @@
 -- The chunks are the list, and each chunk's answer is one more of each of its elements.
 use Rattle.std.proofs.Common.{ℕ, ◌+◌, ◌∙◌, Ok, map, ap, subst, rules}
 use Rattle.std.specs.declared.alloc.AllocError.{AllocError}
-use Rattle.spindle.specs.Gathered.{IsGathered}
-use Rattle.spindle.proofs.GatheredLists.{gathered_map}
+use Rattle.spindle_lists.specs.Gathered.{IsGathered}
+use Rattle.spindle_lists.proofs.GatheredLists.{gathered_map}
 use Rattle.spindle_vectors.proofs.callers.one_more_each.Goals as goal
 
 pub returns : goal.returns

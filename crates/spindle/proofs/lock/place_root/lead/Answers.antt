@@ -1,6 +1,6 @@
 -- The leader of the closure is one of this lock, with its slots.
 use Rattle.std.proofs.Common.{ap, refl, ◌∙◌}
-use Rattle.spindle.specs.declared.crew.Crew.{Crew}
+use Rattle.spindle_trays.specs.declared.crew.Crew.{Crew}
 use Rattle.spindle.proofs.lock.place_root.lead.Goals as goal
 
 pub f-answer-requires : goal.f-answer-requires

@@ -2,9 +2,9 @@
 use Rattle.std.proofs.Common.{◌%◌, arith, refl, ap, sym, subst, ◌∙◌}
 use Rattle.spindle_rounds.specs.declared.round_table.view.Standing.TheVariants.{Inside}
 use Rattle.spindle_rounds.specs.RoundSteps.{round_of}
-use Rattle.spindle.specs.SlotPosts.{StandsAt, HoldsEmpty}
+use Rattle.spindle_trays.specs.SlotPosts.{StandsAt, HoldsEmpty}
 use Rattle.spindle.proofs.SlotPosts.{empty_hand}
-use Rattle.spindle.proofs.TrayPlaces.{some_is}
+use Rattle.spindle_trays.proofs.TrayPlaces.{some_is}
 use Rattle.spindle.proofs.crew.slot_post.SlotPost.new.Goals as goal
 
 pub invariant_of-result : goal.invariant_of-result

@@ -1,9 +1,9 @@
 -- The leader plays at its barrier, and is parted from it again.
 use Rattle.std.proofs.Common.{◌≡◌, Some, refl, ap, sym, subst, ◌∙◌}
 use Rattle.spindle_rounds.specs.Seating.{slots_of}
-use Rattle.spindle.specs.SlotPosts.{StandsAt, HoldsEmpty}
+use Rattle.spindle_trays.specs.SlotPosts.{StandsAt, HoldsEmpty}
 use Rattle.spindle.proofs.SlotPosts.{resumed, parted}
-use Rattle.spindle.proofs.TrayPlaces.{some_is}
+use Rattle.spindle_trays.proofs.TrayPlaces.{some_is}
 use Rattle.spindle.proofs.lock.slot_workspace.AnyPlaysPiecesSlotPostPieceOf.play.Goals as goal
 
 pub play-played-requires-clause-leads : goal.play-played-requires-clause-leads

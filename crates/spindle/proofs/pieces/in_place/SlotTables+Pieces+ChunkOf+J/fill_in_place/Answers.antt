@@ -4,7 +4,7 @@ use Rattle.spindle_rounds.specs.SlotHands.{WaitsAs}
 use Rattle.spindle_rounds.specs.SlotLoops.{IsEmpty, Turning}
 use Rattle.spindle_rounds.proofs.SlotLoops.{turning_first, turning_head, turning_next}
 use Rattle.spindle.specs.InPlace.{IsChunkOf, last_pieces}
-use Rattle.spindle.specs.PieceRuns.{piece_at}
+use Rattle.spindle_trays.specs.PieceRuns.{piece_at}
 use Rattle.spindle.proofs.InPlace.{last_many, snoc_last}
 use Rattle.spindle.proofs.pieces.in_place.SlotTables+Pieces+ChunkOf+J.fill_in_place.Goals as goal
 

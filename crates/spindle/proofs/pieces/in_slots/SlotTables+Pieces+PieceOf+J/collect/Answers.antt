@@ -6,10 +6,10 @@ use Rattle.spindle_rounds.specs.SlotHands.{turned_by}
 use Rattle.spindle_rounds.specs.SlotLoops.{IsEmpty, HoldsEach, Turning}
 use Rattle.spindle_rounds.proofs.SlotHands.{settled}
 use Rattle.spindle_rounds.proofs.SlotLoops.{turning_first, turning_head, turning_next}
-use Rattle.spindle.proofs.Outputs.{AllZip-AddsAnswers}
-use Rattle.spindle.proofs.PieceRuns.{items_more, next_fits}
-use Rattle.spindle.proofs.SlotRounds.{Held, found_inputs, before_first}
-use Rattle.spindle.specs.PieceRuns.{items_before}
+use Rattle.spindle_trays.proofs.Outputs.{AllZip-AddsAnswers}
+use Rattle.spindle_trays.proofs.PieceRuns.{before_first, items_more, next_fits}
+use Rattle.spindle.proofs.SlotRounds.{Held, found_inputs}
+use Rattle.spindle_trays.specs.PieceRuns.{items_before}
 use Rattle.spindle.proofs.pieces.in_slots.SlotTables+Pieces+PieceOf+J.collect.Goals as goal
 
 pub loop-slot-init : goal.loop-slot-init

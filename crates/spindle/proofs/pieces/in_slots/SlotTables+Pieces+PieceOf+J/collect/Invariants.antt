@@ -4,7 +4,7 @@ use Rattle.std.specs.List.{AllZip}
 use Rattle.spindle_rounds.specs.Seating.{IsSameSeat}
 use Rattle.spindle_rounds.specs.SlotHands.{AnsweredAs}
 use Rattle.spindle_rounds.specs.SlotLoops.{IsEmpty, Turning}
-use Rattle.spindle.specs.PieceRuns.{items_before}
+use Rattle.spindle_trays.specs.PieceRuns.{items_before}
 use Rattle.spindle.specs.SlotRounds.{IsAnswerTo, IsPieceOf}
 use Rattle.spindle.proofs.pieces.in_slots.SlotTables+Pieces+PieceOf+J.collect.Given as goal
 

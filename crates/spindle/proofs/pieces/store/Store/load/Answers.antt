@@ -2,7 +2,7 @@
 use Rattle.std.proofs.Common.{◌≡◌, ◌≤◌, ◌/◌, ◌+◌, ◌-◌, ◌++◌, ◌∷◌, [], ℕ, suc, length, take, drop, rules, refl, ap, sym, subst, ◌∙◌, arith, vec_len}
 use Rattle.std.proofs.lemmas.List.{take-take}
 use Rattle.spindle.specs.InPlace.{HaveRoom, last_pieces}
-use Rattle.spindle.specs.PieceRuns.{piece_start, items_before, piece_at}
+use Rattle.spindle_trays.specs.PieceRuns.{piece_start, items_before, piece_at}
 use Rattle.spindle.proofs.InPlace.{all_before, piece_last, piece_short, room_less, start_all}
 use Rattle.spindle.proofs.pieces.store.Store.load.Goals as goal
 

@@ -1,7 +1,7 @@
 -- The last pieces are chunks, and the items before them are left.
 use Rattle.std.proofs.Common.{◌≡◌, ◌≤◌, ◌/◌, ◌+◌, ◌-◌, vec_len, vec_capacity}
 use Rattle.spindle.specs.InPlace.{HaveRoom, last_pieces}
-use Rattle.spindle.specs.PieceRuns.{piece_start, items_before}
+use Rattle.spindle_trays.specs.PieceRuns.{piece_start, items_before}
 use Rattle.spindle.proofs.pieces.store.Store.load.Given as goal
 
 abbrev pub invariant-loop-done : goal.invariant-loop-done

@@ -10,11 +10,11 @@ use Rattle.spindle_rounds.specs.Working.{PlayedRound}
 use Rattle.spindle_rounds.proofs.SlotHands.{settled, turning_less}
 use Rattle.spindle_rounds.proofs.SlotLoops.{turning_first, turning_head, turning_next}
 use Rattle.spindle.specs.InPlace.{IsChunkOf}
-use Rattle.spindle.specs.PieceRuns.{items_before, piece_at}
+use Rattle.spindle_trays.specs.PieceRuns.{items_before, piece_at}
 use Rattle.spindle.proofs.InPlace.{found_chunk, all_before}
-use Rattle.spindle.proofs.Outputs.{AllZip-AddsAnswers}
-use Rattle.spindle.proofs.PieceRuns.{items_more, next_fits}
-use Rattle.spindle.proofs.SlotRounds.{answers_held, before_first, still_leads}
+use Rattle.spindle_trays.proofs.Outputs.{AllZip-AddsAnswers}
+use Rattle.spindle_trays.proofs.PieceRuns.{before_first, items_more, next_fits}
+use Rattle.spindle.proofs.SlotRounds.{answers_held, still_leads}
 use Rattle.spindle.proofs.work.in_place.SlotTables+Pieces+ChunkOf+J.remake.Goals as goal
 
 pub fill_in_place-requires-clause-held : goal.fill_in_place-requires-clause-held

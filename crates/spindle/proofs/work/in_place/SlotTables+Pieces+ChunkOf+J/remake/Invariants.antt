@@ -6,7 +6,7 @@ use Rattle.spindle_rounds.specs.SlotHands.{AnsweredAs}
 use Rattle.spindle_rounds.specs.SlotLoops.{IsEmpty, Turning}
 use Rattle.spindle_rounds.specs.Working.{PlayedRound}
 use Rattle.spindle.specs.InPlace.{IsChunkOf}
-use Rattle.spindle.specs.PieceRuns.{items_before}
+use Rattle.spindle_trays.specs.PieceRuns.{items_before}
 use Rattle.spindle.specs.SlotRounds.{LeadsAt}
 use Rattle.spindle.proofs.work.in_place.SlotTables+Pieces+ChunkOf+J.remake.Given as goal
 

@@ -1,5 +1,0 @@
--- Each recruit leaves the leader's seats its own.
-use Rattle.spindle.proofs.lock.opening.start.Goals as goal
-
-pub loop-init : goal.loop-init
-loop-init g c = c.requires

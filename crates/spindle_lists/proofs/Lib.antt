@@ -1,0 +1,4 @@
+-- The lemmas of this crate.
+pub mod ListRuns
+pub mod GatheredLists
+pub mod ListChunks

@@ -1,0 +1,4 @@
+-- The definitions that contracts of this crate cite.
+pub mod Same
+pub mod Gathered
+pub mod Chunks

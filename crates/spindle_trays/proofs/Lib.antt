@@ -1,0 +1,11 @@
+-- The lemmas of this crate.
+pub mod Addresses
+pub mod Outputs
+pub mod Places
+pub mod TrayPlaces
+pub mod PieceRuns
+pub mod Reports
+mod Helpers
+mod Leaving
+pub mod Rooms
+mod Benches

@@ -1,0 +1,38 @@
+-- The pieces of a list as runs of it, one behind the other.
+use Rattle.std.proofs.Common.{◌≡◌, ℕ, ◌+◌, ◌-◌, ◌<◌, ◌≤◌, List, [], ◌++◌, length, take, ap, ◌∙◌, arith, length-append}
+use Rattle.std.proofs.lemmas.List.{length-take}
+use Rattle.std.proofs.Math.Seq.{take-add}
+use Rattle.std.proofs.lemmas.Slice.Zip.{AllZip-long}
+use Rattle.std.specs.List.{AllZip}
+use Rattle.spindle_trays.specs.PieceRuns.{piece_start, items_before, piece_at}
+
+-- nothing stands before the first piece
+pub before_first : {A : Type 0} (items : List A) (pieces : ℕ) → items_before items pieces 0 ≡ []
+before_first items pieces = let zero : piece_start (length items) pieces 0 ≡ 0 = omega arith in ap (λ (n : ℕ). take n items) zero
+
+-- a piece begins where the one before it ends
+start_next : (len pieces number : ℕ) → piece_start len pieces number ≤ piece_start len pieces (number + 1)
+start_next len pieces number = omega arith
+
+-- the items before the next piece are those before this one and this one's
+pub items_more : {A : Type 0} (items : List A) (pieces number : ℕ) → items_before items pieces
+    (number + 1) ≡ items_before items pieces number ++ piece_at items pieces number
+items_more items pieces number =
+    let from = piece_start (length items) pieces number in
+    let to = piece_start (length items) pieces (number + 1) in
+    let e : to ≡ from + (to - from) = omega (arith, start_next (length items) pieces number) in
+    ap (λ n. take n items) e ∙ take-add from (to - from) items
+
+-- where outputs answer the items before a piece, and there is room for all, there is room for the piece's
+pub next_fits : {A B : Type 0} (R : A → B → Type 0) (items : List A) (pieces number : ℕ) (outputs : List B) → number < pieces → AllZip R
+    (items_before items pieces number) outputs → length outputs + length (piece_at items pieces number) ≤ length items
+next_fits R items pieces number outputs h z =
+    let more = items_before items pieces (number + 1) in
+    let whole : length more ≤ length items = omega (arith, length-take (piece_start (length items) pieces (number + 1)) items) in
+    omega (
+      arith,
+      AllZip-long R (items_before items pieces number) outputs z,
+      length-append (items_before items pieces number) (piece_at items pieces number),
+      ap length (items_more items pieces number),
+      whole,
+    )

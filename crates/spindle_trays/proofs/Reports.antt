@@ -1,0 +1,224 @@
+-- Tallies of pieces, one more at a time, and the report that a whole tally makes.
+use Rattle.std.proofs.Common.{◌≡◌, ◌⊎◌, ◌↔◌, ℕ, ◌+◌, ◌<◌, ◌≤◌, Bool, true, false, not, cond, List, [], ◌∷◌, ◌++◌, Option, None, Some, IfSome, unwrap_or, Vec, vec_len, vec_capacity, Global, length-append, ◌||◌, zero, suc, length, get_or, map, filter, All, Any, Contains, inl, inr, ⊎_elim, refl, ap, sym, ◌∙◌, subst, arith, zero-add, add-zero, append-nil, append_assoc, mod-lt, div-add-mod'}
+use Rattle.std.specs.List.{AllZip}
+use Rattle.std.specs.List.Sorted.{IsStrictlyIncreasing}
+use Rattle.std.proofs.lemmas.Bool.{cases_lt, false≢true}
+use Rattle.std.proofs.lemmas.Grind.{get_or_default_zero}
+use Rattle.std.proofs.lemmas.List.Elements.{All-head, All-tail, All-push, filter-append, filter_passes}
+use Rattle.std.proofs.lemmas.List.{get_or_append_left, take_all}
+use Rattle.std.proofs.lemmas.List.Quantifiers.{Any-push}
+use Rattle.std.proofs.lemmas.List.Kept.{IsStrictlyIncreasing-filter}
+use Rattle.std.proofs.lemmas.List.Sorted.{IsPermutation-filter_both}
+use Rattle.spindle_parts.specs.Pieces.{counted, joined}
+use Rattle.spindle_parts.proofs.Lists.{all_zip_append, counted_snoc, joined_snoc, map_snoc}
+use Rattle.spindle_parts.proofs.Deals.{length-counted}
+use Rattle.spindle_trays.proofs.Addresses.{get_or-counted}
+use Rattle.spindle_trays.specs.Reports.{numbers_of, outputs_of, is_marked, HasFailed, IsAnswered, IsTold, IsNoted, IsReport}
+use Rattle.spindle_trays.proofs.PieceRuns.{before_first, items_more}
+use Rattle.spindle_trays.specs.PieceRuns.{items_before, piece_at, piece_start}
+use Rattle.spindle_trays.specs.declared.lock.report.Report.{Report}
+use Rattle.spindle_trays.specs.declared.work.tally.Tally.{Tally}
+
+-- of one number more
+filter_next : (p : ℕ → Bool) (k : ℕ) (b : Bool) → p k ≡ b → filter p (counted 0 (k + 1)) ≡ filter p (counted 0 k) ++ cond b (k ∷ []) []
+filter_next p k b e = rw (counted_snoc 0 k, zero-add k, filter-append p (counted 0 k) (k ∷ []), e) refl
+
+not_not : (b : Bool) → b ≡ not (not b)
+not_not true = refl
+not_not false = refl
+
+-- a piece more that ran
+pub told_ran : {A B : Type 0} (Meets : A → B → Type 0) (items : List A) (n : ℕ) (left : List Bool) (k : ℕ) (old new : Tally B) (outputs : Vec B Global)
+    → is_marked left k ≡ false → AllZip Meets (piece_at items n k) outputs.items → new.ran.items ≡ old.ran.items ++ (k, outputs) ∷ []
+    → new.skipped.items ≡ old.skipped.items → IsTold Meets items n left k old → IsTold Meets items n left (k + 1) new
+told_ran Meets items n left k old new outputs unmarked answered ran skipped told = record {
+  ran = ap numbers_of ran ∙ map_snoc (λ piece. piece.0) old.ran.items (k, outputs) ∙ ap (λ xs. xs ++ k ∷ []) told.ran
+      ∙ sym (filter_next (λ j. not (is_marked left j)) k true (ap not unmarked));
+  skipped = skipped ∙ told.skipped ∙ sym (filter_next (is_marked left) k false unmarked ∙ append-nil (filter (is_marked left) (counted 0 k)));
+  answers = subst (All (IsAnswered Meets items n)) (sym ran) (All-push (IsAnswered Meets items n) old.ran.items (k, outputs) told.answers answered);
+}
+
+-- a piece more that was skipped
+pub told_skipped : {A B : Type 0} (Meets : A → B → Type 0) (items : List A) (n : ℕ) (left : List Bool) (k : ℕ) (old new : Tally B) → is_marked left k ≡ true
+    → new.ran.items ≡ old.ran.items → new.skipped.items ≡ old.skipped.items ++ k ∷ [] → IsTold Meets items n left k old → IsTold Meets items n left (k + 1) new
+told_skipped Meets items n left k old new marked ran skipped told = record {
+  ran = ap numbers_of ran ∙ told.ran ∙ sym (filter_next (λ j. not (is_marked left j)) k false (ap not marked)
+      ∙ append-nil (filter (λ j. not (is_marked left j)) (counted 0 k)));
+  skipped = skipped ∙ ap (λ xs. xs ++ k ∷ []) told.skipped ∙ sym (filter_next (is_marked left) k true marked);
+  answers = subst (All (IsAnswered Meets items n)) (sym ran) told.answers;
+}
+
+increasing : (n : ℕ) → IsStrictlyIncreasing (counted 0 n)
+increasing n k within = let long = length-counted 0 n in
+    omega (arith, get_or-counted 0 n k (omega arith), get_or-counted 0 n (k + 1) (omega arith))
+
+-- where a test keeps nothing, its opposite keeps all
+kept_all : (p : ℕ → Bool) (xs : List ℕ) → filter p xs ≡ [] → filter (λ j. not (p j)) xs ≡ xs
+kept_all p [] e = refl
+kept_all p (x ∷ xs) e = kept_all_from (p x) x (filter p xs) xs (filter (λ j. not (p j)) xs) (kept_all p xs) e
+  where
+    kept_all_from : (b : Bool) (x : ℕ) (fs xs ks : List ℕ) → (fs ≡ [] → ks ≡ xs) → cond b (x ∷ fs) fs ≡ [] → cond (not b) (x ∷ ks) ks ≡ x ∷ xs
+    kept_all_from true x fs xs ks h e = absurd cc
+    kept_all_from false x fs xs ks h e = ap (λ t. x ∷ t) (h e)
+
+-- a whole tally makes a report
+pub report_of : {A B : Type 0} (Meets : A → B → Type 0) (Fails : B → Type 0) (items : List A) (n : ℕ) (left : List Bool) (tally : Tally B) (report : Report B)
+    → report.ran ≡ tally.ran → report.skipped ≡ tally.skipped → IsTold Meets items n left n tally
+    → (report.skipped.items ≡ []) ⊎ Any (HasFailed Fails) report.ran.items → IsReport Meets Fails items n report
+report_of Meets Fails items n left tally report ran skipped told stopped =
+    let p : ℕ → Bool = λ j. not (is_marked left j) in let q = is_marked left in
+    let r = ap (λ v. numbers_of v.items) ran ∙ told.ran in let s = ap (λ v. v.items) skipped ∙ told.skipped in record {
+      ran = subst IsStrictlyIncreasing (sym r) (IsStrictlyIncreasing-filter p (counted 0 n) (increasing n));
+      skipped = subst IsStrictlyIncreasing (sym s) (IsStrictlyIncreasing-filter q (counted 0 n) (increasing n));
+      each_once = rw (r, s) (IsPermutation-filter_both p q (λ j. not_not (is_marked left j)) (counted 0 n));
+      whole = λ none. r ∙ kept_all q (counted 0 n) (sym s ∙ none);
+      answers = subst (λ v. All (IsAnswered Meets items n) v.items) (sym ran) told.answers;
+      stopped = stopped;
+    }
+
+behind_first : (b : Bool) (x y : ℕ) (xs : List ℕ) → Contains xs x → Contains (cond b (y ∷ xs) xs) x
+behind_first true x y xs h = let lt = h.1 in (suc h.0, omega arith, h.2)
+behind_first false x y xs h = h
+
+at_first : (b : Bool) (x y : ℕ) (xs : List ℕ) → b ≡ true → y ≡ x → Contains (cond b (y ∷ xs) xs) x
+at_first true x y xs e h = (0, omega arith, h)
+at_first false x y xs e h = absurd cc
+
+kept : (p : ℕ → Bool) (xs : List ℕ) (k x : ℕ) → k < length xs → get_or xs k x ≡ x → p x ≡ true → Contains (filter p xs) x
+kept p [] k x lt e t = absurd (omega (arith, lt))
+kept p (y ∷ xs) zero x lt e t = at_first (p y) x y (filter p xs) (ap p e ∙ t) e
+kept p (y ∷ xs) (suc k) x lt e t = behind_first (p y) x y (filter p xs) (kept p xs k x (omega (arith, lt)) e t)
+
+unmarked_past : (left : List Bool) (k : ℕ) → length left ≤ k → is_marked left k ≡ false
+unmarked_past [] zero h = refl
+unmarked_past [] (suc k) h = refl
+unmarked_past (x ∷ left) zero h = absurd (omega (arith, h))
+unmarked_past (x ∷ left) (suc k) h = unmarked_past left k (omega (arith, h))
+
+counted_at : (n k : ℕ) → k < n → get_or (counted 0 n) k k ≡ k
+counted_at n k below = let c = length-counted 0 n in get_or_default_zero (counted 0 n) k k (omega arith) ∙ get_or-counted 0 n k below ∙ zero-add k
+
+-- of a whole tally, those that were skipped are the marked ones
+pub skipped_marked : {A B : Type 0} (Meets : A → B → Type 0) (items : List A) (n : ℕ) (left : List Bool) (tally : Tally B) (xs : List ℕ) → length left ≡ n
+    → xs ≡ tally.skipped.items → IsTold Meets items n left n tally → (k : ℕ) → Contains xs k ↔ (is_marked left k ≡ true)
+skipped_marked Meets items n left tally xs long same told k = let q = is_marked left in let e = same ∙ told.skipped in (
+  (λ h. let g = subst (λ ys. Contains ys k) e h in
+      subst (λ x. q x ≡ true) g.2 (filter_passes q (counted 0 n) g.0 k g.1)),
+  (λ t. subst (λ ys. Contains ys k) (sym e) (⊎_elim
+      (λ (below : k < n). kept q (counted 0 n) k k (let c = length-counted 0 n in omega (arith, c, below)) (counted_at n k below) t)
+      (λ (past : n ≤ k). absurd (let f = unmarked_past left k (omega (arith, long, past)) in false≢true (sym f ∙ t)))
+      (cases_lt k n))),
+)
+
+-- where a piece of these has failed, one of more has
+any_more : {X : Type 0} (P : X → Type 0) (xs : List X) (y : X) → Any P xs → Any P (xs ++ y ∷ [])
+any_more P xs y h = let long = length-append xs (y ∷ []) in let lt = h.2 in (h.0, h.1, omega arith, get_or_append_left xs (y ∷ []) h.1 h.0 lt ∙ h.3, h.4)
+
+below_more : (k : ℕ) (o : Option ℕ) → IfSome o (λ j. j < k) → IfSome o (λ j. j < k + 1)
+below_more k None h = h
+below_more k (Some j) h = omega (arith, h)
+
+marked_more : (k : ℕ) (left : List Bool) (xs : List ℕ) → All (λ j. (j < k) × (is_marked left j ≡ true)) xs → All (λ j. (j < k + 1) × (is_marked left j ≡ true)) xs
+marked_more k left xs h i d lt = let e = h i d lt in let b = e.0 in (omega arith, e.1)
+
+lost_first : (k : ℕ) (o : Option ℕ) → IfSome o (λ j. j < k) → unwrap_or o k < k + 1
+lost_first k None h = omega arith
+lost_first k (Some j) h = omega (arith, h)
+
+either : (a b : Bool) → (a || b) ≡ true → (a ≡ true) ⊎ (b ≡ true)
+either true b e = inl refl
+either false b e = inr e
+
+module _ {A B : Type 0} (Meets : A → B → Type 0) (Fails : B → Type 0) (items : List A) (n : ℕ) (left : List Bool) (k : ℕ) where
+  -- a tally that goes on with a piece that ran
+  pub noted_ran : (old new : Tally B) (outputs : Vec B Global) (has : Bool) → is_marked left k ≡ false → AllZip Meets (piece_at items n k) outputs.items
+      → (has ≡ true → Any Fails outputs.items) → vec_len new.ran ≡ vec_len old.ran + 1 → vec_capacity new.ran ≡ vec_capacity old.ran
+      → new.ran.items ≡ old.ran.items ++ (k, outputs) ∷ [] → new.skipped ≡ old.skipped → new.failed ≡ (old.failed || has) → new.lost ≡ old.lost
+      → IsNoted Meets Fails items n left k old → IsNoted Meets Fails items n left (k + 1) new
+  noted_ran old new outputs has unmarked answered fails len room ran skipped failed lost noted =
+      let a = noted.ran_room in let b = noted.skipped_room in let c = ap vec_len skipped in let d = ap vec_capacity skipped in let e = noted.ran_most in
+      let f = noted.skipped_most in record {
+        ran_room = omega arith;
+        skipped_room = omega arith;
+        ran_most = omega arith;
+        skipped_most = omega arith;
+        told = λ none. told_ran Meets items n left k old new outputs unmarked answered ran (ap (λ v. v.items) skipped) (noted.told (sym lost ∙ none));
+        failed = λ t. subst (Any (HasFailed Fails)) (sym ran) (⊎_elim (λ before. any_more (HasFailed Fails) old.ran.items (k, outputs) (noted.failed before))
+            (λ now. Any-push (HasFailed Fails) old.ran.items (k, outputs) (fails now)) (either old.failed has (sym failed ∙ t)));
+        marked = subst (λ v. All (λ j. (j < k + 1) × (is_marked left j ≡ true)) v.items) (sym skipped) (marked_more k left old.skipped.items noted.marked);
+        lost = subst (λ o. IfSome o (λ j. j < k + 1)) (sym lost) (below_more k old.lost noted.lost);
+      }
+
+  -- with one that was skipped
+  pub noted_skipped : (old new : Tally B) → is_marked left k ≡ true → new.ran ≡ old.ran → vec_len new.skipped ≡ vec_len old.skipped + 1
+      → vec_capacity new.skipped ≡ vec_capacity old.skipped → new.skipped.items ≡ old.skipped.items ++ k ∷ [] → new.failed ≡ old.failed → new.lost ≡ old.lost
+      → IsNoted Meets Fails items n left k old → IsNoted Meets Fails items n left (k + 1) new
+  noted_skipped old new marked ran len room skipped failed lost noted =
+      let a = noted.ran_room in let b = noted.skipped_room in let c = ap vec_len ran in let d = ap vec_capacity ran in let e = noted.ran_most in
+      let f = noted.skipped_most in record {
+        ran_room = omega arith;
+        skipped_room = omega arith;
+        ran_most = omega arith;
+        skipped_most = omega arith;
+        told = λ none. told_skipped Meets items n left k old new marked (ap (λ v. v.items) ran) skipped (noted.told (sym lost ∙ none));
+        failed = λ t. subst (λ v. Any (HasFailed Fails) v.items) (sym ran) (noted.failed (sym failed ∙ t));
+        marked = subst (All (λ j. (j < k + 1) × (is_marked left j ≡ true))) (sym skipped)
+            (All-push (λ j. (j < k + 1) × (is_marked left j ≡ true)) old.skipped.items k (marked_more k left old.skipped.items noted.marked) (omega arith, marked));
+        lost = subst (λ o. IfSome o (λ j. j < k + 1)) (sym lost) (below_more k old.lost noted.lost);
+      }
+
+  -- with one that is lost
+  pub noted_lost : (old new : Tally B) → new.ran ≡ old.ran → new.skipped ≡ old.skipped → new.failed ≡ old.failed → new.lost ≡ Some (unwrap_or old.lost k)
+      → IsNoted Meets Fails items n left k old → IsNoted Meets Fails items n left (k + 1) new
+  noted_lost old new ran skipped failed lost noted =
+      let a = noted.ran_room in let b = noted.skipped_room in let c = ap vec_len ran in let d = ap vec_capacity ran in let e = noted.ran_most in
+      let f = noted.skipped_most in let g = ap vec_len skipped in let h = ap vec_capacity skipped in record {
+        ran_room = omega arith;
+        skipped_room = omega arith;
+        ran_most = omega arith;
+        skipped_most = omega arith;
+        told = λ none. absurd (none_is (sym none ∙ lost));
+        failed = λ t. subst (λ v. Any (HasFailed Fails) v.items) (sym ran) (noted.failed (sym failed ∙ t));
+        marked = subst (λ v. All (λ j. (j < k + 1) × (is_marked left j ≡ true)) v.items) (sym skipped) (marked_more k left old.skipped.items noted.marked);
+        lost = subst (λ o. IfSome o (λ j. j < k + 1)) (sym lost) (lost_first k old.lost noted.lost);
+      }
+    where
+      none_is : {x : ℕ} → None ≡ Some x → ⊥
+      none_is e = absurd cc
+
+-- the items before the last piece's end are all items
+before_last : {A : Type 0} (items : List A) (n : ℕ) → (0 < length items → 0 < n) → items_before items n n ≡ items
+before_last items n some = let len = length items in ⊎_elim
+    (λ full. let d = div-add-mod' len n in let m = mod-lt len (some full) in take_all (piece_start len n n) items (omega arith))
+    (λ none. take_all (piece_start len n n) items (omega (arith, none)))
+    (cases_lt 0 len)
+
+heads_same : {x y : ℕ} {xs ys : List ℕ} → x ∷ xs ≡ y ∷ ys → (x ≡ y) × (xs ≡ ys)
+heads_same e = (cc, cc)
+
+answered_from : {A B : Type 0} (Meets : A → B → Type 0) (items : List A) (n from count : ℕ) (ran : List (ℕ × Vec B Global)) (before : List B)
+    → numbers_of ran ≡ counted from count → All (IsAnswered Meets items n) ran → AllZip Meets (items_before items n from) before
+    → AllZip Meets (items_before items n (from + count)) (before ++ outputs_of ran)
+answered_from Meets items n from zero [] before e answers z = rw (add-zero from, append-nil before) z
+answered_from Meets items n from (suc count) [] before e answers z = absurd cc
+answered_from Meets items n from zero (p ∷ ran) before e answers z = absurd cc
+answered_from Meets items n from (suc count) (p ∷ ran) before e answers z =
+    let same = heads_same e in let here = subst (λ k. AllZip Meets (piece_at items n k) p.1.items) same.0 (All-head (IsAnswered Meets items n) p ran answers) in
+    let more = subst (λ xs. AllZip Meets xs (before ++ p.1.items)) (sym (items_more items n from))
+    (all_zip_append Meets (items_before items n from) before (piece_at items n from) p.1.items z here) in
+    let rest = answered_from Meets items n (from + 1) count ran (before ++ p.1.items) same.1 (All-tail (IsAnswered Meets items n) p ran answers) more in
+    let next : from + 1 + count ≡ from + suc count = omega arith in
+    subst (λ (k : ℕ). AllZip Meets (items_before items n k) (before ++ (p.1.items ++ outputs_of ran))) next
+    (subst (AllZip Meets (items_before items n (from + 1 + count))) (append_assoc before p.1.items (outputs_of ran)) rest)
+
+-- where no piece was skipped, the outputs of those that ran answer all items
+pub all_answered : {A B : Type 0} (Meets : A → B → Type 0) (Fails : B → Type 0) (items : List A) (n : ℕ) (report : Report B) → (0 < length items → 0 < n)
+    → report.skipped.items ≡ [] → IsReport Meets Fails items n report → AllZip Meets items (outputs_of report.ran.items)
+all_answered Meets Fails items n report some none r =
+    let all = answered_from Meets items n 0 n report.ran.items [] (r.whole none) r.answers (subst (λ xs. AllZip Meets xs []) (sym (before_first items n)) (tt {0})) in
+    subst (λ xs. AllZip Meets xs (outputs_of report.ran.items)) (before_last items n some)
+    (subst (λ (k : ℕ). AllZip Meets (items_before items n k) (outputs_of report.ran.items)) (zero-add n) all)
+
+-- the outputs of one piece more
+pub outputs_snoc : {B : Type 0} (ran : List (ℕ × Vec B Global)) (p : ℕ × Vec B Global) → outputs_of (ran ++ p ∷ []) ≡ outputs_of ran ++ p.1.items
+outputs_snoc {B} ran p = let f : ℕ × Vec B Global → List B = λ piece. piece.1.items in ap joined (map_snoc f ran p) ∙ joined_snoc (map f ran) (f p)

@@ -1,0 +1,6 @@
+-- The helper's seat at the ledger is the same.
+use Rattle.spindle_trays.specs.Accounts.{IsSameThread}
+use Rattle.spindle_trays.proofs.job.nest.UnderNest.serve.Given as goal
+
+abbrev pub invariant-loop-number : goal.invariant-loop-number
+invariant-loop-number g l = IsSameThread l.fn.notices l.notices

@@ -1,0 +1,13 @@
+-- One more number stands at the end.
+use Rattle.std.proofs.Common.{◌++◌, ◌∷◌, [], rules, ap, zero-add}
+use Rattle.spindle_parts.proofs.Lists.{counted_snoc}
+use Rattle.spindle_trays.proofs.lock.leader.Leader.for_each_raw.Goals as goal
+
+pub loop-number-preserved : goal.loop-number-preserved
+loop-number-preserved g c =
+    record {
+      items = rw (c.push_reserved.ensures.items, counted_snoc 0 c.loop-number.number, zero-add c.loop-number.number)
+          (ap (λ t. t ++ (c.loop-number.number ∷ [])) c.loop-number.invariant.items);
+      len = search rules;
+      room = search rules;
+    }

@@ -1,0 +1,12 @@
+-- The leader of the closure is one of this lock.
+use Rattle.std.proofs.Common.{ap, refl, ◌∙◌}
+use Rattle.spindle_trays.proofs.lock.opening.lead.Goals as goal
+
+pub returns : goal.returns
+returns g c = let e = c.new-leader.ensures in let t = c.muster-post.ensures.tables in (
+  c.new-leader.result,
+  _,
+  e.threads ∙ ap (λ t. t.crew.most) t,
+  e.hands ∙ ap (λ t. t.crew.threads) t,
+  record { shown = _; shows = refl; left = _; met = c.f-answer.ensures; leaves = refl },
+)

@@ -1,0 +1,14 @@
+-- The closure was called with a leader of this lock.
+use Rattle.std.proofs.Common.{◌≡◌, ap, sym, ◌∙◌}
+use Rattle.spindle_trays.specs.declared.crew.Crew.{Crew}
+use Rattle.spindle_trays.specs.Locks.{lock_threads}
+use Rattle.spindle_trays.proofs.lock.root.with_lock.Goals as goal
+
+pub returns-clause-promise : goal.returns-clause-promise
+returns-clause-promise g c =
+    let crew = c.in_ok-tables.ensures.crew in let new = c.new-crew.ensures in
+    let size : c.new-crew.result.most ≡ lock_threads c.args.pool.now.threads c.args.max_threads =
+    new.most ∙ ap (λ n. lock_threads n c.args.max_threads) c.max_num_threads.ensures.number in
+    let p = c.scoped.ensures in
+    let most = p.2 ∙ ap (λ (k : Crew). k.most) crew in
+    (p.0, p.1, most ∙ size, p.3 ∙ (ap (λ (k : Crew). k.threads) crew ∙ new.all ∙ sym most), p.4)

@@ -1,0 +1,19 @@
+-- A place that is emptied keeps its number.
+use Rattle.std.proofs.Common.{ap, ◌∙◌}
+use Rattle.spindle_parts.specs.Pieces.{counted, dealt}
+use Rattle.spindle_trays.proofs.TrayPlaces.{numbers_stay, at_others}
+use Rattle.spindle_trays.proofs.pieces.tray.Tray.hand_over.Goals as goal
+
+pub invariant_of-self : goal.invariant_of-self
+invariant_of-self g c =
+    let tray = c.args.self.now in
+    let d = c.index_mut-place.result.now in
+    record {
+      named = c.args.self.now.named;
+      dealt = numbers_stay (λ place. place.number) tray.places.items
+          (dealt (counted 0 tray.pieces) tray.threads tray.thread) c.args.at c.hand_over.new.self d
+          (c.hand_over.ensures.number ∙ ap (λ place. place.number) c.index_mut-place.ensures.value) tray.dealt;
+    }
+
+pub returns-clause-others : goal.returns-clause-others
+returns-clause-others g c = at_others c.args.self.now.places.items c.args.at c.hand_over.new.self

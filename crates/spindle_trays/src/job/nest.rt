@@ -1,0 +1,124 @@
+//! What a job type says of the locks that its jobs may open.
+//!
+//! A lock over J stands on `J::Inner` alone, and a nest never names the trait of jobs, so that the type of each lock
+//! stays finite.
+ghost use Rattle.std.specs.Prelude.{◌<◌, OnErr, IsErrOf};
+ghost use denote.Param.Send.{IsSync};
+ghost use Rattle.spindle_trays.specs.Accounts.{IsSameThread};
+
+use crate::crew::notices::Notices;
+use crate::job::Job;
+use crate::job::sealed::IsNest;
+use crate::lock::nested::Child;
+use crossbeam_utils::CachePadded;
+use spindle_parts::aarc_imp::AtomicArc;
+use spindle_parts::fault::Fault;
+use std::alloc::Global;
+use std::marker::PhantomData;
+use std::sync::Wait;
+use std::thread::Threads;
+
+/// The locks that a job may open. A user names `End` or `Under<K>`; the trait's calls are the library's own, and nobody else can
+/// implement it.
+pub trait Nest: IsNest {
+    /// Where a lock keeps the locks that its jobs open.
+    type Slots: Drop;
+
+    /// How many child slots a lock of so many threads has.
+    fn slot_count(threads: usize) -> usize;
+
+    /// Slots for a lock of so many threads.
+    fn make(alloc: Global, threads: usize) -> Result<Self::Slots, Fault>
+        ensures { OnErr result (IsErrOf result Fault.Memory) };
+
+    /// A helper's walk over the slots, from the first to the last: where it gets a place it lives as a helper of the lock that
+    /// stands there. Then its seat at the ledger is as before, and answers for no request.
+    fn serve<H: Threads + Wait + Sync>(
+        rt: &H,
+        alloc: Global,
+        slots: &Self::Slots,
+        notices: &mut Notices<'_>,
+    )
+        requires { IsSync H.row }
+        ensures { IsSameThread notices.old notices.new };
+}
+
+/// No nested locks.
+pub struct End;
+
+impl IsNest for End {}
+
+impl Nest for End {
+    type Slots = ();
+
+    fn slot_count(_threads: usize) -> usize {
+        0
+    }
+
+    fn make(_alloc: Global, _threads: usize) -> Result<(), Fault> {
+        Ok(())
+    }
+
+    fn serve<H: Threads + Wait + Sync>(
+        _rt: &H,
+        _alloc: Global,
+        _slots: &(),
+        _notices: &mut Notices<'_>,
+    ) {}
+}
+
+/// Nested locks over jobs of kind K.
+pub struct Under<K: Job> {
+    kind: PhantomData<K>,
+}
+
+impl<K: Job> IsNest for Under<K> {}
+
+impl<K: Job> Nest for Under<K> {
+    type Slots = Vec<CachePadded<AtomicArc<Child<K>>>>;
+
+    fn slot_count(threads: usize) -> usize {
+        threads
+    }
+
+    fn make(alloc: Global, threads: usize) -> Result<Vec<CachePadded<AtomicArc<Child<K>>>>, Fault> {
+        let mut slots = Vec::with_capacity(alloc, threads)?;
+        for _ in 0..threads {
+            slots.push_reserved(CachePadded::new(AtomicArc::null(&())));
+        }
+        Ok(slots)
+    }
+
+    fn serve<H: Threads + Wait + Sync>(
+        rt: &H,
+        alloc: Global,
+        slots: &Vec<CachePadded<AtomicArc<Child<K>>>>,
+        notices: &mut Notices<'_>,
+    ) {
+        for number in 0..slots.len().min(notices.slots()) {
+            serve_slot(rt, alloc, &slots[number], number, notices);
+        }
+    }
+}
+
+// Lives as a helper of the lock that stands in the slot, if there is a place.
+fn serve_slot<K: Job, H: Threads + Wait + Sync>(
+    rt: &H,
+    alloc: Global,
+    slot: &AtomicArc<Child<K>>,
+    number: usize,
+    notices: &mut Notices<'_>,
+)
+    requires { number < notices.old.slots }
+    ensures { IsSameThread notices.old notices.new }
+{
+    let Some(guard) = slot.load() else {
+        return;
+    };
+    if !notices.takes_place(number) {
+        guard.leave();
+        return;
+    }
+    guard.get().help(rt, alloc);
+    guard.leave();
+}

@@ -1,0 +1,16 @@
+//! Locks: a caller opens one for a kind of job, and hands lists of items to its rounds.
+//!
+//! `pool` has what a lock is opened with, `root` and `opening` how it opens, `leader` the rounds, `trying` those that may stop and
+//! `report` what came of them, `helper` the life of its other threads, `part` what they do in a round, and `nested` the locks that
+//! jobs open.
+
+mod helper;
+pub mod leader;
+pub mod nested;
+pub mod opening;
+pub mod part;
+pub mod pool;
+pub mod report;
+pub mod root;
+mod trying;
+pub mod workspace;

@@ -1,0 +1,221 @@
+//! The leader of a lock: rounds over lists of items.
+//!
+//! A round goes one way: items, pieces, jobs, outputs. All memory that a round takes is taken before its first job.
+ghost use Rattle.std.specs.Prelude.{◌≡◌, ◌<◌, ◌≤◌, IfOk, IfErr, OnOk, IsOk, IsNone, vec_len};
+ghost use Rattle.std.specs.List.{AllZip};
+ghost use Rattle.std.specs.Fn.{FnOnceReturnsAtMut};
+ghost use Rattle.spindle_parts.specs.Pieces.{counted};
+ghost use Rattle.spindle_trays.specs.Leaders.{threads_of, hands_of, AnnouncedRest, IsBetweenRounds, MadeNoStep, PlayedOnce, LeftByRefusal};
+ghost use Rattle.spindle_trays.specs.Rounds.{job_count, IsRefusal};
+
+use crate::crew::leader_post::LeaderPost;
+use crate::crew::members::Members;
+use crate::job::Job;
+use crate::job::gate::Gate;
+use crate::lock::workspace::{Opens, Workspace};
+use crate::pieces::runs::Pieces;
+use crate::work::runner::Runner;
+use spindle_lists::shared::SharedList;
+use spindle_parts::cut::cut;
+use spindle_parts::fault::Fault;
+use spindle_rounds::round::task::Task;
+use spindle_rounds::round_table::slots::Bare;
+use std::alloc::Global;
+use std::sync::Wait;
+use std::thread::Threads;
+
+/// A round has at most so many jobs, whatever a caller asks for.
+pub(crate) const MOST_JOBS: usize = 4294967295;
+
+/// The leader of a lock over jobs of kind J, lent to the closure that the lock was opened for.
+#[derive(Drop)]
+pub struct Leader<'a, J: Job, G: Gate, L = Workspace<J>> {
+    pub(crate) workspace: &'a L,
+    pub(crate) runner: Runner<'a, J, G>,
+    pub(crate) post: LeaderPost<'a, Bare>,
+}
+
+impl<'a, J: Opens<L>, G: Gate, L> Leader<'a, J, G, L> {
+    /// The leader of a lock, in whose barrier it stands.
+    pub(crate) fn new(
+        workspace: &'a L,
+        runner: Runner<'a, J, G>,
+        post: LeaderPost<'a, Bare>,
+    ) -> Leader<'a, J, G, L>
+        ensures threads { threads_of result ≡ post.entry.post.tables.now.crew.most }
+        ensures hands { hands_of result ≡ post.entry.post.tables.now.crew.threads }
+    {
+        Leader {
+            workspace,
+            runner,
+            post,
+        }
+    }
+
+    /// Leaves the lock's barrier.
+    pub(crate) fn leave<H: Wait>(self, rt: &H) {
+        let LeaderPost { post } = self.post;
+        drop(post.leave(rt));
+    }
+
+    /// Tells the helpers to end.
+    pub(crate) fn dismiss<H: Wait>(&mut self, rt: &H) {
+        self.runner.notices.announce_exit();
+        self.post.post.tables.sleep.wake(rt);
+    }
+
+    /// Runs the items in `n_jobs` jobs, or in as many as there are items where these are fewer, and at most in
+    /// 4294967295. Each job runs a piece of the items, as `cut` cuts them. Outputs stand in the order of the items.
+    ///
+    /// One job is run by the leader directly. No items are no job: that round takes no memory. After a refusal the lock
+    /// can be used further; the items are given up. It stands for `for_each` of spindle between two rounds of a lock.
+    pub fn for_each<H: Threads + Wait + Sync>(
+        &mut self,
+        rt: &H,
+        alloc: Global,
+        n_jobs: usize,
+        mut items: Vec<J::In>,
+    ) -> Result<Vec<J::Out>, Fault>
+        requires jobs { 0 < vec_len items → 0 < n_jobs }
+        ensures answer { IfOk result (λ outputs. AllZip J.meets items.items outputs.items) }
+        ensures refused { IfErr result
+            (IsRefusal (hands_of self.old) (job_count (vec_len items) n_jobs)) }
+        ensures empty { vec_len items ≡ 0 → IsOk result }
+        ensures played { let jobs = job_count (vec_len items) n_jobs in
+            OnOk result (2 ≤ jobs → PlayedOnce jobs self.old self.new) }
+        ensures direct { job_count (vec_len items) n_jobs ≤ 1 → MadeNoStep self.old self.new }
+        ensures left { IfErr result
+            (LeftByRefusal (job_count (vec_len items) n_jobs) self.old self.new) }
+        ensures between { IsBetweenRounds self.new }
+        ensures lock { threads_of self.new ≡ threads_of self.old }
+        ensures hands { hands_of self.new ≡ hands_of self.old }
+    {
+        if items.is_empty() {
+            return Ok(Vec::new(alloc));
+        }
+        let jobs = items.len().min(n_jobs.min(MOST_JOBS));
+        if jobs > 1 && self.post.post.tables.crew.threads() > 1 {
+            return self.play(rt, alloc, jobs, items);
+        }
+        let mut outputs = Vec::with_capacity(alloc, items.len())?;
+        if jobs == 1 {
+            let inputs = items.as_slice();
+            self.runner.run(rt, alloc, 0, None, inputs, &mut outputs);
+        } else {
+            let pieces = cut(alloc, &mut items, jobs)?;
+            let pieces = pieces.as_slice();
+            self.post
+                .play_alone(rt, alloc, &mut self.runner, pieces, &mut outputs);
+        }
+        Ok(outputs)
+    }
+
+    // A round with the helpers: hand out, publish, work, wait, gather.
+    fn play<H: Threads + Wait + Sync>(
+        &mut self,
+        rt: &H,
+        alloc: Global,
+        jobs: usize,
+        items: Vec<J::In>,
+    ) -> Result<Vec<J::Out>, Fault>
+        requires threads { 2 ≤ hands_of self.old }
+        requires jobs { (2 ≤ jobs) × (jobs ≤ 4294967295) × (jobs ≤ vec_len items) }
+        ensures answer { IfOk result (λ outputs. AllZip J.meets items.items outputs.items) }
+        ensures refused { IfErr result (IsRefusal (hands_of self.old) jobs) }
+        ensures played { OnOk result (PlayedOnce jobs self.old self.new) }
+        ensures left { IfErr result (LeftByRefusal jobs self.old self.new) }
+        ensures lock { threads_of self.new ≡ threads_of self.old }
+        ensures hands { hands_of self.new ≡ hands_of self.old }
+    {
+        let mut outputs = Vec::with_capacity(alloc, items.len())?;
+        let pieces = Pieces::new(SharedList::from_vec(alloc, items)?, jobs);
+        let trays = J::trays(self.workspace);
+        trays.hand_out(rt, alloc, &pieces)?;
+        let task = Task {
+            jobs: pieces.count() as u64,
+            may_stop: false,
+        };
+        self.post.play(rt, alloc, trays, &mut self.runner, task);
+        match trays.gather(rt, &pieces, &mut outputs) {
+            Ok(()) => Ok(outputs),
+            Err(number) => Err(Fault::Lost(number)),
+        }
+    }
+
+    /// Runs f in the same lock; the number has no effect, as in spindle between two rounds.
+    pub fn with_lock<R, F: FnOnce(&mut Leader<'a, J, G, L>) -> R>(
+        &mut self,
+        _max_threads: usize,
+        f: F,
+    ) -> R
+        requires some { 0 < _max_threads }
+        requires callable { F.IsAlwaysCallable f }
+        ensures { FnOnceReturnsAtMut F.FnOnce f self.old result self.new }
+    {
+        f(self)
+    }
+
+    /// How many threads take part in the lock now, the leader counted.
+    pub fn current_num_threads(&self) -> usize
+        ensures leader { 0 < result }
+        ensures most { result ≤ threads_of self.now }
+    {
+        let tables = self.post.post.tables;
+        Members::Barrier(tables.round.init()).current(tables.crew.most())
+    }
+
+    /// The lock's threads.
+    pub fn max_num_threads(&self) -> usize
+        ensures { result ≡ threads_of self.now }
+    {
+        self.post.post.tables.crew.most()
+    }
+
+    /// None: a leader has no number between rounds.
+    pub fn current_thread_index(&self) -> Option<usize>
+        ensures { IsNone result }
+    {
+        None
+    }
+
+    /// Tells idle helpers to sleep at once until the next round.
+    pub fn relieve_workers(&mut self)
+        ensures lock { threads_of self.new ≡ threads_of self.old }
+        ensures hands { hands_of self.new ≡ hands_of self.old }
+        ensures quiet { MadeNoStep self.old self.new }
+        ensures rest { AnnouncedRest self.old self.new }
+    {
+        self.runner.notices.announce_rest();
+    }
+}
+
+impl<'a, J: Opens<L, In = usize>, G: Gate, L> Leader<'a, J, G, L> {
+    /// Runs the numbers from 0 up to `n_jobs`, the end not included, as `for_each` runs items in so many jobs.
+    pub fn for_each_raw<H: Threads + Wait + Sync>(
+        &mut self,
+        rt: &H,
+        alloc: Global,
+        n_jobs: usize,
+    ) -> Result<Vec<J::Out>, Fault>
+        ensures answer { IfOk result (λ outputs. AllZip J.meets (counted 0 n_jobs) outputs.items) }
+        ensures refused { IfErr result
+            (IsRefusal (hands_of self.old) (job_count n_jobs n_jobs)) }
+        ensures empty { n_jobs ≡ 0 → IsOk result }
+        ensures played { let jobs = job_count n_jobs n_jobs in
+            OnOk result (2 ≤ jobs → PlayedOnce jobs self.old self.new) }
+        ensures direct { n_jobs ≤ 1 → MadeNoStep self.old self.new }
+        ensures left { IfErr result (LeftByRefusal (job_count n_jobs n_jobs) self.old self.new) }
+        ensures between { IsBetweenRounds self.new }
+        ensures lock { threads_of self.new ≡ threads_of self.old }
+        ensures hands { hands_of self.new ≡ hands_of self.old }
+    {
+        if n_jobs == 0 {
+            return Ok(Vec::new(alloc));
+        }
+        let mut numbers = Vec::with_capacity(alloc, n_jobs)?;
+        for number in 0..n_jobs {
+            numbers.push_reserved(number);
+        }
+        self.for_each(rt, alloc, n_jobs, numbers)
+    }
+}

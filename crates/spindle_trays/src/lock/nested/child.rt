@@ -1,0 +1,110 @@
+//! A lock that a job opened, as it stands in a child slot of the outer lock.
+ghost use Rattle.std.specs.Prelude.{◌≡◌, ◌<◌, IfOk, OnErr, IsErrOf, All};
+ghost use Rattle.std.specs.Arc.{arc_value};
+ghost use Rattle.spindle_trays.specs.Nested.{IsBenchAt};
+ghost use Rattle.spindle_trays.specs.Opening.{AreSeatsAt};
+ghost use denote.Param.Send.{IsSync};
+
+use crate::crew::Crew;
+use crate::crew::limits::Limits;
+use crate::crew::seats::Seats;
+use crate::crew::tables::Tables;
+use crate::job::Job;
+use crate::job::gate::NoGate;
+use crate::job::nest::Nest;
+use crate::lock::nested::bench::Bench;
+use crate::lock::workspace::{Opens, Workspace};
+use spindle_parts::aarc_imp::Fits;
+use spindle_parts::fault::Fault;
+use spindle_rounds::round::Round;
+use spindle_rounds::round_table::slots::Bare;
+use std::alloc::Global;
+use std::sync::{Arc, Wait};
+use std::thread::Threads;
+
+/// What the threads of a nested lock share: its tables, its workspace, and seats for its helpers.
+#[derive(Drop)]
+pub struct Nested<K: Job> {
+    pub(crate) tables: Tables<Bare>,
+    workspace: Workspace<K>,
+    benches: Vec<Bench>,
+    ghost seated: { All (IsBenchAt tables) benches.items },
+}
+
+/// A share of a nested lock.
+#[derive(Drop)]
+pub struct Child<K: Job> {
+    pub(crate) shared: Arc<Nested<K>>,
+}
+
+/// Any child may stand in any slot: that it is a lock in order is kept by its type.
+impl<K: Job> Fits for Child<K> {
+    type Tag = ();
+
+    ghost fits = { λ tag child. Unit {0} };
+}
+
+impl<K: Job> Child<K> {
+    /// A nested lock, with its leader's seats.
+    pub(crate) fn open(
+        alloc: Global,
+        crew: Crew,
+        limits: Limits,
+    ) -> Result<(Child<K>, Seats<Bare>), Fault>
+        ensures seats { IfOk result (λ t. AreSeatsAt (arc_value t.0.shared).tables t.1) }
+        ensures crew { IfOk result (λ t. (arc_value t.0.shared).tables.crew ≡ crew) }
+        ensures memory { OnErr result (IsErrOf result Fault.Memory) }
+    {
+        let workspace = <K as Opens<Workspace<K>>>::open(alloc, crew.threads())?;
+        let (round, seat) = Round::new(alloc, crew.threads())?;
+        let slots = K::Inner::slot_count(crew.threads());
+        let (tables, mut seats) = Tables::new(alloc, crew, limits, slots, round, seat)?;
+        let mut benches = Vec::with_capacity(alloc, crew.threads())?;
+        for _ in 1..crew.threads() {
+            benches.push_reserved(Bench::new(&tables, &mut seats));
+        }
+        let shared = Arc::new(
+            alloc,
+            Nested {
+                tables,
+                workspace,
+                benches,
+            },
+        )?;
+        Ok((Child { shared }, seats))
+    }
+
+    /// Another share, unless there are too many.
+    pub(crate) fn again(&self) -> Option<Child<K>> {
+        match Arc::try_clone(&self.shared) {
+            Ok(shared) => Some(Child { shared }),
+            Err(_) => None,
+        }
+    }
+
+    pub(crate) fn workspace(&self) -> &Workspace<K> {
+        &self.shared.workspace
+    }
+
+    pub(crate) fn tables(&self) -> &Tables<Bare>
+        ensures { result.now ≡ (arc_value self.now.shared).tables }
+    {
+        &self.shared.tables
+    }
+
+    /// Lives as a helper of this lock, with seats that rest here; where none do, that life ends at once.
+    pub(crate) fn help<H: Threads + Wait + Sync>(&self, rt: &H, alloc: Global)
+        requires { IsSync H.row }
+    {
+        let nested = &*self.shared;
+        let gate = NoGate;
+        for bench in &nested.benches {
+            if let Some(recruit) = bench.take(&nested.tables) {
+                let workspace = &nested.workspace;
+                let seats = recruit.help::<K, Workspace<K>, NoGate, H>(rt, alloc, workspace, &gate);
+                bench.give(&nested.tables, seats);
+                return;
+            }
+        }
+    }
+}

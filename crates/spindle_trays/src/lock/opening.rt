@@ -1,0 +1,159 @@
+//! Starting the helpers of a lock, and running its closure beside them.
+ghost use Rattle.std.specs.Prelude.{◌≡◌, []};
+ghost use Rattle.std.specs.Fn.{FnOnceReturnsAtMut};
+ghost use Rattle.spindle_trays.specs.Leaders.{threads_of, hands_of};
+ghost use Rattle.spindle_trays.specs.Opening.{AreSeatsAt};
+
+use crate::crew::leader_post::LeaderPost;
+use crate::crew::notices::Notices;
+use crate::crew::post::Post;
+use crate::crew::seats::Seats;
+use crate::crew::tables::Tables;
+use crate::job::Job;
+use crate::job::gate::Gate;
+use crate::job::nest::Nest;
+use crate::lock::helper::Recruit;
+use crate::lock::leader::Leader;
+use crate::lock::part::TakesPart;
+use crate::lock::pool::Pool;
+use crate::lock::workspace::Opens;
+use crate::work::runner::Runner;
+use spindle_rounds::round_table::slots::{Bare, Slots};
+use std::alloc::Global;
+use std::sync::Wait;
+use std::thread::{Scope, Threads};
+
+/// What the leader of a lock comes to: the lock's tables, what stands beside them, its pool, and the leader's seats.
+#[derive(Drop)]
+pub(crate) struct Entrant<'s, D: Slots, G: Gate, L> {
+    pub(crate) tables: &'s Tables<D>,
+    pub(crate) workspace: &'s L,
+    pub(crate) pool: &'s Pool<G>,
+    pub(crate) seats: Seats<D>,
+    ghost seated: { AreSeatsAt tables.now seats },
+}
+
+impl<D: Slots> Seats<D> {
+    // A helper's seats, split from the leader's.
+    fn recruit<'a>(&mut self, tables: &'a Tables<D>) -> Recruit<'a, D>
+        requires { AreSeatsAt tables.now self.old }
+        ensures { AreSeatsAt tables.now self.new }
+    {
+        let seats = Seats {
+            round: tables.round.init().new_seat(&mut self.round),
+            numbers: tables.numbers.new_seat(&mut self.numbers),
+            ledger: tables.ledger.new_seat(&mut self.ledger),
+        };
+        Recruit { tables, seats }
+    }
+}
+
+// Starts as many helpers as the pool may start, but no more than the lock has threads beside its leader.
+fn start<
+    's,
+    E,
+    D: Slots + Send + 's,
+    J: Job + Send + 's,
+    G: Gate + Sync,
+    L: TakesPart<J, D> + Send + Sync,
+    H: Threads + Wait + Sync + 's,
+>(
+    scope: &Scope<'s, E>,
+    rt: &'s H,
+    alloc: Global,
+    tables: &'s Tables<D>,
+    workspace: &'s L,
+    pool: &'s Pool<G>,
+    seats: &mut Seats<D>,
+)
+where
+    D::Slot: Send,
+    D::Note: Send,
+    J::In: Send + Sync,
+    J::Out: Send,
+    J::Inner: Send,
+    <J::Inner as Nest>::Slots: Send + Sync,
+    requires { AreSeatsAt tables.now seats.old }
+    ensures { AreSeatsAt tables.now seats.new }
+{
+    let gate = pool.gate();
+    for _ in 0..pool.starts().min(tables.crew.threads() - 1) {
+        let recruit = seats.recruit(tables);
+        drop(scope.spawn(move || drop(recruit.help::<J, L, G, H>(rt, alloc, workspace, gate))));
+    }
+}
+
+/// Starts the helpers, and takes the leader's post. The leader runs jobs with what comes beside its post.
+pub fn muster<
+    's,
+    E,
+    D: Slots + Send + 's,
+    J: Job + Send + 's,
+    G: Gate + Sync,
+    L: TakesPart<J, D> + Send + Sync,
+    H: Threads + Wait + Sync + 's,
+>(
+    scope: &Scope<'s, E>,
+    rt: &'s H,
+    alloc: Global,
+    tables: &'s Tables<D>,
+    workspace: &'s L,
+    pool: &'s Pool<G>,
+    mut seats: Seats<D>,
+) -> (LeaderPost<'s, D>, Runner<'s, J, G>)
+where
+    D::Slot: Send,
+    D::Note: Send,
+    J::In: Send + Sync,
+    J::Out: Send,
+    J::Inner: Send,
+    <J::Inner as Nest>::Slots: Send + Sync,
+    requires seats { AreSeatsAt tables.now seats }
+    ensures tables { result.0.post.tables.now ≡ tables.now }
+    ensures crew { result.1.site.crew ≡ tables.now.crew }
+    ensures slots { let seat = result.0.post.barrier.seat in
+        (seat.me.1 ≡ []) × (seat.me.0.board ≡ []) }
+{
+    start::<_, D, J, G, L, H>(scope, rt, alloc, tables, workspace, pool, &mut seats);
+    let notices = Notices::new(&tables.ledger, seats.ledger, tables.child_slots);
+    let post = LeaderPost::new(Post::join(rt, tables, seats.round, 0));
+    let site = tables.site(L::members(tables), 0);
+    let runner = Runner::new(workspace.children(), pool.gate(), site, notices);
+    (post, runner)
+}
+
+/// Starts the helpers, runs f, and dismisses them.
+pub(crate) fn lead<
+    's,
+    E,
+    J: Opens<L> + Send + 's,
+    G: Gate + Sync,
+    R,
+    F: FnOnce(&mut Leader<J, G, L>) -> R,
+    L: Send + Sync,
+    H: Threads + Wait + Sync + 's,
+>(scope: &Scope<'s, E>, rt: &'s H, alloc: Global, entrant: Entrant<'s, Bare, G, L>, f: F) -> R
+where
+    J::In: Send + Sync,
+    J::Out: Send,
+    J::Inner: Send,
+    <J::Inner as Nest>::Slots: Send + Sync,
+    requires callable { F.IsAlwaysCallable f }
+    ensures { (old : _) × (new : _) × (threads_of old ≡ entrant.entry.tables.now.crew.most)
+        × (hands_of old ≡ entrant.entry.tables.now.crew.threads)
+        × FnOnceReturnsAtMut F.FnOnce f old result new }
+{
+    let Entrant {
+        tables,
+        workspace,
+        pool,
+        seats,
+    } = entrant;
+    let (post, runner) = muster::<_, Bare, J, G, L, H>(
+        scope, rt, alloc, tables, workspace, pool, seats,
+    );
+    let mut leader = Leader::new(workspace, runner, post);
+    let answer = f(&mut leader);
+    leader.dismiss(rt);
+    answer
+}

@@ -1,0 +1,55 @@
+//! What came of a round that may stop.
+ghost use Rattle.std.specs.Prelude.{◌≡◌, ◌↔◌, [], IfOk, IfSome, IsTrue, OnErr, IsErrOf};
+ghost use Rattle.std.specs.List.{Any};
+ghost use Rattle.spindle_trays.specs.Reports.{IsFailure, outputs_of};
+
+use crate::job::Job;
+use crate::work::tally::has_failure;
+use spindle_parts::fault::Fault;
+use std::alloc::Global;
+
+/// The pieces of a round that may stop: those that ran, each with its number and its outputs, and the numbers of those that
+/// were skipped, since one that ran failed.
+///
+/// Numbers count the pieces from 0, as `cut` cuts the items. Both lists ascend by them.
+#[derive(Drop)]
+pub struct Report<T> {
+    /// The pieces that ran: a number, and an output for each item of that piece.
+    pub ran: Vec<(usize, Vec<T>)>,
+    /// The numbers of the pieces that didn't.
+    pub skipped: Vec<usize>,
+}
+
+impl<T: Drop> Report<T> {
+    /// Whether no piece was skipped.
+    pub fn all_ran(&self) -> bool
+        ensures { IsTrue result ↔ (self.now.skipped.items ≡ []) }
+    {
+        self.skipped.is_empty()
+    }
+
+    /// The number of the first piece that the kind of job tells as failed.
+    pub fn first_failed<J: Job<Out = T>>(&self) -> Option<usize>
+        ensures { IfSome result (λ number. Any (IsFailure J.fails number) self.now.ran.items) }
+    {
+        for piece in &self.ran {
+            if has_failure::<J>(piece.1.as_slice()) {
+                return Some(piece.0);
+            }
+        }
+        None
+    }
+
+    /// The outputs of the pieces that ran, in order. Where none was skipped there is one for each item of the round.
+    pub fn into_outputs(self, alloc: Global) -> Result<Vec<T>, Fault>
+        ensures outputs { IfOk result (λ outputs. outputs.items ≡ outputs_of self.ran.items) }
+        ensures memory { OnErr result (IsErrOf result Fault.Memory) }
+    {
+        let mut all = Vec::new(alloc);
+        for piece in self.ran {
+            let (_, mut outputs) = piece;
+            all.append(&mut outputs)?;
+        }
+        Ok(all)
+    }
+}

@@ -1,0 +1,91 @@
+//! Opening a root lock: its tables are made, its helpers start, and at its end they are dismissed and joined.
+ghost use Rattle.std.specs.Prelude.{◌≡◌, ◌<◌, IfOk, OnErr, IsErrOf};
+ghost use Rattle.std.specs.Fn.{FnOnceReturnsAtMut};
+ghost use Rattle.spindle_trays.specs.Leaders.{threads_of, hands_of};
+ghost use Rattle.spindle_trays.specs.Locks.{lock_threads};
+
+use crate::crew::Crew;
+use crate::crew::tables::Tables;
+use crate::job::gate::Gate;
+use crate::job::nest::Nest;
+use crate::lock::leader::Leader;
+use crate::lock::opening::{Entrant, lead};
+use crate::lock::pool::Pool;
+use crate::lock::workspace::Opens;
+use spindle_parts::fault::Fault;
+use spindle_rounds::round::Round;
+use spindle_rounds::round_table::slots::Bare;
+use std::alloc::Global;
+use std::sync::Wait;
+use std::thread;
+use std::thread::Threads;
+
+/// Opens a lock over jobs of kind J, runs f with its leader, and closes the lock.
+///
+/// The lock has the least of the pool's threads, `max_threads` and 32767, its leader counted. A refusal hasn't run f.
+/// Called inside a lock it opens another root lock, where spindle would open a nested one.
+pub fn with_lock<
+    J: Opens<L> + Send,
+    G: Gate + Sync,
+    R,
+    F: FnOnce(&mut Leader<J, G, L>) -> R,
+    L: Send + Sync + Drop,
+    H: Threads + Wait + Sync,
+>(rt: &H, alloc: Global, pool: &Pool<G>, max_threads: usize, f: F) -> Result<R, Fault>
+where
+    J::In: Send + Sync,
+    J::Out: Send,
+    J::Inner: Send,
+    <J::Inner as Nest>::Slots: Send + Sync,
+    requires some { 0 < max_threads }
+    requires callable { F.IsAlwaysCallable f }
+    ensures promise { IfOk result (λ r. (old : _) × (new : _)
+        × (threads_of old ≡ lock_threads pool.now.threads max_threads)
+        × (hands_of old ≡ threads_of old)
+        × FnOnceReturnsAtMut F.FnOnce f old r new) }
+    ensures memory { OnErr result (IsErrOf result Fault.Memory) }
+{
+    let crew = Crew::new(pool.max_num_threads(), max_threads);
+    let workspace = J::open(alloc, crew.threads())?;
+    let (round, seat) = Round::new(alloc, crew.threads())?;
+    let child_slots = J::Inner::slot_count(crew.threads());
+    let (tables, seats) = Tables::new(alloc, crew, pool.limits(), child_slots, round, seat)?;
+    let entrant = Entrant {
+        tables: &tables,
+        workspace: &workspace,
+        pool,
+        seats,
+    };
+    Ok(scoped(rt, alloc, entrant, f))
+}
+
+// Opens the scope of the helpers' threads, which joins them at its end.
+fn scoped<
+    J: Opens<L> + Send,
+    G: Gate + Sync,
+    R,
+    F: FnOnce(&mut Leader<J, G, L>) -> R,
+    L: Send + Sync,
+    H: Threads + Wait + Sync,
+>(rt: &H, alloc: Global, entrant: Entrant<'_, Bare, G, L>, f: F) -> R
+where
+    J::In: Send + Sync,
+    J::Out: Send,
+    J::Inner: Send,
+    <J::Inner as Nest>::Slots: Send + Sync,
+    requires callable { F.IsAlwaysCallable f }
+    ensures { (old : _) × (new : _) × (threads_of old ≡ entrant.entry.tables.now.crew.most)
+        × (hands_of old ≡ entrant.entry.tables.now.crew.threads)
+        × FnOnceReturnsAtMut F.FnOnce f old result new }
+{
+    thread::scope(
+        thread::scope_env(),
+        rt,
+        |scope| -> R
+            requires callable { F.IsAlwaysCallable f }
+            ensures { (old : _) × (new : _) × (threads_of old ≡ entrant.entry.tables.now.crew.most)
+                × (hands_of old ≡ entrant.entry.tables.now.crew.threads)
+                × FnOnceReturnsAtMut F.FnOnce f old result new }
+        { lead::<_, J, G, R, F, L, H>(scope, rt, alloc, entrant, f) },
+    )
+}

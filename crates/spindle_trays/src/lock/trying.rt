@@ -1,0 +1,211 @@
+//! Rounds of a lock that may stop: a piece that fails stops its round, and the leader learns which pieces ran.
+ghost use Rattle.std.specs.Prelude.{◌≡◌, ◌↔◌, ℕ, ◌<◌, ◌≤◌, Bool, List, None, true, IfOk, IfErr, OnOk, OnErr, IsErrOf, IsOk, length, vec_len};
+ghost use Rattle.std.specs.List.{Contains};
+ghost use Rattle.spindle_rounds.specs.Leftovers.{IsFoundLeft, IsMarked};
+ghost use Rattle.spindle_trays.specs.Leaders.{threads_of, hands_of, view_of, IsBetweenRounds, MadeNoStep, TriedOnce, TriedAndMarked, LeftByTryRefusal};
+ghost use Rattle.spindle_trays.specs.Reports.{IsNoted, IsReport, IsTryRefusal};
+ghost use Rattle.spindle_trays.specs.Rounds.{job_count};
+
+use crate::job::gate::Gate;
+use crate::lock::leader::{Leader, MOST_JOBS};
+use crate::lock::report::Report;
+use crate::lock::workspace::Opens;
+use crate::pieces::runs::Pieces;
+use crate::work::rooms::make_rooms;
+use crate::work::tally::Tally;
+use spindle_lists::shared::SharedList;
+use spindle_parts::fault::Fault;
+use spindle_rounds::round::task::Task;
+use std::alloc::Global;
+use std::sync::Wait;
+use std::thread::Threads;
+
+impl<'a, J: Opens<L>, G: Gate, L> Leader<'a, J, G, L> {
+    /// Runs the items in as many jobs as `for_each` does, until a job fails: one of its outputs does, as `Job::failed` says.
+    /// A job that has begun runs all its items; no other begins once a thread has seen the failure. The report says
+    /// which pieces ran, with their outputs, and which were skipped.
+    ///
+    /// A leader that works alone runs the pieces in order, and none after the first that failed. One job is run by the
+    /// leader directly. No items are no job: that round takes no memory. After a refusal the lock can be used further; the
+    /// items are given up.
+    pub fn try_for_each<H: Threads + Wait + Sync>(
+        &mut self,
+        rt: &H,
+        alloc: Global,
+        n_jobs: usize,
+        items: Vec<J::In>,
+    ) -> Result<Report<J::Out>, Fault>
+        requires jobs { 0 < vec_len items → 0 < n_jobs }
+        ensures report { let jobs = job_count (vec_len items) n_jobs in
+            IfOk result (IsReport J.meets J.fails items.items jobs) }
+        ensures skipped { let jobs = job_count (vec_len items) n_jobs in
+            2 ≤ jobs → IfOk result (λ report. (k : ℕ) → Contains report.skipped.items k
+            ↔ IsFoundLeft (view_of self.new) (hands_of self.old) jobs k) }
+        ensures refused { let jobs = job_count (vec_len items) n_jobs in
+            IfErr result (IsTryRefusal (hands_of self.old) jobs (view_of self.new)) }
+        ensures empty { vec_len items ≡ 0 → IsOk result }
+        ensures played { let jobs = job_count (vec_len items) n_jobs in
+            OnOk result (2 ≤ jobs → TriedOnce jobs self.old self.new) }
+        ensures direct { job_count (vec_len items) n_jobs ≤ 1 → MadeNoStep self.old self.new }
+        ensures left { let jobs = job_count (vec_len items) n_jobs in
+            IfErr result (LeftByTryRefusal jobs self.old self.new) }
+        ensures between { IsBetweenRounds self.new }
+        ensures lock { threads_of self.new ≡ threads_of self.old }
+        ensures hands { hands_of self.new ≡ hands_of self.old }
+    {
+        if items.is_empty() {
+            return Ok(Report {
+                ran: Vec::new(alloc),
+                skipped: Vec::new(alloc),
+            });
+        }
+        let jobs = items.len().min(n_jobs.min(MOST_JOBS));
+        let pieces = Pieces::new(SharedList::from_vec(alloc, items)?, jobs);
+        self.try_pieces(rt, alloc, &pieces)
+    }
+
+    // The round of the pieces, which are tallied, and the report of the tally.
+    fn try_pieces<H: Threads + Wait + Sync>(
+        &mut self,
+        rt: &H,
+        alloc: Global,
+        pieces: &Pieces<J::In>,
+    ) -> Result<Report<J::Out>, Fault>
+        requires most { pieces.now.count ≤ 4294967295 }
+        ensures report { IfOk result (IsReport J.meets J.fails pieces.now.items pieces.now.count) }
+        ensures skipped { 2 ≤ pieces.now.count → IfOk result (λ report.
+            (k : ℕ) → Contains report.skipped.items k
+            ↔ IsFoundLeft (view_of self.new) (hands_of self.old) pieces.now.count k) }
+        ensures refused { IfErr result
+            (IsTryRefusal (hands_of self.old) pieces.now.count (view_of self.new)) }
+        ensures played { OnOk result
+            (2 ≤ pieces.now.count → TriedOnce pieces.now.count self.old self.new) }
+        ensures direct { pieces.now.count ≤ 1 → MadeNoStep self.old self.new }
+        ensures left { IfErr result (LeftByTryRefusal pieces.now.count self.old self.new) }
+        ensures lock { threads_of self.new ≡ threads_of self.old }
+        ensures hands { hands_of self.new ≡ hands_of self.old }
+    {
+        let mut left = vec![in alloc; false; pieces.count()]?;
+        let mut tally = Tally::new::<J>(alloc, pieces)?;
+        self.try_jobs(rt, alloc, pieces, &mut left, &mut tally)?;
+        tally.finish::<J>(pieces, left.as_slice())
+    }
+
+    // Out of trays where helpers may take part, else in the leader's rooms.
+    fn try_jobs<H: Threads + Wait + Sync>(
+        &mut self,
+        rt: &H,
+        alloc: Global,
+        pieces: &Pieces<J::In>,
+        left: &mut Vec<bool>,
+        tally: &mut Tally<J::Out>,
+    ) -> Result<(), Fault>
+        requires most { pieces.now.count ≤ 4294967295 }
+        requires marks { length left.old.items ≡ pieces.now.count }
+        requires unmarked { (k : ℕ) → IsMarked left.old.items k → ⊥ }
+        requires fresh { (marks : List Bool) → IsNoted J.meets J.fails
+            pieces.now.items pieces.now.count marks 0 tally.old }
+        requires whole { tally.old.lost ≡ None }
+        ensures tried { OnOk result (2 ≤ pieces.now.count
+            → TriedAndMarked pieces.now.count left.new.items self.old self.new) }
+        ensures direct { pieces.now.count ≤ 1 → MadeNoStep self.old self.new
+            × (left.new.items ≡ left.old.items) }
+        ensures marks { length left.new.items ≡ pieces.now.count }
+        ensures noted { OnOk result (IsNoted J.meets J.fails
+            pieces.now.items pieces.now.count left.new.items pieces.now.count tally.new) }
+        ensures alone { OnOk result (hands_of self.old ≤ 1 → tally.new.lost ≡ None) }
+        ensures one { OnOk result (pieces.now.count ≤ 1 → tally.new.lost ≡ None) }
+        ensures memory { OnErr result (IsErrOf result Fault.Memory × MadeNoStep self.old self.new) }
+        ensures lock { threads_of self.new ≡ threads_of self.old }
+        ensures hands { hands_of self.new ≡ hands_of self.old }
+    {
+        if pieces.count() > 1 && self.post.post.tables.crew.threads() > 1 {
+            return self.try_in_trays(rt, alloc, pieces, left, tally);
+        }
+        self.try_in_rooms(rt, alloc, pieces, left, tally)
+    }
+
+    // A round with the helpers: hand out, publish, work, wait, mark what is left, and note what came back.
+    fn try_in_trays<H: Threads + Wait + Sync>(
+        &mut self,
+        rt: &H,
+        alloc: Global,
+        pieces: &Pieces<J::In>,
+        left: &mut Vec<bool>,
+        tally: &mut Tally<J::Out>,
+    ) -> Result<(), Fault>
+        requires counted { (2 ≤ pieces.now.count) × (pieces.now.count ≤ 4294967295) }
+        requires marks { length left.old.items ≡ pieces.now.count }
+        requires unmarked { (k : ℕ) → IsMarked left.old.items k → ⊥ }
+        requires fresh { (marks : List Bool) → IsNoted J.meets J.fails
+            pieces.now.items pieces.now.count marks 0 tally.old }
+        ensures tried { OnOk result (TriedAndMarked pieces.now.count left.new.items self.old self.new) }
+        ensures marks { length left.new.items ≡ pieces.now.count }
+        ensures noted { OnOk result (IsNoted J.meets J.fails
+            pieces.now.items pieces.now.count left.new.items pieces.now.count tally.new) }
+        ensures memory { OnErr result (IsErrOf result Fault.Memory × MadeNoStep self.old self.new) }
+        ensures lock { threads_of self.new ≡ threads_of self.old }
+        ensures hands { hands_of self.new ≡ hands_of self.old }
+    {
+        let trays = J::trays(self.workspace);
+        trays.hand_out(rt, alloc, pieces)?;
+        let task = task_of(pieces);
+        self.post.play(rt, alloc, trays, &mut self.runner, task);
+        self.post.mark_left(left);
+        trays.tally(rt, pieces, left.as_slice(), tally);
+        Ok(())
+    }
+
+    // The leader alone: one piece directly, more by a round of its own. No piece is lost here.
+    fn try_in_rooms<H: Threads + Wait + Sync>(
+        &mut self,
+        rt: &H,
+        alloc: Global,
+        pieces: &Pieces<J::In>,
+        left: &mut Vec<bool>,
+        tally: &mut Tally<J::Out>,
+    ) -> Result<(), Fault>
+        requires most { pieces.now.count ≤ 4294967295 }
+        requires marks { length left.old.items ≡ pieces.now.count }
+        requires unmarked { (k : ℕ) → IsMarked left.old.items k → ⊥ }
+        requires fresh { (marks : List Bool) → IsNoted J.meets J.fails
+            pieces.now.items pieces.now.count marks 0 tally.old }
+        requires whole { tally.old.lost ≡ None }
+        ensures tried { OnOk result (2 ≤ pieces.now.count
+            → TriedAndMarked pieces.now.count left.new.items self.old self.new) }
+        ensures direct { pieces.now.count ≤ 1 → MadeNoStep self.old self.new
+            × (left.new.items ≡ left.old.items) }
+        ensures marks { length left.new.items ≡ pieces.now.count }
+        ensures noted { OnOk result (IsNoted J.meets J.fails
+            pieces.now.items pieces.now.count left.new.items pieces.now.count tally.new) }
+        ensures whole { OnOk result (tally.new.lost ≡ None) }
+        ensures memory { OnErr result (IsErrOf result Fault.Memory × MadeNoStep self.old self.new) }
+        ensures lock { threads_of self.new ≡ threads_of self.old }
+        ensures hands { hands_of self.new ≡ hands_of self.old }
+    {
+        let mut rooms = make_rooms::<J>(alloc, pieces)?;
+        if pieces.count() == 1 {
+            self.runner
+                .tally_rooms(rt, alloc, pieces, rooms, left.as_slice(), tally);
+            return Ok(());
+        }
+        let task = task_of(pieces);
+        self.post
+            .play_rooms(rt, alloc, &mut self.runner, task, pieces, &mut rooms);
+        self.post.mark_left(left);
+        self.runner
+            .tally_rooms(rt, alloc, pieces, rooms, left.as_slice(), tally);
+        Ok(())
+    }
+}
+
+// The task of a round that may stop, a job for each piece.
+fn task_of<T>(pieces: &Pieces<T>) -> Task
+    ensures jobs { result.jobs ≡ pieces.now.count }
+    ensures may_stop { result.may_stop ≡ true }
+{
+    Task {
+        jobs: pieces.count() as u64,
+        may_stop: true,
+    }
+}

@@ -1,0 +1,11 @@
+//! From the items of a round to its outputs: the pieces as runs of one list, where a number's piece stands, the trays that
+//! threads take pieces from and bring them back to, and the gathering of what was run.
+
+pub mod address;
+pub mod finished;
+pub mod gathering;
+pub mod place;
+pub mod ready;
+pub mod runs;
+pub mod tray;
+pub mod trays;

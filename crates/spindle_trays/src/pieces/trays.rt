@@ -1,0 +1,236 @@
+//! The trays of a lock: one a thread number, each behind a lock of its own, so that threads which run the pieces that
+//! they were dealt never wait for one another.
+ghost use Rattle.std.specs.Prelude.{◌≡◌, ◌<◌, ◌≤◌, [], IfOk, IfErr, IfSome, OnOk, OnErr, IsErrOf, length, vec_len, vec_capacity};
+ghost use Rattle.std.specs.List.{AllZip};
+ghost use Rattle.spindle_trays.specs.PieceRuns.{piece_at};
+ghost use Rattle.spindle_trays.specs.Reports.{IsNoted};
+
+use crate::job::Job;
+use crate::pieces::address::Address;
+use crate::pieces::finished::Finished;
+use crate::pieces::ready::Ready;
+use crate::pieces::runs::Pieces;
+use crate::pieces::tray::Tray;
+use crate::work::tally::Tally;
+use crossbeam_utils::CachePadded;
+use spindle_parts::fault::Fault;
+use std::alloc::Global;
+use std::sync::{Mutex, Wait};
+
+/// The trays of a lock, by thread number.
+#[derive(Drop)]
+pub struct Trays<J: Job> {
+    trays: Vec<CachePadded<Mutex<Tray<J>>>>,
+    ghost led: { 0 < vec_len trays },
+}
+
+impl<J: Job> Trays<J> {
+    /// A tray of no pieces for each of so many threads.
+    pub fn new(alloc: Global, threads: usize) -> Result<Trays<J>, Fault>
+        requires { 0 < threads }
+        ensures threads { IfOk result (λ trays. vec_len trays.trays ≡ threads) }
+        ensures memory { OnErr result (IsErrOf result Fault.Memory) }
+    {
+        let mut trays = Vec::with_capacity(alloc, threads)?;
+        for thread in 0..threads {
+            let tray = Mutex::new(Tray::new(alloc, thread, threads));
+            trays.push_reserved(CachePadded::new(tray));
+        }
+        Ok(Trays { trays })
+    }
+
+    /// Puts the pieces into the trays of those that they are dealt to. All that the pieces' runs need is made
+    /// here, and what earlier rounds made is used again.
+    ///
+    /// After a refusal the trays hold no piece.
+    pub fn hand_out<H: Wait>(
+        &self,
+        rt: &H,
+        alloc: Global,
+        pieces: &Pieces<J::In>,
+    ) -> Result<(), Fault>
+        ensures { OnErr result (IsErrOf result Fault.Memory) }
+    {
+        let handed_out = self.refill(rt, alloc, pieces);
+        if handed_out.is_err() {
+            self.empty(rt);
+        }
+        handed_out
+    }
+
+    // Fills one tray after the other, up to the first that is refused memory.
+    fn refill<H: Wait>(&self, rt: &H, alloc: Global, pieces: &Pieces<J::In>) -> Result<(), Fault>
+        ensures { OnErr result (IsErrOf result Fault.Memory) }
+    {
+        for tray in &self.trays {
+            tray.lock(rt).refill(alloc, pieces)?;
+        }
+        Ok(())
+    }
+
+    // Lets go of all pieces.
+    fn empty<H: Wait>(&self, rt: &H) {
+        for tray in &self.trays {
+            tray.lock(rt).empty();
+        }
+    }
+
+    /// Takes a piece of a round of so many out of the tray where it was dealt, if it waits there.
+    pub fn take<H: Wait>(&self, rt: &H, pieces: usize, number: usize) -> Option<Ready<J>>
+        requires { number < pieces }
+        ensures { IfSome result (λ piece. piece.number ≡ number) }
+    {
+        let address = Address::new(number, pieces, self.trays.len());
+        of_number(
+            self.trays[address.thread].lock(rt).take(address.place),
+            number,
+        )
+    }
+
+    /// Brings a piece of a round of so many back, run, to the tray where it was dealt. A tray may refuse it.
+    pub fn put<H: Wait>(
+        &self,
+        rt: &H,
+        pieces: usize,
+        finished: Finished<J>,
+    ) -> Result<(), Finished<J>>
+        requires { finished.number < pieces }
+        ensures { IfErr result (λ back. back ≡ finished) }
+    {
+        let address = Address::new(finished.number(), pieces, self.trays.len());
+        self.trays[address.thread]
+            .lock(rt)
+            .put(address.place, finished)
+    }
+
+    /// Brings a piece of a round of so many back, run, and takes the piece of a number, if it waits in its tray: under one
+    /// lock where both were dealt to one thread.
+    pub(crate) fn exchange<H: Wait>(
+        &self,
+        rt: &H,
+        pieces: usize,
+        finished: Option<Finished<J>>,
+        number: usize,
+    ) -> Option<Ready<J>>
+        ensures { IfSome result (λ piece. piece.number ≡ number) }
+    {
+        if let Some(finished) = finished
+            && finished.number() < pieces
+        {
+            let back = Address::new(finished.number(), pieces, self.trays.len());
+            let mut tray = self.trays[back.thread].lock(rt);
+            drop(tray.put(back.place, finished));
+            if number < pieces {
+                let next = Address::new(number, pieces, self.trays.len());
+                if next.thread == back.thread {
+                    return of_number(tray.take(next.place), number);
+                }
+            }
+        }
+        if number < pieces {
+            self.take(rt, pieces, number)
+        } else {
+            None
+        }
+    }
+
+    /// Moves the outputs of the pieces to the end of the list, in order. Answers the least number whose place is empty or
+    /// holds another number or other inputs than the piece; what has moved by then stays, and the trays hold no piece any
+    /// more. Takes no memory.
+    pub fn gather<H: Wait>(
+        &self,
+        rt: &H,
+        pieces: &Pieces<J::In>,
+        outputs: &mut Vec<J::Out>,
+    ) -> Result<(), usize>
+        requires empty { outputs.old.items ≡ [] }
+        requires room { length pieces.now.items ≤ vec_capacity outputs.old }
+        ensures answers { OnOk result (AllZip J.meets pieces.now.items outputs.new.items) }
+        ensures lost { IfErr result (λ k. k < pieces.now.count) }
+    {
+        let gathered = self.move_outputs(rt, pieces, outputs);
+        if gathered.is_err() {
+            self.empty(rt);
+        }
+        gathered
+    }
+
+    // The outputs of each thread's run of numbers, thread by thread, and then those of the numbers left over.
+    fn move_outputs<H: Wait>(
+        &self,
+        rt: &H,
+        pieces: &Pieces<J::In>,
+        outputs: &mut Vec<J::Out>,
+    ) -> Result<(), usize>
+        requires empty { outputs.old.items ≡ [] }
+        requires room { length pieces.now.items ≤ vec_capacity outputs.old }
+        ensures answers { OnOk result (AllZip J.meets pieces.now.items outputs.new.items) }
+        ensures lost { IfErr result (λ k. k < pieces.now.count) }
+    {
+        let threads = self.trays.len();
+        let each = pieces.count() / threads;
+        for thread in 0..threads {
+            self.trays[thread]
+                .lock(rt)
+                .gather(0, pieces, each * thread, each, outputs)?;
+        }
+        for thread in 0..pieces.count() % threads {
+            self.trays[thread]
+                .lock(rt)
+                .gather(each, pieces, each * threads + thread, 1, outputs)?;
+        }
+        Ok(())
+    }
+}
+
+impl<J: Job> Trays<J> {
+    /// Notes what came of the pieces of a round that may stop, of which some are marked as left. The trays hold no piece
+    /// any more. Takes no memory.
+    pub(crate) fn tally<H: Wait>(
+        &self,
+        rt: &H,
+        pieces: &Pieces<J::In>,
+        left: &[bool],
+        tally: &mut Tally<J::Out>,
+    )
+        requires marks { length left.now ≡ pieces.now.count }
+        requires fresh { IsNoted J.meets J.fails
+            pieces.now.items pieces.now.count left.now 0 tally.old }
+        ensures noted { IsNoted J.meets J.fails
+            pieces.now.items pieces.now.count left.now pieces.now.count tally.new }
+    {
+        for number in 0..pieces.count() {
+            let outputs = self.take_outputs(rt, pieces, number);
+            tally.note::<J>(pieces, left, number, outputs);
+        }
+    }
+
+    // Takes the outputs of a piece, if it stands in its place, run.
+    fn take_outputs<H: Wait>(
+        &self,
+        rt: &H,
+        pieces: &Pieces<J::In>,
+        number: usize,
+    ) -> Option<Vec<J::Out>>
+        requires { number < pieces.now.count }
+        ensures { IfSome result (λ outputs.
+            AllZip J.meets (piece_at pieces.now.items pieces.now.count number) outputs.items) }
+    {
+        let address = Address::new(number, pieces.count(), self.trays.len());
+        self.trays[address.thread]
+            .lock(rt)
+            .take_outputs(address.place, number, pieces.piece(number))
+    }
+}
+
+// The piece, if it is the one of that number.
+fn of_number<J: Job>(piece: Option<Ready<J>>, number: usize) -> Option<Ready<J>>
+    ensures { IfSome result (λ piece. piece.number ≡ number) }
+{
+    let piece = piece?;
+    if piece.number() == number {
+        Some(piece)
+    } else {
+        None
+    }
+}

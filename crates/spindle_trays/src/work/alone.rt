@@ -1,0 +1,134 @@
+//! The rounds of a lock with one thread: its leader claims the jobs as in any round, and runs the pieces in their order.
+//!
+//! The pieces stay with the leader, and no tray is asked. With one thread the numbers come in order; a number out of
+//! order would be counted without a run, and its piece runs after the last claim.
+ghost use Rattle.std.specs.Prelude.{◌≡◌, ◌+◌, ◌<◌, ◌≤◌, length, vec_len, vec_capacity};
+ghost use Rattle.std.specs.List.{AllZip};
+ghost use Rattle.std.proofs.Common.{refl, ◌∙◌};
+ghost use Rattle.spindle_trays.specs.Alone.{HasAnswered};
+ghost use Rattle.spindle_trays.specs.Rounds.{items_of};
+ghost use Rattle.spindle_rounds.specs.Working.{PlayedRound};
+
+use crate::crew::leader_post::LeaderPost;
+use crate::crew::phases::{end_round, publish};
+use crate::job::Job;
+use crate::job::gate::Gate;
+use crate::pieces::finished::Finished;
+use crate::work::runner::Runner;
+use spindle_parts::cut::Piece;
+use spindle_rounds::round::claim::Claimed;
+use spindle_rounds::round::party::{Party, Work};
+use spindle_rounds::round::task::Task;
+use spindle_rounds::round_table::Seat;
+use spindle_rounds::round_table::slots::Bare;
+use std::alloc::Global;
+use std::mem;
+use std::sync::Wait;
+use std::thread::Threads;
+
+/// What runs a round's pieces in their order, with the outputs of the first ones.
+#[derive(Drop)]
+struct LoneWork<'p, 'r, 'a, J: Job, G: Gate> {
+    pieces: &'p [Piece<J::In>],
+    runner: &'r mut Runner<'a, J, G>,
+    alloc: Global,
+    next: usize,
+    outputs: Vec<J::Out>,
+}
+
+impl<'a> LeaderPost<'a, Bare> {
+    /// Publishes the pieces, runs each of them in its order, and ends the round.
+    pub(crate) fn play_alone<J: Job, G: Gate, H: Threads + Wait + Sync>(
+        &mut self,
+        rt: &H,
+        alloc: Global,
+        runner: &mut Runner<'a, J, G>,
+        pieces: &[Piece<J::In>],
+        outputs: &mut Vec<J::Out>,
+    )
+        requires counted { (2 ≤ length pieces.now) × (length pieces.now ≤ 4294967295) }
+        requires empty { vec_len outputs.old ≡ 0 }
+        requires room { length (items_of pieces.now) ≤ vec_capacity outputs.old }
+        ensures answered { AllZip J.meets (items_of pieces.now) outputs.new.items }
+        ensures played { PlayedRound (length pieces.now)
+            self.old.post.barrier.seat.me.0 self.new.post.barrier.seat.me.0 }
+        ensures tables { self.new.post.tables ≡ self.old.post.tables }
+    {
+        let post = &mut self.post;
+        let tables = post.tables;
+        let task = Task {
+            jobs: pieces.len() as u64,
+            may_stop: false,
+        };
+        publish(rt, tables, &mut post.barrier, &mut runner.notices, task);
+        let party = Party {
+            round: &tables.round,
+            thread: 0,
+            task,
+        };
+        let work = LoneWork {
+            pieces,
+            runner,
+            alloc,
+            next: 0,
+            outputs: mem::replace(outputs, Vec::new(alloc)),
+        };
+        let mut work = party.work(rt, &mut post.barrier.seat, work);
+        work.run_left(rt);
+        *outputs = work.outputs;
+        end_round(rt, tables, &mut post.barrier);
+    }
+}
+
+impl<'p, 'r, 'a, J: Job, G: Gate> Work<Bare> for LoneWork<'p, 'r, 'a, J, G> {
+    ghost holds = { λ w hands. HasAnswered J.meets w.pieces.now w.next w.outputs };
+
+    ghost keeps = { λ v w. w.pieces ≡ v.pieces };
+
+    // The number is counted, and its piece runs where it is the next.
+    fn run<H: Threads + Wait + Sync>(
+        &mut self,
+        rt: &H,
+        party: &Party<'_, Bare>,
+        seat: &mut Seat<Bare>,
+        claimed: Claimed,
+    ) {
+        let number = claimed.number() as usize;
+        if number == self.next && number < self.pieces.len() {
+            self.run_next(rt);
+        }
+        let finished: Finished<J> = Finished::empty(self.alloc, number);
+        party.round.finish(seat, claimed, &finished);
+    }
+
+    ghost keeps_same = { λ w. refl };
+
+    ghost keeps_then = { λ u v w a b. b ∙ a };
+}
+
+impl<'p, 'r, 'a, J: Job, G: Gate> LoneWork<'p, 'r, 'a, J, G> {
+    // The pieces that no claim gave in order.
+    fn run_left<H: Threads + Wait + Sync>(&mut self, rt: &H)
+        requires { HasAnswered J.meets self.old.pieces.now self.old.next self.old.outputs }
+        ensures { AllZip J.meets (items_of self.old.pieces.now) self.new.outputs.items }
+    {
+        for _ in self.next..self.pieces.len() {
+            self.run_next(rt);
+        }
+    }
+
+    // Runs the next piece.
+    fn run_next<H: Threads + Wait + Sync>(&mut self, rt: &H)
+        requires left { self.old.next < length self.old.pieces.now }
+        requires answered { HasAnswered J.meets self.old.pieces.now self.old.next self.old.outputs }
+        ensures pieces { self.new.pieces ≡ self.old.pieces }
+        ensures next { self.new.next ≡ self.old.next + 1 }
+        ensures answered { HasAnswered J.meets self.new.pieces.now self.new.next self.new.outputs }
+    {
+        let piece = &self.pieces[self.next];
+        let (number, items) = (piece.number, piece.items.as_slice());
+        self.runner
+            .run(rt, self.alloc, number, Some(0), items, &mut self.outputs);
+        self.next += 1;
+    }
+}
