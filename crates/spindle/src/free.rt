@@ -8,9 +8,9 @@ ghost use Rattle.std.specs.Prelude.{◌≡◌, ◌<◌, All, IfOk, OnErr, IsOk, 
 ghost use Rattle.std.specs.List.{AllZip};
 ghost use Rattle.spindle_parts.specs.Pieces.{counted};
 
+use crate::lock::{Gate, Pool};
 use rayon::prelude::*;
 use spindle_parts::fault::Fault;
-use crate::lock::{Gate, Pool};
 use std::alloc::Global;
 use std::thread::Threads;
 

@@ -1,5 +1,5 @@
 -- What came of a round that may stop: which pieces ran, with their outputs, and which were skipped.
-use Rattle.std.specs.Prelude.{◌≡◌, ◌⊎◌, ℕ, ◌<◌, ◌≤◌, Bool, true, false, not, List, [], ◌++◌, None, IfSome, Vec, length, map, filter, slice_index_or, vec_len, vec_capacity, IsPermutation}
+use Rattle.std.specs.Prelude.{◌≡◌, ◌⊎◌, ℕ, ◌<◌, ◌≤◌, Bool, true, false, not, List, [], ◌∷◌, ◌++◌, None, IfSome, Vec, length, map, filter, slice_index_or, vec_len, vec_capacity, IsPermutation}
 use Rattle.std.specs.List.Sorted.{IsStrictlyIncreasing}
 use Rattle.std.specs.List.{All, AllZip, Any}
 use Rattle.spindle_parts.specs.Pieces.{counted, joined}
@@ -27,9 +27,14 @@ IsAnswered Meets items n piece = AllZip Meets (piece_at items n piece.0) piece.1
 abbrev pub outputs_of : {B Z : Type 0} → List (ℕ × Vec B Z) → List B
 outputs_of ran = joined (map (λ piece. piece.1.items) ran)
 
--- the piece of a number has failed
-abbrev pub IsFailure : {B Z : Type 0} → (B → Type 0) → ℕ → (ℕ × Vec B Z) → Type 0
-IsFailure Fails number piece = (piece.0 ≡ number) × HasFailed Fails piece
+-- none of these pieces has failed
+abbrev pub NoneFailed : {B Z : Type 0} → (B → Type 0) → List (ℕ × Vec B Z) → Type 0
+NoneFailed Fails pieces = All (λ piece. HasFailed Fails piece → ⊥) pieces
+
+-- the first of these pieces that has failed is the one of this number
+abbrev pub IsFirstFailed : {B Z : Type 0} → (B → Type 0) → List (ℕ × Vec B Z) → ℕ → Type 0
+IsFirstFailed {B} {Z} Fails pieces number = (before after : List (ℕ × Vec B Z)) × (piece : ℕ × Vec B Z) × (pieces ≡ before ++ piece ∷ after)
+    × (piece.0 ≡ number) × HasFailed Fails piece × NoneFailed Fails before
 
 -- what a report promises of a round over these items in n pieces
 pub record IsReport {A B : Type 0} (Meets : A → B → Type 0) (Fails : B → Type 0) (items : List A) (n : ℕ) (report : Report B) : Type 0 where

@@ -1,5 +1,5 @@
 //! A kind of job: what goes in, what comes out, and the relation between the two.
-ghost use Rattle.std.specs.Prelude.{◌≡◌, true};
+ghost use Rattle.std.specs.Prelude.{◌≡◌, ◌↔◌, IsTrue, true};
 ghost use denote.Param.Send.{IsSync};
 
 use crate::job::context::JobCx;
@@ -52,4 +52,11 @@ pub trait Job {
 
     /// Equal inputs are the same value.
     ghost equal_is_same: { (x y : Self.In) → Self.In.eq x y ≡ true → x ≡ y };
+}
+
+/// A kind of job that tells each of its failures. `failed` alone may be silent: a kind that doesn't write it has it from the trait.
+pub trait TellsFailures: Job {
+    /// Whether an output is a failure. Where `failed` is written with this clause, it is `Self::failed`.
+    fn is_failure(output: &Self::Out) -> bool
+        ensures { IsTrue result ↔ Self.Job.fails output.now };
 }

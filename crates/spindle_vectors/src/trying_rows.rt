@@ -5,7 +5,7 @@ ghost use Rattle.std.proofs.Common.{rules};
 use crate::checks::{are, is};
 use crate::gates::Meetings;
 use crate::jobs::{Calls, Counting};
-use spindle::lock::{End, Job, JobCx, Limits, NoGate, Pool, Report};
+use spindle::lock::{End, Job, JobCx, Limits, NoGate, Pool, Report, TellsFailures};
 use spindle::{Fault, with_lock};
 use std::alloc::Global;
 use std::sync::Wait;
@@ -37,10 +37,16 @@ impl Job for Trying {
     }
 
     fn failed(output: &(u32, bool)) -> bool {
-        output.1
+        Self::is_failure(output)
     }
 
     ghost equal_is_same = { Prim.search rules };
+}
+
+impl TellsFailures for Trying {
+    fn is_failure(output: &(u32, bool)) -> bool {
+        output.1
+    }
 }
 
 // The numbers from 0 up, of which those that are a multiple of `every` fail.
@@ -211,5 +217,40 @@ fn the_gate_is_called_once_for_each_piece_that_ran(rt: HostRuntime) -> Result<()
         assert!(rt; is_report(&report, 30, 30));
         is(&rt, calls.in_all(), (ran, ran));
     }
+    Ok(())
+}
+
+#[test]
+fn a_report_names_the_first_piece_that_failed(rt: HostRuntime) -> Result<(), Fault> {
+    let alloc = rt.alloc();
+    let alone = Pool::new(1, Limits::new(), NoGate);
+    with_lock::<Trying, _, _, _, _, _>(&rt, alloc, &alone, 1, |leader| {
+        let report = leader.try_for_each(&rt, alloc, 6, items(alloc, 6, 3)?)?;
+        is(&rt, report.first_failed::<Trying>(), Some(2));
+        let report = leader.try_for_each(&rt, alloc, 2, items(alloc, 5, 2)?)?;
+        is(&rt, report.first_failed::<Trying>(), Some(0));
+        Ok::<(), Fault>(())
+    })??;
+    let pool = Pool::new(4, Limits::new(), NoGate);
+    with_lock::<Trying, _, _, _, _, _>(&rt, alloc, &pool, 4, |leader| {
+        let report = leader.try_for_each(&rt, alloc, 10, items(alloc, 10, 6)?)?;
+        is(&rt, report.first_failed::<Trying>(), Some(5));
+        let report = leader.try_for_each(&rt, alloc, 10, items(alloc, 10, 0)?)?;
+        is(&rt, report.first_failed::<Trying>(), None);
+        Ok::<(), Fault>(())
+    })?
+}
+
+#[test]
+fn the_outputs_of_a_report_stand_in_order(rt: HostRuntime) -> Result<(), Fault> {
+    let alloc = rt.alloc();
+    let report = report_of(&rt, alloc, 4, 6, items(alloc, 100, 0)?)?;
+    are(&rt, &report.into_outputs(alloc)?, &items(alloc, 100, 0)?);
+    let report = report_of(&rt, alloc, 1, 6, items(alloc, 6, 3)?)?;
+    are(
+        &rt,
+        &report.into_outputs(alloc)?,
+        &[(0, false), (1, false), (2, true)],
+    );
     Ok(())
 }

@@ -1,10 +1,9 @@
 //! What came of a round that may stop.
-ghost use Rattle.std.specs.Prelude.{◌≡◌, ◌↔◌, [], IfOk, IfSome, IsTrue, OnErr, IsErrOf};
+ghost use Rattle.std.specs.Prelude.{◌≡◌, ◌↔◌, [], IfOk, IfSome, IsNone, IsTrue, OnErr, IsErrOf};
 ghost use Rattle.std.specs.List.{Any};
-ghost use Rattle.spindle_trays.specs.Reports.{IsFailure, outputs_of};
+ghost use Rattle.spindle_trays.specs.Reports.{IsFirstFailed, NoneFailed, outputs_of};
 
-use crate::job::Job;
-use crate::work::tally::has_failure;
+use crate::job::TellsFailures;
 use spindle_parts::fault::Fault;
 use std::alloc::Global;
 
@@ -28,12 +27,13 @@ impl<T: Drop> Report<T> {
         self.skipped.is_empty()
     }
 
-    /// The number of the first piece that the kind of job tells as failed.
-    pub fn first_failed<J: Job<Out = T>>(&self) -> Option<usize>
-        ensures { IfSome result (λ number. Any (IsFailure J.fails number) self.now.ran.items) }
+    /// The number of the first piece that has failed: one of its outputs is a failure.
+    pub fn first_failed<J: TellsFailures<Out = T>>(&self) -> Option<usize>
+        ensures first { IfSome result (IsFirstFailed J.fails self.now.ran.items) }
+        ensures none { IsNone result ↔ NoneFailed J.fails self.now.ran.items }
     {
         for piece in &self.ran {
-            if has_failure::<J>(piece.1.as_slice()) {
+            if has_failed::<J>(piece.1.as_slice()) {
                 return Some(piece.0);
             }
         }
@@ -52,4 +52,16 @@ impl<T: Drop> Report<T> {
         }
         Ok(all)
     }
+}
+
+// Whether one of a piece's outputs is a failure.
+fn has_failed<J: TellsFailures>(outputs: &[J::Out]) -> bool
+    ensures { IsTrue result ↔ Any J.fails outputs.now }
+{
+    for output in outputs {
+        if J::is_failure(output) {
+            return true;
+        }
+    }
+    false
 }
