@@ -21,14 +21,6 @@ mod leader_rows;
 #[cfg(test)]
 mod list_rows;
 #[cfg(test)]
-mod nested_jobs;
-#[cfg(test)]
-mod nested_refusals;
-#[cfg(test)]
-mod nested_rounds;
-#[cfg(test)]
-mod nested_rows;
-#[cfg(test)]
 mod place_rows;
 #[cfg(test)]
 mod refusals;

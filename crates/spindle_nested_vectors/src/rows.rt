@@ -1,7 +1,7 @@
 //! Rows of locks that jobs open: helpers move to them and run jobs there, and leaders work alone where they must.
 
 use crate::checks::are;
-use crate::nested_jobs::{DoubleBoth, FourUnits, Opener, Rounds, Where};
+use crate::jobs::{DoubleBoth, FourUnits, Opener, Rounds, Where};
 use spindle::lock::{Limits, NoGate, Pool};
 use spindle::{Fault, with_lock};
 

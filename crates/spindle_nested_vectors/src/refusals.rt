@@ -7,8 +7,7 @@ ghost use Rattle.std.proofs.Common.{rules};
 ghost use denote.Param.Send.{IsSync};
 
 use crate::checks::are;
-use crate::jobs::Square;
-use crate::refusals::{are_seven_squares, seven_items};
+use crate::squares::{Square, are_seven_squares, seven_items};
 use spindle::lock::{Job, JobCx, Leader, Limits, NoGate, Opens, Pool, Under};
 use spindle::{Fault, with_lock};
 use std::alloc::Global;

@@ -3,10 +3,9 @@ ghost use Rattle.std.proofs.Common.{rules};
 ghost use denote.Param.Send.{IsSync};
 
 use crate::checks::{are, is};
-use crate::jobs::Square;
-use spindle::ListRun;
+use crate::squares::Square;
 use spindle::lock::{End, Job, JobCx, Leader, Limits, NoGate, Opens, Pool, Under};
-use spindle::{Fault, SharedList, gathered, with_lock};
+use spindle::{Fault, ListRun, SharedList, gathered, with_lock};
 use std::alloc::Global;
 use std::sync::Wait;
 use std::thread::Threads;

@@ -1,0 +1,15 @@
+//! Rows of locks that jobs open: inputs with the outputs that they must give, and what a refused allocation leaves there.
+#![tactic(auto)]
+
+#[cfg(test)]
+mod checks;
+#[cfg(test)]
+mod jobs;
+#[cfg(test)]
+mod refusals;
+#[cfg(test)]
+mod rounds;
+#[cfg(test)]
+mod rows;
+#[cfg(test)]
+mod squares;
