@@ -6,8 +6,6 @@
 ghost use Rattle.std.specs.Prelude.{◌≡◌, ◌%◌, ◌<◌, ◌+◌, Option, Some, IsSomeAnd, IsSome, IfSome, IfOk, IfErr};
 ghost use Rattle.counted_slot.specs.Counting.{readers, IsTurn};
 
-#[cfg(test)]
-mod tests;
 mod word;
 
 pub use counted_slot::Fits;

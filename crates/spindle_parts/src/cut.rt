@@ -10,9 +10,6 @@ ghost use Rattle.spindle_parts.specs.Pieces.{cut_lengths, joined, counted, dealt
 use crate::fault::Fault;
 use std::alloc::Global;
 
-#[cfg(test)]
-mod tests;
-
 /// A numbered run of the items of a list: one job's input.
 #[derive(Drop)]
 pub struct Piece<T> {

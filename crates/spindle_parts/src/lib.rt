@@ -3,8 +3,6 @@
 #![tactic(auto)]
 
 pub mod aarc_imp;
-#[cfg(test)]
-mod checks;
 pub mod cut;
 pub mod fault;
 pub mod numbers;

@@ -10,8 +10,6 @@ ghost use Rattle.std.specs.Int.{bit_at};
 ghost use Rattle.spindle_parts.specs.declared.fault.Fault.TheVariants.{Memory};
 
 mod plays;
-#[cfg(test)]
-mod tests;
 
 use crate::fault::Fault;
 use crate::words::{BITS, LINE};

@@ -25,8 +25,6 @@ use plays::{Account, Announces, Another, Asks, Closes, Installs, Ledger, Loads, 
 use std::alloc::Global;
 
 pub mod plays;
-#[cfg(test)]
-mod tests;
 
 /// A seat at the ledger, for one thread at a time.
 pub type Seat = atomic_table::Seat<(), Account>;

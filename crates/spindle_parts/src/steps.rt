@@ -20,8 +20,6 @@ mod entries;
 mod jobs;
 mod members;
 mod registers;
-#[cfg(test)]
-mod tests;
 
 use registers::Registers;
 

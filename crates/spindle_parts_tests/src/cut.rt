@@ -5,9 +5,10 @@
 ghost use Rattle.std.specs.Prelude.{◌≡◌, map, IfOk, vec_len};
 ghost use Rattle.spindle_parts.specs.Pieces.{counted};
 
-use super::*;
 use crate::checks::is;
-use std::alloc::AllocError;
+use spindle_parts::cut::{Piece, cut, deal, piece_lengths};
+use spindle_parts::fault::Fault;
+use std::alloc::{AllocError, Global};
 use std::test::Fail;
 
 /// The numbers from 0 to `count`, the end not included.

@@ -4,7 +4,7 @@ ghost use Rattle.std.specs.Prelude.{◌≡◌, ◌≤◌, IfSome};
 mod guards;
 mod turns;
 
-use crate::aarc_imp::{AtomicArc, Fits};
+use spindle_parts::aarc_imp::{AtomicArc, Fits};
 use std::sync::Wait;
 use std::sync::atomic::{AtomicU64, Ordering};
 use std::thread;

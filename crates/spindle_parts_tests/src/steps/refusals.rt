@@ -1,11 +1,11 @@
 //! Each refusal at least once, where several tests are true by the first of the step table.
 
 use crate::checks::is;
-use crate::steps::Step::{
+use crate::steps::{accept, fresh, refuse, word};
+use spindle_parts::steps::Step::{
     Arrive, Claim, Clear, End, Exit, Finish, Join, Leave, Publish, PublishTry, Rest, See, Stop,
 };
-use crate::steps::tests::{accept, fresh, refuse, word};
-use crate::steps::{Step, Why};
+use spindle_parts::steps::{Step, Why};
 use std::test::Fail;
 
 #[test]

@@ -4,8 +4,8 @@ ghost use Rattle.std.specs.Thread.{IsSync};
 ghost use Rattle.spindle_parts.specs.ThreadNumbers.{IsSeatOf};
 ghost use Rattle.spindle_parts.specs.declared.numbers.plays.Holding.TheVariants.{Nothing};
 
-use crate::fault::Fault;
-use crate::numbers::{Numbers, Seat, Take};
+use spindle_parts::fault::Fault;
+use spindle_parts::numbers::{Numbers, Seat, Take};
 use std::alloc::Global;
 use std::process::Abort;
 use std::sync::atomic::{AtomicU64, Ordering};

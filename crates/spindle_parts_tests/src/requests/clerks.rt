@@ -4,7 +4,7 @@ ghost use Rattle.spindle_parts.specs.LedgerSeats.{slot_count, IsSeatOf};
 
 use super::SLOTS;
 use crate::checks::is;
-use crate::requests::{Requests, Seat, TakePlace};
+use spindle_parts::requests::{Requests, Seat, TakePlace};
 use std::test::Fail;
 use std::thread;
 

@@ -4,8 +4,8 @@ mod memory;
 mod refusals;
 mod rounds;
 
-use crate::fault::Fault;
-use crate::steps::{Machine, Reply, Step, Why};
+use spindle_parts::fault::Fault;
+use spindle_parts::steps::{Machine, Reply, Step, Why};
 use std::alloc::Global;
 use std::process::Abort;
 use std::test::Fail;

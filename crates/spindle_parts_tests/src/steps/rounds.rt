@@ -1,11 +1,11 @@
 //! Worked rounds, step by step with each answer.
 
 use crate::checks::is;
-use crate::steps::Step::{
+use crate::steps::{Script, accept, fresh, play, refuse, word};
+use spindle_parts::steps::Step::{
     Arrive, Claim, Clear, End, Exit, Finish, Join, Leave, Publish, PublishTry, Rest, See, Stop,
 };
-use crate::steps::tests::{Script, accept, fresh, play, refuse, word};
-use crate::steps::{Machine, Reply, Step, Why};
+use spindle_parts::steps::{Machine, Reply, Step, Why};
 use std::process::Abort;
 use std::test::Fail;
 

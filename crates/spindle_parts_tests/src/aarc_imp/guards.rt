@@ -2,7 +2,7 @@
 ghost use Rattle.std.specs.Prelude.{◌≡◌};
 
 use super::{Child, LOOKS, cleared, wait_for};
-use crate::aarc_imp::AtomicArc;
+use spindle_parts::aarc_imp::AtomicArc;
 use std::alloc::{AllocError, Global};
 use std::sync::Wait;
 use std::sync::atomic::{AtomicU64, Ordering};

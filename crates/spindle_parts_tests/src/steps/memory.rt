@@ -1,9 +1,9 @@
 //! Joins whose growth is refused, and that no other join is refused for memory.
 
 use crate::checks::is;
-use crate::steps::Step::{Arrive, Exit, Join, Leave, PublishTry, Rest, See, Stop};
-use crate::steps::tests::{accept, fresh, word};
-use crate::steps::{Machine, Reply, Why};
+use crate::steps::{accept, fresh, word};
+use spindle_parts::steps::Step::{Arrive, Exit, Join, Leave, PublishTry, Rest, See, Stop};
+use spindle_parts::steps::{Machine, Reply, Why};
 use std::process::Abort;
 use std::test::Fail;
 

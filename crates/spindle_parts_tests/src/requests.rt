@@ -2,9 +2,9 @@
 
 mod clerks;
 
-use crate::fault::Fault;
-use crate::requests::{Requests, TakePlace};
 use clerks::Clerk;
+use spindle_parts::fault::Fault;
+use spindle_parts::requests::{Requests, TakePlace};
 use std::test::Fail;
 
 const SLOTS: usize = 3;
