@@ -11,8 +11,6 @@ pub mod leaving;
 pub mod opening;
 pub mod stance;
 pub mod steps;
-#[cfg(test)]
-mod tests;
 pub mod waiting;
 pub mod word;
 

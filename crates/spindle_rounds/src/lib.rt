@@ -5,9 +5,5 @@
 #![tactic(auto)]
 
 pub mod barrier;
-#[cfg(test)]
-mod checks;
 pub mod round;
 pub mod round_table;
-#[cfg(test)]
-mod tests;

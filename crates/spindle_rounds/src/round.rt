@@ -23,8 +23,6 @@ pub mod source;
 pub mod stealing;
 pub mod stopping;
 pub mod task;
-#[cfg(test)]
-mod tests;
 
 /// The rounds of a table, with the barrier that ends them.
 #[derive(Drop)]

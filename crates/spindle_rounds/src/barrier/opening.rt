@@ -1,7 +1,8 @@
 //! Opening a barrier over a fresh table, and seats for the parties that are to join.
-ghost use Rattle.std.specs.Prelude.{◌≡◌, ◌≤◌, [], true, IfOk, OnErr, IsErrOf};
+ghost use Rattle.std.specs.Prelude.{◌≡◌, ◌<◌, ◌≤◌, [], true, IfOk, OnErr, IsErrOf};
 ghost use Rattle.spindle_rounds.specs.RoundSteps.{outsider, new_view};
 ghost use Rattle.spindle_rounds.specs.Seating.{HasSlots, IsSeatAt, IsSameSeat};
+ghost use Rattle.spindle_rounds.specs.Words.{words_of};
 
 use crate::barrier::BarrierInit;
 use crate::barrier::word::{FIELD, MEMBER};
@@ -63,5 +64,12 @@ impl<D: Slots> BarrierInit<D> {
         ensures { result ≤ 32767 }
     {
         (self.table.shared.peek(BARRIER) / MEMBER % FIELD) as usize
+    }
+
+    /// What a word of the table holds at this moment, by its place in `round_table`. No party learns anything by it.
+    pub fn peek(&self, word: usize) -> u64
+        requires { word < words_of self.now.threads }
+    {
+        self.table.shared.peek(word)
     }
 }

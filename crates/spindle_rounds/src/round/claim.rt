@@ -85,7 +85,7 @@ impl Share {
     }
 
     /// The first number and the end.
-    pub(crate) fn bounds(&self) -> (u64, u64)
+    pub fn bounds(&self) -> (u64, u64)
         ensures value { (result.0 ≡ self.now.from) × (result.1 ≡ self.now.to) }
         ensures ordered { (result.0 ≤ result.1) × (result.1 ≤ 4294967295) }
     {

@@ -1,0 +1,9 @@
+//! The tests of `spindle_rounds`. They stand in a crate of their own, since a proof of tests proves their whole crate.
+#![tactic(auto)]
+
+#[cfg(test)]
+mod barrier;
+#[cfg(test)]
+mod checks;
+#[cfg(test)]
+mod round;
