@@ -8,7 +8,7 @@ use Rattle.std.specs.Int.{div_ceil}
 use Rattle.spindle_parts.specs.Pieces.{joined, counted}
 use Rattle.spindle_parts.proofs.Lists.{counted_suc, joined_snoc, map_snoc}
 use Rattle.spindle_lists.specs.Chunks.{ChunkView, chunk_from, chunks_around}
-use Rattle.spindle_lists.proofs.Chunks.{begins_within}
+use Rattle.spindle_lists.proofs.ListChunks.{begins_within}
 use Rattle.spindle_examples.proofs.Numbers.{counted_add, same_values}
 use Rattle.spindle_examples.specs.Stencil.{before, smooth_at, smooth_part, smooth}
 
