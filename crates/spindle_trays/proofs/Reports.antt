@@ -5,15 +5,15 @@ use Rattle.std.specs.List.Sorted.{IsStrictlyIncreasing}
 use Rattle.std.proofs.lemmas.Bool.{cases_lt, false≢true}
 use Rattle.std.proofs.lemmas.Grind.{get_or_default_zero}
 use Rattle.std.proofs.lemmas.List.Elements.{All-head, All-tail, All-push, filter-append, filter_passes}
-use Rattle.std.proofs.lemmas.List.{get_or_append_left, take_all}
+use Rattle.std.proofs.lemmas.List.{get_or-map, get_or_append_left, get_or_at, length-map, take_all}
 use Rattle.std.proofs.lemmas.List.Quantifiers.{Any-push}
-use Rattle.std.proofs.lemmas.List.Kept.{IsStrictlyIncreasing-filter}
+use Rattle.std.proofs.lemmas.List.Kept.{AllPairs-from_increasing, IsStrictlyIncreasing-filter}
 use Rattle.std.proofs.lemmas.List.Sorted.{IsPermutation-filter_both}
 use Rattle.spindle_parts.specs.Pieces.{counted, joined}
 use Rattle.spindle_parts.proofs.Lists.{all_zip_append, counted_snoc, joined_snoc, map_snoc}
 use Rattle.spindle_parts.proofs.Deals.{length-counted}
 use Rattle.spindle_trays.proofs.Addresses.{get_or-counted}
-use Rattle.spindle_trays.specs.Reports.{numbers_of, outputs_of, is_marked, HasFailed, IsAnswered, IsTold, IsNoted, IsReport}
+use Rattle.spindle_trays.specs.Reports.{numbers_of, outputs_of, is_marked, HasFailed, IsAnswered, IsFirstFailed, IsTold, IsNoted, IsReport}
 use Rattle.spindle_trays.proofs.PieceRuns.{before_first, items_more}
 use Rattle.spindle_trays.specs.PieceRuns.{items_before, piece_at, piece_start}
 use Rattle.spindle_trays.specs.declared.lock.report.Report.{Report}
@@ -222,3 +222,22 @@ all_answered Meets Fails items n report some none r =
 -- the outputs of one piece more
 pub outputs_snoc : {B : Type 0} (ran : List (ℕ × Vec B Global)) (p : ℕ × Vec B Global) → outputs_of (ran ++ p ∷ []) ≡ outputs_of ran ++ p.1.items
 outputs_snoc {B} ran p = let f : ℕ × Vec B Global → List B = λ piece. piece.1.items in ap joined (map_snoc f ran p) ∙ joined_snoc (map f ran) (f p)
+
+later_above : (xs : List ℕ) (i k : ℕ) → IsStrictlyIncreasing xs → i ≤ k → k < length xs → get_or xs i 0 ≤ get_or xs k 0
+later_above xs i k up le lt = ⊎_elim
+    (λ (below : i < k). let above = AllPairs-from_increasing xs up i k 0 below lt in omega (arith, above))
+    (λ (same : k ≤ i). let e : i ≡ k = omega (arith, le, same) in subst (λ (j : ℕ). get_or xs j 0 ≤ get_or xs k 0) (sym e) (omega arith))
+    (cases_lt i k)
+
+-- where numbers ascend, the first piece that has failed has the least number of those that have
+pub first_is_least : {B : Type 0} (Fails : B → Type 0) (ran : List (ℕ × Vec B Global)) (number : ℕ) → IsStrictlyIncreasing (numbers_of ran)
+    → IsFirstFailed Fails ran number → All (λ piece. HasFailed Fails piece → number ≤ piece.0) ran
+first_is_least {B} Fails ran number up first k d lt failed =
+    let before = first.0 in let after = first.1 in let piece = first.2 in let split = first.3 in let i = length before in
+    let f : ℕ × Vec B Global → ℕ = λ p. p.0 in let long = length-append before (piece ∷ after) in let all = ap length split in let inside : i < length ran = omega arith in
+    let there : get_or ran i d ≡ piece = ap (λ ps. get_or ps i d) split ∙ get_or_at before piece after d i refl in
+    let mine : get_or (numbers_of ran) i 0 ≡ number = get_or-map f ran i d 0 inside ∙ ap f there ∙ first.4 in
+    let its : get_or (numbers_of ran) k 0 ≡ (get_or ran k d).0 = get_or-map f ran k d 0 lt in ⊎_elim
+    (λ (early : k < i). absurd (first.6 k d early (subst (HasFailed Fails) (ap (λ ps. get_or ps k d) split ∙ get_or_append_left before (piece ∷ after) d k early) failed)))
+    (λ (late : i ≤ k). let many = length-map ran f in let above = later_above (numbers_of ran) i k up late (omega arith) in omega (arith, mine, its, above))
+    (cases_lt k i)
