@@ -270,9 +270,9 @@ fn more_threads_than_cores_come_and_go(rt: HostRuntime) -> Result<(), Fail> {
     Ok(())
 }
 
-/// It ends well whichever allocation is refused: `rt try --test --fail-alloc N`.
+/// It ends well whichever allocation is refused.
 #[test]
-fn a_barrier_without_memory_is_refused(rt: HostRuntime) {
+fn refused_barrier_has_no_parties(rt: HostRuntime) {
     match BarrierInit::new(rt.alloc()) {
         Ok((init, _seat)) => is(&rt, init.current_num_threads(), 0),
         Err(fault) => assert!(rt; matches!(fault, Fault::Memory)),

@@ -142,9 +142,9 @@ fn a_share_goes_back_into_an_empty_range(rt: HostRuntime) -> Result<(), Fail> {
     Ok(())
 }
 
-/// It ends well whichever allocation is refused: `rt try --test --fail-alloc N`.
+/// It ends well whichever allocation is refused.
 #[test]
-fn a_table_without_memory_is_refused(rt: HostRuntime) {
+fn refused_round_is_no_table(rt: HostRuntime) {
     for threads in [1, 4, 32767] {
         match Round::new(rt.alloc(), threads) {
             Ok((round, _seat)) => is(&rt, round.init().current_num_threads(), 0),
