@@ -5,9 +5,8 @@ ghost use Rattle.std.proofs.Common.{rules};
 ghost use Rattle.spindle_lists.specs.Chunks.{equal_chunks_are_same};
 ghost use Rattle.spindle_examples.specs.Stencil.{smooth_at, smooth_part, smooth, smooth_times};
 
-use spindle::Chunk;
 use spindle::lock::{End, Gate, Job, JobCx, Leader, Pool};
-use spindle::{Fault, SharedList, gathered, with_lock};
+use spindle::{Chunk, Fault, SharedList, gathered, with_lock};
 use std::alloc::{AllocError, Global};
 use std::sync::Wait;
 use std::thread::Threads;

@@ -1,8 +1,7 @@
 //! Rows of lists that are shared out evenly, or in chunks with what stands around them, and of answers that are gathered.
 
 use crate::checks::are;
-use spindle::Chunk;
-use spindle::{Fault, ListRun, SharedList, gathered};
+use spindle::{Chunk, Fault, ListRun, SharedList, gathered};
 use std::alloc::Global;
 
 fn five(alloc: Global) -> Result<SharedList<u32>, Fault> {
