@@ -2,3 +2,5 @@
 pub mod SlotLeaders
 pub mod SlotRounds
 pub mod InPlace
+pub mod OneRound
+pub mod Folds

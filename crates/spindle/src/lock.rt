@@ -2,8 +2,11 @@
 //! out here.
 //!
 //! Locks with slots: `slot_root` and `place_root` have how they open, `slot_leader` what both kinds of their leader share,
-//! `slot_rounds` and `place_rounds` their rounds, and `slot_workspace` and `place_post` what they know their posts by.
+//! `slot_rounds` and `place_rounds` their rounds, and `slot_workspace` and `place_post` what they know their posts by. Locks for one
+//! call: `one_round` opens one for a round, `folds` for the total of a list.
 
+mod folds;
+mod one_round;
 mod place_post;
 mod place_root;
 mod place_rounds;
@@ -13,6 +16,8 @@ mod slot_root;
 mod slot_rounds;
 mod slot_workspace;
 
+pub use self::folds::{Combine, Folds, reduce};
+pub use self::one_round::run_one;
 pub use self::place_post::{PlacePost, PlaysInPlace};
 pub use self::place_root::with_slots_in_place;
 pub use self::slot_leader::SlotLeader;
@@ -30,6 +35,7 @@ pub use spindle_trays::lock::leader::Leader;
 pub use spindle_trays::lock::pool::Pool;
 pub use spindle_trays::lock::report::Report;
 pub use spindle_trays::lock::root::with_lock;
+pub use spindle_trays::lock::rounds::{ChunkRounds, Rounds};
 pub use spindle_trays::lock::workspace::{Opens, Workspace};
 pub use spindle_trays::pieces::finished::Finished;
 pub use spindle_trays::pieces::gathering::gather;

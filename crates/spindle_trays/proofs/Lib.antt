@@ -5,6 +5,7 @@ pub mod Places
 pub mod TrayPlaces
 pub mod PieceRuns
 pub mod Reports
+pub mod ChunkRounds
 mod Helpers
 mod Leaving
 pub mod Rooms

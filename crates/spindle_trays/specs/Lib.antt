@@ -4,6 +4,7 @@ pub mod Outputs
 pub mod Trays
 pub mod PieceRuns
 pub mod Reports
+pub mod ChunkRounds
 pub mod Leaders
 pub mod Locks
 pub mod Rounds

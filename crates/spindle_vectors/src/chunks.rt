@@ -1,11 +1,12 @@
-//! A job over chunks of a table: each element of a chunk becomes one more. The chunks are runs of one shared list.
-ghost use Rattle.std.specs.Prelude.{◌≡◌, ◌+◌, IfOk, map};
+//! Jobs over chunks of a table, which are runs of one shared list: each element becomes one more, or is halved; and an operation that
+//! makes one total of a table.
+ghost use Rattle.std.specs.Prelude.{◌≡◌, ◌+◌, ◌%◌, IfOk, map};
 ghost use Rattle.std.proofs.Common.{rules};
 
 #[cfg(test)]
 use crate::checks::{are, is};
 use spindle::ListRun;
-use spindle::lock::{End, Job, JobCx};
+use spindle::lock::{Combine, End, Job, JobCx};
 use std::alloc::{AllocError, Global};
 use std::sync::Wait;
 use std::thread::Threads;
@@ -39,6 +40,89 @@ pub fn one_more(alloc: Global, chunk: &[u32]) -> Result<Vec<u64>, AllocError>
     ensures { IfOk result (λ sums. sums.items ≡ map (λ x. x + 1) chunk.now) }
 {
     chunk.iter().map(|x| u64::from(*x) + 1).collect(alloc)
+}
+
+/// Halves each element of a chunk, or fails at the first odd one.
+pub struct Halve;
+
+impl Job for Halve {
+    type In = ListRun<u32>;
+
+    type Out = Result<Vec<u32>, Odd>;
+
+    type Inner = End;
+
+    ghost meets = { λ chunk output. IfOk output (λ halves. map (λ x. x + x) halves.items ≡ chunk) };
+
+    ghost equal_is_same = { Prim.search rules };
+
+    fn run<H: Threads + Wait + Sync>(
+        _rt: &H,
+        alloc: Global,
+        chunk: &ListRun<u32>,
+        _cx: &mut JobCx<End>,
+    ) -> Result<Vec<u32>, Odd> {
+        halves(alloc, chunk.as_slice())
+    }
+}
+
+/// Why a chunk wasn't halved.
+#[derive(Clone, Copy, Debug, PartialEq, Eq, Drop)]
+pub enum Odd {
+    /// Want of memory.
+    Memory,
+    /// This is its first odd element.
+    Element(u32),
+}
+
+/// The halves of the elements.
+pub fn halves(alloc: Global, chunk: &[u32]) -> Result<Vec<u32>, Odd>
+    ensures { IfOk result (λ halves. map (λ x. x + x) halves.items ≡ chunk.now) }
+{
+    let mut halves = Vec::new(alloc);
+    for element in chunk {
+        if *element % 2 == 1 {
+            return Err(Odd::Element(*element));
+        }
+        if halves.push(*element / 2).is_err() {
+            return Err(Odd::Memory);
+        }
+    }
+    Ok(halves)
+}
+
+/// The last odd element, or 0 where there is none. Which comes later counts, so this operation isn't commutative.
+pub struct LastOdd;
+
+impl Combine for LastOdd {
+    ghost use Rattle.spindle_vectors.specs.Last.{later, odd_or_0, later_associative};
+    ghost use Rattle.std.proofs.Common.{refl};
+
+    type Item = u32;
+
+    type Total = u32;
+
+    ghost neutral = { 0 };
+
+    ghost of = { odd_or_0 };
+
+    ghost combine = { later };
+
+    fn neutral() -> u32 {
+        0
+    }
+
+    fn of(item: &u32) -> u32 {
+        if *item % 2 == 1 { *item } else { 0 }
+    }
+
+    fn combine(first: u32, second: u32) -> u32 {
+        if second == 0 { first } else { second }
+    }
+
+    ghost associative = { later_associative };
+
+    ghost is_neutral = { (refl, λ _ _. refl) };
 }
 
 #[cfg(test)]

@@ -2,6 +2,8 @@
 //! and rows of inputs with the outputs that they must give.
 #![tactic(auto)]
 
+#[cfg(test)]
+mod call_rows;
 pub mod callers;
 #[cfg(test)]
 mod checks;
@@ -24,6 +26,8 @@ mod list_rows;
 mod place_rows;
 #[cfg(test)]
 mod refusals;
+#[cfg(test)]
+mod refused_calls;
 #[cfg(test)]
 mod refused_lists;
 #[cfg(test)]

@@ -17,7 +17,7 @@ use std::sync::Wait;
 /// The leader of a lock with slots over jobs of kind J, lent to the closure that the lock was opened for.
 #[derive(Drop)]
 pub struct SlotLeader<'a, J: Job, G: Gate, P = SlotPost<PieceOf<J>>> {
-    crew: Crew,
+    pub(crate) crew: Crew,
     pub(crate) runner: Runner<'a, J, G>,
     pub(crate) post: P,
 }

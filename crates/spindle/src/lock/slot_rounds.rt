@@ -2,9 +2,10 @@
 //!
 //! A round goes one way: items, pieces, slots, outputs. All memory that a round takes is taken before its first job, and want
 //! of memory is the only thing that it is refused for.
-ghost use Rattle.std.specs.Prelude.{◌≡◌, ◌<◌, ◌≤◌, IfOk, OnOk, OnErr, IsOk, IsErrOf, vec_len};
+ghost use Rattle.std.specs.Prelude.{◌≡◌, ◌<◌, ◌≤◌, [], refl, IfOk, OnOk, OnErr, IsOk, IsErrOf, vec_len};
 ghost use Rattle.std.specs.List.{AllZip};
 ghost use Rattle.spindle_parts.specs.Pieces.{counted};
+ghost use Rattle.spindle_parts.specs.declared.fault.Fault.TheVariants.{Memory};
 ghost use Rattle.spindle.specs.SlotLeaders.{threads_of, slots_of, slot_jobs, IsAsBefore, IsBetweenRounds, PlayedOnce};
 
 use crate::lock::slot_leader::SlotLeader;
@@ -12,8 +13,10 @@ use crate::lock::slot_workspace::PlaysPieces;
 use spindle_lists::shared::SharedList;
 use spindle_parts::fault::Fault;
 use spindle_trays::job::gate::Gate;
+use spindle_trays::lock::rounds::Rounds;
 use spindle_trays::pieces::runs::Pieces;
 use std::alloc::Global;
+use std::mem;
 use std::sync::Wait;
 use std::thread::Threads;
 
@@ -43,22 +46,81 @@ impl<'a, J: PlaysPieces<P>, G: Gate, P> SlotLeader<'a, J, G, P> {
         ensures lock { threads_of self.new ≡ threads_of self.old }
         ensures slots { IsAsBefore J.OpensSlots.slot_count self.old self.new }
     {
+        let mut outputs = Vec::new(alloc);
+        self.round_into(rt, alloc, n_jobs, items, &mut outputs)?;
+        Ok(outputs)
+    }
+
+    // The round of `for_each`, whose outputs come into this list in place of what stands there. After a refusal it is empty.
+    fn round_into<H: Threads + Wait + Sync>(
+        &mut self,
+        rt: &H,
+        alloc: Global,
+        n_jobs: usize,
+        items: Vec<J::In>,
+        outputs: &mut Vec<J::Out>,
+    ) -> Result<(), Fault>
+        requires jobs { 0 < vec_len items → 0 < n_jobs }
+        ensures answer { OnOk result (AllZip J.meets items.items outputs.new.items) }
+        ensures given_up { OnErr result (outputs.new.items ≡ []) }
+        ensures memory { OnErr result (IsErrOf result Fault.Memory) }
+        ensures empty { vec_len items ≡ 0 → IsOk result }
+        ensures played { let jobs = slot_jobs J.OpensSlots.slot_count self.old (vec_len items) n_jobs in
+            OnOk result (2 ≤ jobs → PlayedOnce J.OpensSlots.view jobs self.old self.new) }
+        ensures direct { slot_jobs J.OpensSlots.slot_count self.old (vec_len items) n_jobs ≤ 1
+            → IsAsBefore J.OpensSlots.view self.old self.new }
+        ensures left { OnErr result (IsAsBefore J.OpensSlots.view self.old self.new) }
+        ensures between { IsBetweenRounds J.OpensSlots.view self.new }
+        ensures lock { threads_of self.new ≡ threads_of self.old }
+        ensures slots { IsAsBefore J.OpensSlots.slot_count self.old self.new }
+    {
+        outputs.clear();
         let slots = J::slots(&self.post);
         if items.is_empty() {
-            return Ok(Vec::new(alloc));
+            return Ok(());
         }
         let jobs = items.len().min(n_jobs.min(slots));
-        let mut outputs = Vec::with_capacity(alloc, items.len())?;
+        outputs.reserve(items.len())?;
         if jobs == 1 {
             let inputs = items.as_slice();
-            self.runner.run(rt, alloc, 0, None, inputs, &mut outputs);
+            self.runner.run(rt, alloc, 0, None, inputs, outputs);
         } else {
             let pieces = Pieces::new(SharedList::from_vec(alloc, items)?, jobs);
             let (runner, post) = (&mut self.runner, &mut self.post);
-            J::play(rt, alloc, post, runner, &pieces, &mut outputs)?;
+            if let Err(fault) = J::play(rt, alloc, post, runner, &pieces, outputs) {
+                outputs.clear();
+                return Err(fault);
+            }
         }
-        Ok(outputs)
+        Ok(())
     }
+}
+
+impl<'a, J: PlaysPieces<P>, G: Gate, P> Rounds<J> for SlotLeader<'a, J, G, P> {
+    ghost threads = { λ leader. threads_of leader };
+
+    ghost refuses = { λ _ _ fault. fault ≡ Memory };
+
+    ghost rests = { λ leader. IsBetweenRounds J.OpensSlots.view leader };
+
+    fn max_num_threads(&self) -> usize {
+        let _slots = J::slots(&self.post);
+        self.crew.most()
+    }
+
+    fn for_each_into<H: Threads + Wait + Sync>(
+        &mut self,
+        rt: &H,
+        alloc: Global,
+        n_jobs: usize,
+        items: &mut Vec<J::In>,
+        outputs: &mut Vec<J::Out>,
+    ) -> Result<(), Fault> {
+        let items = mem::replace(items, Vec::new(alloc));
+        self.round_into(rt, alloc, n_jobs, items, outputs)
+    }
+
+    ghost may_want_memory = { λ _ _. refl };
 }
 
 impl<'a, J: PlaysPieces<P, In = usize>, G: Gate, P> SlotLeader<'a, J, G, P> {

@@ -1,7 +1,7 @@
 //! The leader of a lock: rounds over lists of items.
 //!
 //! A round goes one way: items, pieces, jobs, outputs. All memory that a round takes is taken before its first job.
-ghost use Rattle.std.specs.Prelude.{◌≡◌, ◌<◌, ◌≤◌, IfOk, IfErr, OnOk, IsOk, IsNone, vec_len};
+ghost use Rattle.std.specs.Prelude.{◌≡◌, ◌<◌, ◌≤◌, [], IfOk, IfErr, OnOk, OnErr, IsOk, IsNone, vec_len, vec_capacity};
 ghost use Rattle.std.specs.List.{AllZip};
 ghost use Rattle.std.specs.Fn.{FnOnceReturnsAtMut};
 ghost use Rattle.spindle_parts.specs.Pieces.{counted};
@@ -25,7 +25,7 @@ use std::sync::Wait;
 use std::thread::Threads;
 
 /// A round has at most so many jobs, whatever a caller asks for.
-pub(crate) const MOST_JOBS: usize = 4294967295;
+pub const MOST_JOBS: usize = 4294967295;
 
 /// The leader of a lock over jobs of kind J, lent to the closure that the lock was opened for.
 #[derive(Drop)]
@@ -74,7 +74,7 @@ impl<'a, J: Opens<L>, G: Gate, L> Leader<'a, J, G, L> {
         rt: &H,
         alloc: Global,
         n_jobs: usize,
-        mut items: Vec<J::In>,
+        items: Vec<J::In>,
     ) -> Result<Vec<J::Out>, Fault>
         requires jobs { 0 < vec_len items → 0 < n_jobs }
         ensures answer { IfOk result (λ outputs. AllZip J.meets items.items outputs.items) }
@@ -90,24 +90,54 @@ impl<'a, J: Opens<L>, G: Gate, L> Leader<'a, J, G, L> {
         ensures lock { threads_of self.new ≡ threads_of self.old }
         ensures hands { hands_of self.new ≡ hands_of self.old }
     {
+        let mut outputs = Vec::new(alloc);
+        self.round_into(rt, alloc, n_jobs, items, &mut outputs)?;
+        Ok(outputs)
+    }
+
+    /// The round of `for_each`, whose outputs come into this list in place of what stands there. After a refusal it is empty.
+    pub(crate) fn round_into<H: Threads + Wait + Sync>(
+        &mut self,
+        rt: &H,
+        alloc: Global,
+        n_jobs: usize,
+        mut items: Vec<J::In>,
+        outputs: &mut Vec<J::Out>,
+    ) -> Result<(), Fault>
+        requires jobs { 0 < vec_len items → 0 < n_jobs }
+        ensures answer { OnOk result (AllZip J.meets items.items outputs.new.items) }
+        ensures given_up { OnErr result (outputs.new.items ≡ []) }
+        ensures refused { IfErr result
+            (IsRefusal (hands_of self.old) (job_count (vec_len items) n_jobs)) }
+        ensures empty { vec_len items ≡ 0 → IsOk result }
+        ensures played { let jobs = job_count (vec_len items) n_jobs in
+            OnOk result (2 ≤ jobs → PlayedOnce jobs self.old self.new) }
+        ensures direct { job_count (vec_len items) n_jobs ≤ 1 → MadeNoStep self.old self.new }
+        ensures left { IfErr result
+            (LeftByRefusal (job_count (vec_len items) n_jobs) self.old self.new) }
+        ensures between { IsBetweenRounds self.new }
+        ensures lock { threads_of self.new ≡ threads_of self.old }
+        ensures hands { hands_of self.new ≡ hands_of self.old }
+    {
+        outputs.clear();
         if items.is_empty() {
-            return Ok(Vec::new(alloc));
+            return Ok(());
         }
         let jobs = items.len().min(n_jobs.min(MOST_JOBS));
+        outputs.reserve(items.len())?;
         if jobs > 1 && self.post.post.tables.crew.threads() > 1 {
-            return self.play(rt, alloc, jobs, items);
+            return self.play(rt, alloc, jobs, items, outputs);
         }
-        let mut outputs = Vec::with_capacity(alloc, items.len())?;
         if jobs == 1 {
             let inputs = items.as_slice();
-            self.runner.run(rt, alloc, 0, None, inputs, &mut outputs);
+            self.runner.run(rt, alloc, 0, None, inputs, outputs);
         } else {
             let pieces = cut(alloc, &mut items, jobs)?;
             let pieces = pieces.as_slice();
             self.post
-                .play_alone(rt, alloc, &mut self.runner, pieces, &mut outputs);
+                .play_alone(rt, alloc, &mut self.runner, pieces, outputs);
         }
-        Ok(outputs)
+        Ok(())
     }
 
     // A round with the helpers: hand out, publish, work, wait, gather.
@@ -117,17 +147,20 @@ impl<'a, J: Opens<L>, G: Gate, L> Leader<'a, J, G, L> {
         alloc: Global,
         jobs: usize,
         items: Vec<J::In>,
-    ) -> Result<Vec<J::Out>, Fault>
+        outputs: &mut Vec<J::Out>,
+    ) -> Result<(), Fault>
         requires threads { 2 ≤ hands_of self.old }
         requires jobs { (2 ≤ jobs) × (jobs ≤ 4294967295) × (jobs ≤ vec_len items) }
-        ensures answer { IfOk result (λ outputs. AllZip J.meets items.items outputs.items) }
+        requires empty { outputs.old.items ≡ [] }
+        requires room { vec_len items ≤ vec_capacity outputs.old }
+        ensures answer { OnOk result (AllZip J.meets items.items outputs.new.items) }
+        ensures given_up { OnErr result (outputs.new.items ≡ []) }
         ensures refused { IfErr result (IsRefusal (hands_of self.old) jobs) }
         ensures played { OnOk result (PlayedOnce jobs self.old self.new) }
         ensures left { IfErr result (LeftByRefusal jobs self.old self.new) }
         ensures lock { threads_of self.new ≡ threads_of self.old }
         ensures hands { hands_of self.new ≡ hands_of self.old }
     {
-        let mut outputs = Vec::with_capacity(alloc, items.len())?;
         let pieces = Pieces::new(SharedList::from_vec(alloc, items)?, jobs);
         let trays = J::trays(self.workspace);
         trays.hand_out(rt, alloc, &pieces)?;
@@ -136,9 +169,12 @@ impl<'a, J: Opens<L>, G: Gate, L> Leader<'a, J, G, L> {
             may_stop: false,
         };
         self.post.play(rt, alloc, trays, &mut self.runner, task);
-        match trays.gather(rt, &pieces, &mut outputs) {
-            Ok(()) => Ok(outputs),
-            Err(number) => Err(Fault::Lost(number)),
+        match trays.gather(rt, &pieces, outputs) {
+            Ok(()) => Ok(()),
+            Err(number) => {
+                outputs.clear();
+                Err(Fault::Lost(number))
+            }
         }
     }
 

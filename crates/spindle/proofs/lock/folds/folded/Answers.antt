@@ -1,0 +1,13 @@
+-- One more item.
+use Rattle.std.proofs.Common.{take, ap, sym, ◌∙◌, arith, rules}
+use Rattle.std.proofs.lemmas.List.Sums.{fold_more}
+use Rattle.spindle.proofs.lock.folds.folded.Goals as goal
+
+pub loop-item-preserved : goal.loop-item-preserved
+loop-item-preserved g c =
+    let items = c.args.items.now in
+    let x = c.item-item.result in
+    let more =
+    fold_more (λ total item. g.C.Combine.combine total (g.C.Combine.of item)) g.C.Combine.neutral items c.loop-item.item-index x (omega arith) in
+    let here = rw (← c.item-item.is) at more in
+    rw (c.combine-total.ensures, c.of.ensures, c.loop-item.invariant) (sym here)

@@ -1,0 +1,129 @@
+//! What leaders of different locks have in common: rounds into a list that the caller keeps, and rounds over the chunks of one list.
+//!
+//! Code that only runs rounds names `Rounds` and takes either leader.
+ghost use denote.Param.Send.{IsSync};
+ghost use Rattle.std.specs.Prelude.{◌≡◌, ◌<◌, [], ℕ, IfOk, IfErr, OnOk, OnErr, IsOk, length, vec_len};
+ghost use Rattle.std.specs.List.{AllZip};
+ghost use Rattle.spindle_parts.specs.declared.fault.Fault.{Fault};
+ghost use Rattle.spindle_parts.specs.declared.fault.Fault.TheVariants.{Memory};
+ghost use Rattle.spindle_trays.specs.ChunkRounds.{IsMapped};
+ghost use Rattle.spindle_trays.specs.Leaders.{threads_of, hands_of, IsBetweenRounds};
+ghost use Rattle.spindle_trays.specs.Rounds.{job_count, IsRefusal};
+
+use crate::job::Job;
+use crate::job::gate::Gate;
+use crate::lock::leader::Leader;
+use crate::lock::workspace::Opens;
+use spindle_lists::{ListRun, SharedList, gathered};
+use spindle_parts::fault::Fault;
+use std::alloc::Global;
+use std::mem;
+use std::sync::Wait;
+use std::thread::Threads;
+
+/// What runs rounds over jobs of kind J: the leader of a lock, whichever kind of lock it is.
+pub trait Rounds<J: Job> {
+    /// The threads of its lock.
+    ghost threads: { Self → ℕ };
+
+    /// Why its round of so many jobs may be refused.
+    ghost refuses: { Self → ℕ → Fault → Type 0 };
+
+    /// It is in its lock's barrier, and nothing is published.
+    ghost rests: { Self → Type 0 };
+
+    /// The lock's threads.
+    fn max_num_threads(&self) -> usize
+        ensures threads { result ≡ threads self.now }
+        ensures rests { rests self.now };
+
+    /// As the leader's `for_each`, with the outputs in a list that the caller keeps: what stood there is dropped, and its memory
+    /// serves again. The items are taken out of their list. After a refusal both lists are empty.
+    fn for_each_into<H: Threads + Wait + Sync>(
+        &mut self,
+        rt: &H,
+        alloc: Global,
+        n_jobs: usize,
+        items: &mut Vec<J::In>,
+        outputs: &mut Vec<J::Out>,
+    ) -> Result<(), Fault>
+        requires sync { IsSync H.row }
+        requires jobs { 0 < vec_len items.old → 0 < n_jobs }
+        ensures answer { OnOk result (AllZip J.meets items.old.items outputs.new.items) }
+        ensures taken { items.new.items ≡ [] }
+        ensures given_up { OnErr result (outputs.new.items ≡ []) }
+        ensures refused { IfErr result (refuses self.old (job_count (vec_len items.old) n_jobs)) }
+        ensures empty { vec_len items.old ≡ 0 → IsOk result }
+        ensures rests { rests self.new }
+        ensures lock { threads self.new ≡ threads self.old }
+        ensures hands { (jobs : ℕ) → (fault : Fault) → refuses self.new jobs fault
+            → refuses self.old jobs fault };
+
+    /// Each of its rounds may be refused for want of memory.
+    ghost may_want_memory: { (leader : Self) → (jobs : ℕ) → refuses leader jobs Memory };
+}
+
+impl<'a, J: Opens<L>, G: Gate, L> Rounds<J> for Leader<'a, J, G, L> {
+    ghost threads = { λ leader. threads_of leader };
+
+    ghost refuses = { λ leader jobs. IsRefusal (hands_of leader) jobs };
+
+    ghost rests = { λ leader. IsBetweenRounds leader };
+
+    fn max_num_threads(&self) -> usize {
+        self.post.post.tables.crew.most()
+    }
+
+    fn for_each_into<H: Threads + Wait + Sync>(
+        &mut self,
+        rt: &H,
+        alloc: Global,
+        n_jobs: usize,
+        items: &mut Vec<J::In>,
+        outputs: &mut Vec<J::Out>,
+    ) -> Result<(), Fault> {
+        let items = mem::replace(items, Vec::new(alloc));
+        self.round_into(rt, alloc, n_jobs, items, outputs)
+    }
+
+    ghost may_want_memory = { λ _ _. () };
+}
+
+/// Rounds over the chunks of one list, by jobs that answer a list or a failure each. Whatever runs rounds over such jobs has them.
+pub trait ChunkRounds<T: Eq + Drop, U: Drop, E: Drop, J: Job<In = ListRun<T>, Out = Result<Vec<U>, E>>>:
+    Rounds<J>
+{
+    /// Cuts the list into `n_jobs` chunks, or into as many as it has items where these are fewer, runs them in as many jobs, and
+    /// answers the lists of all chunks joined in order, or the first failure among them.
+    ///
+    /// The chunks are those of `share_out_evenly`. An empty list is no chunk, and takes no memory. Where memory for the one list
+    /// is refused, the answers are given up.
+    fn map_chunks<H: Threads + Wait + Sync>(
+        &mut self,
+        rt: &H,
+        alloc: Global,
+        n_jobs: usize,
+        list: &SharedList<T>,
+    ) -> Result<Result<Vec<U>, E>, Fault>
+        requires sync { IsSync H.row }
+        requires jobs { 0 < length list.now → 0 < n_jobs }
+        ensures answer { IfOk result (λ all. IsMapped J.meets n_jobs list.now all) }
+        ensures refused { IfErr result
+            (Self.Rounds.refuses self.old (job_count (length list.now) n_jobs)) }
+        ensures empty { length list.now ≡ 0 → IsOk result }
+        ensures lock { Self.Rounds.threads self.new ≡ Self.Rounds.threads self.old }
+    {
+        if list.is_empty() {
+            return Ok(Ok(Vec::new(alloc)));
+        }
+        let mut chunks = list.share_out_evenly(alloc, n_jobs)?;
+        let mut answers = Vec::new(alloc);
+        self.for_each_into(rt, alloc, n_jobs, &mut chunks, &mut answers)?;
+        gathered(alloc, answers)
+    }
+}
+
+impl<T: Eq + Drop, U: Drop, E: Drop, J: Job<In = ListRun<T>, Out = Result<Vec<U>, E>>, R: Rounds<J>>
+    ChunkRounds<T, U, E, J> for R
+{
+}
