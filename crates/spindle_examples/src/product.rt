@@ -1,13 +1,12 @@
 //! A matrix product by blocks of rows: a job is given a run of the left matrix' rows, each with all columns of the right one. That
 //! list is shared, so nobody copies it; the leader compares it once a row, which is little beside the row's products.
-ghost use Rattle.std.specs.Prelude.{◌≡◌, ◌<◌, IfOk, map};
-ghost use Rattle.std.specs.List.{AllZip};
+ghost use Rattle.std.specs.Prelude.{◌≡◌, IfOk, map};
 ghost use Rattle.std.proofs.Common.{rules};
 ghost use Rattle.spindle_examples.specs.Product.{dot, row_of, product, IsRowOf};
 ghost use Rattle.spindle_examples.specs.Wrapping.{wrapped};
 
 use spindle::lock::{End, Gate, Job, JobCx, Pool};
-use spindle::{Fault, SharedList, gathered, with_lock};
+use spindle::{Fault, SharedList, gathered, run_one};
 use std::alloc::{AllocError, Global};
 use std::sync::Wait;
 use std::thread::Threads;
@@ -78,30 +77,8 @@ fn with_columns(
     Ok(inputs)
 }
 
-// What the rows answer, by one round of so many jobs.
-fn answers_of<G: Gate + Sync, H: Threads + Wait + Sync>(
-    rt: &H,
-    alloc: Global,
-    pool: &Pool<G>,
-    jobs: usize,
-    inputs: Vec<(SharedList<u64>, SharedList<u64>)>,
-) -> Result<Vec<Result<Vec<u64>, AllocError>>, Fault>
-    requires { 0 < jobs }
-    ensures { IfOk result (λ answers. AllZip IsRowOf inputs.items answers.items) }
-{
-    with_lock::<Multiply, _, _, _, _, _>(
-        rt,
-        alloc,
-        pool,
-        pool.max_num_threads(),
-        |leader|
-            requires { 0 < jobs }
-        { leader.for_each(rt, alloc, jobs, inputs) },
-    )?
-}
-
 /// The product of a matrix that is given by its rows and one whose columns stand one behind the other, each as long as a row:
-/// row by row, in 64 bits, by one round of so many jobs.
+/// row by row, in 64 bits, by one round of so many jobs, or of one a thread where that is 0.
 pub fn multiplied<G: Gate + Sync, H: Threads + Wait + Sync>(
     rt: &H,
     alloc: Global,
@@ -110,12 +87,11 @@ pub fn multiplied<G: Gate + Sync, H: Threads + Wait + Sync>(
     rows: Vec<Vec<u64>>,
     columns: Vec<u64>,
 ) -> Result<Vec<u64>, Fault>
-    requires { 0 < jobs }
     ensures { IfOk result (λ entries.
         entries.items ≡ product (map (λ row. row.items) rows.items) columns.items) }
 {
     let columns = SharedList::from_vec(alloc, columns)?;
     let inputs = with_columns(alloc, rows, &columns)?;
-    let answers = answers_of(rt, alloc, pool, jobs, inputs)?;
+    let answers = run_one::<Multiply>(rt, alloc, pool, jobs, inputs)?;
     Ok(gathered(alloc, answers)??)
 }
