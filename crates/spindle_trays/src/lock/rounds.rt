@@ -86,7 +86,7 @@ impl<'a, J: Opens<L>, G: Gate, L> Rounds<J> for Leader<'a, J, G, L> {
         self.round_into(rt, alloc, n_jobs, items, outputs)
     }
 
-    ghost may_want_memory = { λ _ _. () };
+    ghost may_want_memory = { λ _ _. tt };
 }
 
 /// Rounds over the chunks of one list, by jobs that answer a list or a failure each. Whatever runs rounds over such jobs has them.
