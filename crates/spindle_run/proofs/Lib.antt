@@ -1,3 +1,4 @@
 -- Lemmas of the program.
 pub mod Grids
+pub mod Outcomes
 pub mod Said

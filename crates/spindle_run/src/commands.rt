@@ -1,6 +1,7 @@
 //! The commands: what each makes of its numbers, its input and its output.
+use crate::faults::faults;
 use crate::grid::{ends, grid};
-use crate::output::write_line;
+use crate::output::{write_line, write_named_lines};
 use crate::squares::{squares, squares_in_slots};
 use crate::steps::play;
 use crate::stop::Stop;
@@ -29,23 +30,18 @@ pub fn run<H: Threads + Wait + Sync, R: Read, W: Write>(
             let lengths = piece_lengths(alloc, len as usize, jobs as usize)?;
             write_line(alloc, output, lengths.as_slice())
         }
-        Command::Squares {
-            count,
-            threads,
-            jobs,
-        } => {
-            let squares = squares(rt, alloc, threads as usize, jobs as usize, count)?;
+        Command::Squares(plan) => {
+            let squares = squares(rt, alloc, plan)?;
             write_line(alloc, output, squares.as_slice())
         }
-        Command::Slots {
-            count,
-            threads,
-            jobs,
-            slots,
-        } => {
-            let (threads, jobs, slots) = (threads as usize, jobs as usize, slots as usize);
-            let squares = squares_in_slots(rt, alloc, threads, jobs, slots, count)?;
+        Command::Slots(plan, slots) => {
+            let squares = squares_in_slots(rt, alloc, plan, slots as usize)?;
             write_line(alloc, output, squares.as_slice())
+        }
+        Command::Faults(plan, bad) => {
+            let outcome = faults(rt, alloc, plan, bad)?;
+            let (ran, skipped) = (outcome.ran.as_slice(), outcome.skipped.as_slice());
+            write_named_lines(alloc, output, &[("ran", ran), ("skipped", skipped)])
         }
         Command::Grid(plan) => {
             let numbers = grid(rt, alloc, plan)?;

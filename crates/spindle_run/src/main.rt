@@ -1,10 +1,11 @@
-//! The program `spindle-run`: cuts lists, squares numbers in a lock, lets a grid of numbers grow by rounds in jobs, and
-//! plays the machine of rounds.
+//! The program `spindle-run`: cuts lists, squares numbers in a lock, stops a round at a number that fails, lets a grid of
+//! numbers grow by rounds in jobs, and plays the machine of rounds.
 //!
 //! `commands` has the public call, `words` what a command line says, `step_lines` what a line of steps says.
 #![tactic(auto)]
 
 mod commands;
+mod faults;
 mod grid;
 mod numbers;
 mod output;

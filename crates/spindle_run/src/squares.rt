@@ -11,6 +11,16 @@ use std::alloc::Global;
 use std::sync::Wait;
 use std::thread::Threads;
 
+/// What a round is made of, and by how many threads and jobs.
+#[derive(Clone, Copy, Debug, PartialEq, Eq)]
+pub struct RoundPlan {
+    /// The numbers below it are the round's items.
+    pub count: u32,
+    /// The threads of its lock.
+    pub threads: u32,
+    pub jobs: u32,
+}
+
 /// Squares a number.
 struct Square;
 
@@ -35,42 +45,45 @@ impl Job for Square {
     ghost equal_is_same = { Prim.search rules };
 }
 
-/// The squares of the numbers from 0 to `count`, the end not included, by one round of a lock.
+/// The squares of the numbers from 0 up, the end not included, by one round of a lock.
 pub fn squares<H: Threads + Wait + Sync>(
     rt: &H,
     alloc: Global,
-    threads: usize,
-    jobs: usize,
-    count: u32,
+    plan: RoundPlan,
 ) -> Result<Vec<u64>, Fault>
-    requires threads { 0 < threads }
-    requires jobs { 0 < jobs }
+    requires threads { 0 < plan.threads }
+    requires jobs { 0 < plan.jobs }
     ensures { IfOk result (λ squares.
         AllZip (λ number square. square ≡ number * number)
-        (counted 0 count) squares.items) }
+        (counted 0 plan.count) squares.items) }
 {
-    let numbers = numbers_below(alloc, count)?;
-    squares_of(rt, alloc, threads, jobs, numbers)
+    let numbers = numbers_below(alloc, plan.count)?;
+    squares_of(
+        rt,
+        alloc,
+        plan.threads as usize,
+        plan.jobs as usize,
+        numbers,
+    )
 }
 
 /// The same squares by one round of a lock of so many slots.
 pub fn squares_in_slots<H: Threads + Wait + Sync>(
     rt: &H,
     alloc: Global,
-    threads: usize,
-    jobs: usize,
+    plan: RoundPlan,
     slots: usize,
-    count: u32,
 ) -> Result<Vec<u64>, Fault>
-    requires threads { 0 < threads }
-    requires jobs { 0 < jobs }
+    requires threads { 0 < plan.threads }
+    requires jobs { 0 < plan.jobs }
     requires slots { (1 ≤ slots) × (slots ≤ 4294967295) }
     ensures squares { IfOk result (λ squares.
         AllZip (λ number square. square ≡ number * number)
-        (counted 0 count) squares.items) }
+        (counted 0 plan.count) squares.items) }
     ensures memory { OnErr result (IsErrOf result Fault.Memory) }
 {
-    let numbers = numbers_below(alloc, count)?;
+    let (threads, jobs) = (plan.threads as usize, plan.jobs as usize);
+    let numbers = numbers_below(alloc, plan.count)?;
     let pool = Pool::new(threads, Limits::new(), NoGate);
     with_slots::<Square, NoGate, Result<Vec<u64>, Fault>, _, _, H>(
         rt,
@@ -86,7 +99,7 @@ pub fn squares_in_slots<H: Threads + Wait + Sync>(
 }
 
 /// The numbers from 0 to `count`, the end not included.
-fn numbers_below(alloc: Global, count: u32) -> Result<Vec<u32>, Fault>
+pub fn numbers_below(alloc: Global, count: u32) -> Result<Vec<u32>, Fault>
     ensures memory { OnErr result (IsErrOf result Fault.Memory) }
     ensures numbers { IfOk result (λ numbers. numbers.items ≡ counted 0 count) }
 {

@@ -1,14 +1,15 @@
 //! What the words of a command line ask for, each number in its range.
 ghost use Rattle.std.specs.Prelude.{◌≡◌, IfSome};
-ghost use Rattle.spindle_run.specs.Words.{IsInRange};
+ghost use Rattle.spindle_run.specs.Words.{IsInRange, IsRoundPlan};
 
 use crate::grid::Plan;
-use crate::numbers::number_within;
+use crate::numbers::{number, number_within};
+use crate::squares::RoundPlan;
 
 /// The longest list that `cut` cuts.
 const LONGEST_LIST: u32 = 1000000;
 
-/// The most items, and the most jobs, of `squares` and of `slots`; and the most slots.
+/// The most items, and the most jobs, of `squares`, `slots` and `faults`; and the most slots.
 const MOST_ITEMS: u32 = 100000;
 
 /// The most rows, and the most columns, of `grid`.
@@ -24,23 +25,13 @@ const MOST_THREADS: u32 = 64;
 #[derive(Clone, Copy, Debug, PartialEq, Eq)]
 pub enum Command {
     /// Prints the lengths of the pieces of `len` items for `jobs` jobs.
-    Cut {
-        len: u32,
-        jobs: u32,
-    },
-    /// Prints the squares of the first `count` numbers, made in a lock of `threads` threads.
-    Squares {
-        count: u32,
-        threads: u32,
-        jobs: u32,
-    },
+    Cut { len: u32, jobs: u32 },
+    /// Prints the squares of the numbers of a round.
+    Squares(RoundPlan),
     /// Prints the same squares, made in a lock of so many slots.
-    Slots {
-        count: u32,
-        threads: u32,
-        jobs: u32,
-        slots: u32,
-    },
+    Slots(RoundPlan, u32),
+    /// Prints which pieces of a round ran and which were skipped, where it fails at one number.
+    Faults(RoundPlan, u32),
     /// Prints how many numbers there are in a grid of so many rows and columns, and the least and the greatest of them, after
     /// as many rounds as it has columns.
     Grid(Plan),
@@ -56,8 +47,9 @@ impl Command {
         let (name, numbers) = words.split_first()?;
         match name.as_str() {
             "cut" => cut(numbers),
-            "squares" => squares(numbers),
+            "squares" => Some(Command::Squares(round(numbers)?)),
             "slots" => slots(numbers),
+            "faults" => faults(numbers),
             "grid" => grid(numbers),
             "steps" if numbers.is_empty() => Some(Command::Steps),
             _ => None,
@@ -76,38 +68,35 @@ fn cut(numbers: &[String]) -> Option<Command>
     Some(Command::Cut { len, jobs })
 }
 
-fn squares(numbers: &[String]) -> Option<Command>
-    ensures { IfSome result IsInRange }
+fn round(numbers: &[String]) -> Option<RoundPlan>
+    ensures { IfSome result IsRoundPlan }
 {
     let [count, threads, jobs] = numbers else {
         return None;
     };
-    Some(Command::Squares {
+    Some(RoundPlan {
         count: number_within(count.as_str(), 0, MOST_ITEMS)?,
         threads: number_within(threads.as_str(), 1, MOST_THREADS)?,
         jobs: number_within(jobs.as_str(), 1, MOST_ITEMS)?,
     })
 }
 
-// The numbers of `squares`, and then the slots.
+// The numbers of a round, and then the slots.
 fn slots(numbers: &[String]) -> Option<Command>
     ensures { IfSome result IsInRange }
 {
     let (slots, numbers) = numbers.split_last()?;
     let slots = number_within(slots.as_str(), 1, MOST_ITEMS)?;
-    match squares(numbers)? {
-        Command::Squares {
-            count,
-            threads,
-            jobs,
-        } => Some(Command::Slots {
-            count,
-            threads,
-            jobs,
-            slots,
-        }),
-        _ => None,
-    }
+    Some(Command::Slots(round(numbers)?, slots))
+}
+
+// The numbers of a round, and then the one that fails.
+fn faults(numbers: &[String]) -> Option<Command>
+    ensures { IfSome result IsInRange }
+{
+    let (bad, numbers) = numbers.split_last()?;
+    let bad = number(bad.as_str())?;
+    Some(Command::Faults(round(numbers)?, bad))
 }
 
 fn grid(numbers: &[String]) -> Option<Command>

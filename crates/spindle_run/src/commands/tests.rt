@@ -1,4 +1,4 @@
-//! Runs of `cut` and `squares` by their worked rows, the ends of every range, and a failing output.
+//! Runs of `cut`, `squares` and `slots` by their worked rows, the ends of every range, and a failing output.
 //!
 //! The tests named `refused_` hold with any one allocation refused, which
 //! `rt try --test --fail-alloc N` does to the Nth.
@@ -6,6 +6,7 @@ use super::*;
 use crate::trials::{Brief, Torn, as_words, outcome};
 use std::test::Fail;
 
+mod faults;
 mod grids;
 
 #[test]
@@ -201,12 +202,14 @@ fn bad_words_come_before_any_stream(rt: HostRuntime) -> Result<(), Fail> {
 
 #[test]
 fn a_failing_output_stops_the_program(rt: HostRuntime) -> Result<(), Fail> {
-    let rows: [(&[&str], usize); 5] = [
+    let rows: [(&[&str], usize); 7] = [
         (&["cut", "0", "0"], 0),
         (&["cut", "10", "4"], 0),
         (&["cut", "10", "4"], 7),
         (&["cut", "1000000", "1000000"], 20000),
         (&["squares", "100000", "4", "4"], 8193),
+        (&["faults", "6", "1", "6", "2"], 12),
+        (&["faults", "100000", "1", "100000", "2"], 20000),
     ];
     for (words, room) in rows {
         let list = as_words(&rt, words)?;
@@ -240,7 +243,7 @@ fn texts_and_statuses(rt: HostRuntime) -> Result<(), Fail> {
 
 #[test]
 fn refused_memory_leaves_no_half_line(rt: HostRuntime) -> Result<(), Fail> {
-    let rows: [(&[&str], &str); 6] = [
+    let rows: [(&[&str], &str); 8] = [
         (&["cut", "10", "4"], "3 3 2 2\n"),
         (&["squares", "10", "4", "4"], "0 1 4 9 16 25 36 49 64 81\n"),
         (&["squares", "3", "1", "1"], "0 1 4\n"),
@@ -249,6 +252,11 @@ fn refused_memory_leaves_no_half_line(rt: HostRuntime) -> Result<(), Fail> {
             "0 1 4 9 16 25 36 49 64 81\n",
         ),
         (&["slots", "3", "1", "2", "2"], "0 1 4\n"),
+        (
+            &["faults", "6", "1", "6", "2"],
+            "ran 0 1 2\nskipped 3 4 5\n",
+        ),
+        (&["faults", "4", "2", "2", "9"], "ran 0 1\nskipped\n"),
         (&["grid", "2", "4", "2", "2"], "8 4 4\n"),
     ];
     for (words, text) in rows {
