@@ -72,11 +72,10 @@ fn a_fold_keeps_the_order_of_its_list(rt: HostRuntime) -> Result<(), Fault> {
 }
 
 // What a leader answers to a table of five by chunks.
-fn add_by_chunks<R: ChunkRounds<u32, u64, std::alloc::AllocError, AddOne>, H: Threads + Wait + Abort + Sync>(
-    rt: &H,
-    alloc: Global,
-    leader: &mut R,
-) -> Result<(), Fault>
+fn add_by_chunks<
+    R: ChunkRounds<u32, u64, std::alloc::AllocError, AddOne>,
+    H: Threads + Wait + Abort + Sync,
+>(rt: &H, alloc: Global, leader: &mut R) -> Result<(), Fault>
     requires { IsSync H.row }
 {
     let table = SharedList::from_vec(alloc, vec![in alloc; 0u32, 7, 9, 2, u32::MAX]?)?;

@@ -90,9 +90,12 @@ impl<'a, J: Opens<L>, G: Gate, L> Rounds<J> for Leader<'a, J, G, L> {
 }
 
 /// Rounds over the chunks of one list, by jobs that answer a list or a failure each. Whatever runs rounds over such jobs has them.
-pub trait ChunkRounds<T: Eq + Drop, U: Drop, E: Drop, J: Job<In = ListRun<T>, Out = Result<Vec<U>, E>>>:
-    Rounds<J>
-{
+pub trait ChunkRounds<
+    T: Eq + Drop,
+    U: Drop,
+    E: Drop,
+    J: Job<In = ListRun<T>, Out = Result<Vec<U>, E>>,
+>: Rounds<J> {
     /// Cuts the list into `n_jobs` chunks, or into as many as it has items where these are fewer, runs them in as many jobs, and
     /// answers the lists of all chunks joined in order, or the first failure among them.
     ///
@@ -123,7 +126,10 @@ pub trait ChunkRounds<T: Eq + Drop, U: Drop, E: Drop, J: Job<In = ListRun<T>, Ou
     }
 }
 
-impl<T: Eq + Drop, U: Drop, E: Drop, J: Job<In = ListRun<T>, Out = Result<Vec<U>, E>>, R: Rounds<J>>
-    ChunkRounds<T, U, E, J> for R
-{
-}
+impl<
+    T: Eq + Drop,
+    U: Drop,
+    E: Drop,
+    J: Job<In = ListRun<T>, Out = Result<Vec<U>, E>>,
+    R: Rounds<J>,
+> ChunkRounds<T, U, E, J> for R {}
