@@ -1,5 +1,5 @@
 -- There are as many items as numbers, so the report is of as many pieces, and the outcome has its numbers.
-use Rattle.std.proofs.Common.{◌≡◌, ℕ, length, map, vec_len, ap, subst, ◌∙◌, rules}
+use Rattle.std.proofs.Common.{◌≡◌, ℕ, length, vec_len, ap, subst, ◌∙◌, rules}
 use Rattle.std.specs.Prelude.{IsTrue}
 use Rattle.std.proofs.lemmas.List.{length-map}
 use Rattle.spindle_parts.specs.Pieces.{counted}
