@@ -32,6 +32,7 @@ mod refused_calls;
 mod refused_lists;
 #[cfg(test)]
 mod refused_slots;
+pub mod sales;
 #[cfg(test)]
 mod slot_rows;
 #[cfg(test)]
