@@ -1,5 +1,5 @@
-//! Gates that see how jobs run: one at which the jobs of a round meet, and one that notes each job's calls, with a job
-//! that notes its own run between them.
+//! Gates that see how jobs run: one at which the jobs of a round meet, one that two of them cross, and one that notes each
+//! job's calls, with a job that notes its own run between them.
 ghost use Rattle.std.specs.Prelude.{◌≡◌, ℕ, ◌<◌, ◌==◌};
 ghost use Rattle.std.specs.Cmp.Rules.{comparing};
 ghost use Rattle.std.proofs.Common.{rules};
@@ -68,19 +68,91 @@ impl<'a> Gate for Meeting<'a> {
         let jobs = self.jobs.max(1);
         let before = self.counts.begun.fetch_add(1, Ordering::SeqCst);
         let all = (before / jobs).wrapping_add(1).wrapping_mul(jobs);
-        for turn in 0..MOST_TURNS {
-            if self.counts.begun.load(Ordering::SeqCst) >= all {
-                return;
-            }
-            if turn % TURNS_BEFORE_A_YIELD == 0 {
-                thread::yield_now();
-            }
-            spin_loop();
-        }
-        self.counts.missed.fetch_add(1, Ordering::SeqCst);
+        await_count(&self.counts.begun, all, &self.counts.missed);
     }
 
     fn done(&self, _number: usize) {}
+}
+
+// Waits until a count has come so far; where it doesn't, one more has missed the others.
+fn await_count(count: &AtomicUsize, wanted: usize, missed: &AtomicUsize) {
+    for turn in 0..MOST_TURNS {
+        if count.load(Ordering::SeqCst) >= wanted {
+            return;
+        }
+        if turn % TURNS_BEFORE_A_YIELD == 0 {
+            thread::yield_now();
+        }
+        spin_loop();
+    }
+    missed.fetch_add(1, Ordering::SeqCst);
+}
+
+/// How often a job that crosses another was done and the other has begun, and how often one of them waited in vain.
+#[derive(Drop)]
+pub struct Crossings {
+    done: AtomicUsize,
+    begun: AtomicUsize,
+    missed: AtomicUsize,
+}
+
+impl Crossings {
+    /// No job has run.
+    pub fn new() -> Crossings {
+        Crossings {
+            done: AtomicUsize::new(0),
+            begun: AtomicUsize::new(0),
+            missed: AtomicUsize::new(0),
+        }
+    }
+
+    /// The gate at which job 0 waits for the job of this number, and then that one for it.
+    pub fn with_job(&self, other: usize) -> Crossing {
+        Crossing {
+            other,
+            counts: self,
+        }
+    }
+
+    /// The rounds in which the jobs crossed, and the jobs that missed each other.
+    pub fn counts(&self) -> (usize, usize) {
+        (
+            self.done.load(Ordering::SeqCst),
+            self.missed.load(Ordering::SeqCst),
+        )
+    }
+}
+
+/// A gate that two jobs of each round cross: job 0 runs once the other has begun, and the other is done once job 0 is.
+/// Both run in each round.
+#[derive(Drop)]
+pub struct Crossing<'a> {
+    other: usize,
+    counts: &'a Crossings,
+}
+
+impl<'a> Gate for Crossing<'a> {
+    fn begun(&self, number: usize) {
+        let counts = self.counts;
+        if number == self.other {
+            counts.begun.fetch_add(1, Ordering::SeqCst);
+        }
+        if number == 0 {
+            let rounds = counts.done.load(Ordering::SeqCst);
+            await_count(&counts.begun, rounds.wrapping_add(1), &counts.missed);
+        }
+    }
+
+    fn done(&self, number: usize) {
+        let counts = self.counts;
+        if number == 0 {
+            counts.done.fetch_add(1, Ordering::SeqCst);
+        }
+        if number == self.other {
+            let rounds = counts.begun.load(Ordering::SeqCst);
+            await_count(&counts.done, rounds, &counts.missed);
+        }
+    }
 }
 
 /// What was noted of four jobs: where each stands, and how often it was done; and how often a note was out of order.

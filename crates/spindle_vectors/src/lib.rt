@@ -36,6 +36,8 @@ pub mod sales;
 #[cfg(test)]
 mod slot_rows;
 #[cfg(test)]
+mod stopping_rows;
+#[cfg(test)]
 mod thread_rows;
 #[cfg(test)]
 mod tray_rows;

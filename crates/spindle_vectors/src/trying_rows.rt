@@ -13,7 +13,7 @@ use std::thread;
 use std::thread::Threads;
 
 /// Answers whether its item is marked, which is a failure. It lets other threads go first.
-struct Trying;
+pub struct Trying;
 
 impl Job for Trying {
     type In = (u32, bool);
@@ -49,8 +49,8 @@ impl TellsFailures for Trying {
     }
 }
 
-// The numbers from 0 up, of which those that are a multiple of `every` fail.
-fn items(alloc: Global, count: u32, every: u32) -> Result<Vec<(u32, bool)>, Fault> {
+/// The numbers from 0 up; the last of each `every` of them fails.
+pub fn items(alloc: Global, count: u32, every: u32) -> Result<Vec<(u32, bool)>, Fault> {
     let mut items = Vec::with_capacity(alloc, count as usize)?;
     for number in 0..count {
         items.push((number, every > 0 && number % every.max(1) == every - 1))?;
@@ -58,10 +58,10 @@ fn items(alloc: Global, count: u32, every: u32) -> Result<Vec<(u32, bool)>, Faul
     Ok(items)
 }
 
-// Whether the report is one of a round over the numbers from 0 up, in so many pieces: each piece's number stands once, in
-// ascending order, in one of the two lists; the outputs of those that ran are the items of their piece; and where one was
-// skipped, one that ran has failed.
-fn is_report(report: &Report<(u32, bool)>, count: usize, pieces: usize) -> bool {
+/// Whether the report is one of a round over the numbers from 0 up, in so many pieces: each piece's number stands once, in
+/// ascending order, in one of the two lists; the outputs of those that ran are the items of their piece; and where one was
+/// skipped, one that ran has failed.
+pub fn is_report(report: &Report<(u32, bool)>, count: usize, pieces: usize) -> bool {
     let mut ran = 0usize;
     let mut skipped = 0usize;
     let mut from = 0usize;
@@ -95,8 +95,8 @@ fn are_from(outputs: &[(u32, bool)], from: usize, length: usize) -> bool {
     outputs.len() == length
 }
 
-// The report of one round in a lock of its own.
-fn report_of<H: Threads + Wait + Sync>(
+/// The report of one round in a lock of its own.
+pub fn report_of<H: Threads + Wait + Sync>(
     rt: &H,
     alloc: Global,
     threads: usize,
