@@ -32,6 +32,8 @@ mod refused_calls;
 mod refused_lists;
 #[cfg(test)]
 mod refused_slots;
+#[cfg(test)]
+mod refused_trying;
 pub mod sales;
 #[cfg(test)]
 mod slot_rows;

@@ -15,12 +15,17 @@ use std::process::Abort;
 use std::sync::Wait;
 use std::thread::Threads;
 
-fn three_numbers(alloc: Global) -> Result<SharedList<usize>, Fault> {
+/// A list of three numbers.
+pub fn three_numbers(alloc: Global) -> Result<SharedList<usize>, Fault> {
     let numbers = vec![in alloc; 5, 6, 7]?;
     Ok(SharedList::from_vec(alloc, numbers)?)
 }
 
-fn seven_clones(alloc: Global, list: &SharedList<usize>) -> Result<Vec<SharedList<usize>>, Fault> {
+/// Seven clones of a list.
+pub fn seven_clones(
+    alloc: Global,
+    list: &SharedList<usize>,
+) -> Result<Vec<SharedList<usize>>, Fault> {
     let mut items = Vec::with_capacity(alloc, 7)?;
     for _ in 0..7 {
         items.push(list.clone()?)?;
@@ -42,11 +47,16 @@ fn list_comes_out_again<H: Threads + Wait + Abort + Sync>(
         Ok(lengths) => are(rt, lengths.as_slice(), &[3; 7]),
         Err(fault) => assert!(rt; matches!(fault, Fault::Memory)),
     }
+    comes_out_again(rt, list);
+    Ok(())
+}
+
+/// The three numbers come out of their list, of which no clone is left.
+pub fn comes_out_again<H: Abort>(rt: &H, list: SharedList<usize>) {
     match list.try_into_vec() {
         Ok(numbers) => are(rt, numbers.as_slice(), &[5, 6, 7]),
         Err(_) => assert!(rt; false, "a clone of the list is kept"),
     }
-    Ok(())
 }
 
 // Three rounds in a lock of the pool, of which one at most is refused.
