@@ -33,7 +33,7 @@ refusals() { .ci/refusals "$@"; }
 #: edits CRATE          try a crate's must-fail edits, which the prover must refuse, one after another
 edits() { rt must-fail "${1:?which crate}"; }
 
-#: bench [check]        time the rounds of locks and of the kit's rayon, as THREADS and SHAPE say, or only check their results
+#: bench [check]        time the rounds of locks and of the kit's rayon, as THREADS, SHAPE and POOL say, or only check their results
 bench() {
   local crate
   for crate in spindle_bench rayon_bench; do

@@ -2,35 +2,28 @@
 ghost use Rattle.std.specs.Prelude.{◌≡◌, ◌<◌};
 
 use rayon::prelude::*;
-use spindle_timing::kernels::stirred;
+use spindle_timing::kernels::{entries_of, stirred};
+use spindle_timing::line::Line;
+use spindle_timing::matrices::{are_products, columns, rows};
 use spindle_timing::settings::Settings;
-use spindle_timing::shape::{MAPPED, Shape};
+use spindle_timing::shape::{MAPPED, PASSES, SMOOTHED, Shape};
 use spindle_timing::stop::{Stop, right};
-use spindle_timing::timing::{checked, print_right, timed};
-use std::alloc::Global;
+use spindle_timing::strips::{Strip, are_values, first_values, last_values, meet, strips_of};
+use spindle_timing::timing::{Times, run};
+use std::alloc::{AllocError, Global};
 use std::rt::Clock;
 use std::thread::Threads;
 
-/// What the lines are headed with.
-const POOL: &str = "zuflanto-rayon";
-
-// Runs rounds as the settings say, and answers how many there were.
-fn run<H: Clock + Print + Alloc<A = Global>, F: FnMut() -> Result<(), Stop>>(
-    rt: &H,
+// Says what the rounds of a shape took, or that they were right.
+fn finish(
+    rt: &impl Print,
     settings: &Settings,
     shape: Shape,
-    round: F,
-) -> Result<u64, Stop>
-    requires callable { F.IsAlwaysCallable round }
-{
-    if settings.is_check {
-        let run = checked(round)?;
-        print_right(rt, shape)?;
-        return Ok(run);
-    }
-    let times = timed(rt, rt.alloc(), shape, round)?;
-    times.print(rt, POOL, shape, settings.threads)?;
-    Ok(times.rounds)
+    is_right: bool,
+    times: &Times,
+) -> Result<(), Stop> {
+    right(is_right, shape)?;
+    times.print(rt, settings, Line::Rayon, shape)
 }
 
 /// Rounds of closures that do nothing.
@@ -38,15 +31,16 @@ pub fn empty<H: Threads + Sync + Clock + Print + Alloc<A = Global>>(
     rt: &H,
     settings: &Settings,
 ) -> Result<(), Stop> {
-    let jobs = settings.threads;
-    run(rt, settings, Shape::Empty, || -> Result<(), Stop> {
+    let shape = Shape::Empty;
+    let jobs = shape.jobs(settings.threads);
+    let times = run(rt, rt.alloc(), settings, shape, || -> Result<(), Stop> {
         (0..jobs)
             .into_par_iter()
             .with_min_len(1)
             .for_each(rt, |_number: usize| {});
         Ok(())
     })?;
-    Ok(())
+    finish(rt, settings, shape, true, &times)
 }
 
 /// Rounds of small jobs.
@@ -55,9 +49,10 @@ pub fn tiny<H: Threads + Sync + Clock + Print + Alloc<A = Global>>(
     settings: &Settings,
 ) -> Result<(), Stop> {
     let alloc = rt.alloc();
-    let jobs = settings.threads.saturating_mul(8);
+    let shape = Shape::Tiny8;
+    let jobs = shape.jobs(settings.threads);
     let mut outputs = Vec::new(alloc);
-    run(rt, settings, Shape::Tiny8, || -> Result<(), Stop> {
+    let times = run(rt, alloc, settings, shape, || -> Result<(), Stop> {
         let numbers = (0..jobs).into_par_iter().with_min_len(1);
         outputs = numbers
             .map(|number: usize| stirred(number as u64))
@@ -66,7 +61,7 @@ pub fn tiny<H: Threads + Sync + Clock + Print + Alloc<A = Global>>(
     })?;
     let wanted = (0..jobs as u64).map(|number| stirred(number));
     let same = wanted.zip(&outputs).all(|(a, b)| a == *b);
-    right(outputs.len() == jobs && same, Shape::Tiny8)
+    finish(rt, settings, shape, outputs.len() == jobs && same, &times)
 }
 
 /// Rounds that add one to each of so many numbers, in place.
@@ -77,9 +72,10 @@ pub fn stencil<H: Threads + Sync + Clock + Print + Alloc<A = Global>>(
     numbers: usize,
 ) -> Result<(), Stop> {
     let mut sums = vec![in rt.alloc(); 0u64; numbers]?;
-    let piece = (numbers / settings.threads).max(1);
-    let rounds = run(
+    let piece = (numbers / shape.jobs(settings.threads)).max(1);
+    let times = run(
         rt,
+        rt.alloc(),
         settings,
         shape,
         || -> Result<(), Stop>
@@ -93,7 +89,40 @@ pub fn stencil<H: Threads + Sync + Clock + Print + Alloc<A = Global>>(
             Ok(())
         },
     )?;
-    right(sums.iter().all(|x| *x == rounds), shape)
+    let is_right = sums.iter().all(|x| *x == times.rounds);
+    finish(rt, settings, shape, is_right, &times)
+}
+
+/// Rounds of all passes of the three-point stencil, each pass in place.
+pub fn smooth<H: Threads + Sync + Clock + Print + Alloc<A = Global>>(
+    rt: &H,
+    settings: &Settings,
+) -> Result<(), Stop> {
+    let alloc = rt.alloc();
+    let shape = Shape::Stencil100;
+    let (first, last) = (first_values(alloc)?, last_values(alloc)?);
+    let size = (SMOOTHED / shape.jobs(settings.threads)).max(1);
+    let mut strips = Vec::new(alloc);
+    let times = run(
+        rt,
+        alloc,
+        settings,
+        shape,
+        || -> Result<(), Stop>
+            requires { 0 < size }
+        {
+            strips = strips_of(alloc, first.as_slice(), size)?;
+            for _ in 0..PASSES {
+                meet(strips.as_mut_slice());
+                par_for_each_mut(rt, &mut strips, |_at: usize, strip: &mut Strip| {
+                    strip.smooth();
+                });
+            }
+            Ok(())
+        },
+    )?;
+    let is_right = are_values(strips.as_slice(), last.as_slice());
+    finish(rt, settings, shape, is_right, &times)
 }
 
 /// Rounds that square the numbers of a list.
@@ -102,15 +131,47 @@ pub fn map<H: Threads + Sync + Clock + Print + Alloc<A = Global>>(
     settings: &Settings,
 ) -> Result<(), Stop> {
     let alloc = rt.alloc();
+    let shape = Shape::Map;
     let numbers: Vec<u64> = (0..MAPPED as u64).collect(alloc)?;
-    let piece = MAPPED / settings.threads.saturating_mul(4);
+    let piece = MAPPED / shape.jobs(settings.threads);
     let mut squares: Vec<u64> = Vec::new(alloc);
-    run(rt, settings, Shape::Map, || -> Result<(), Stop> {
+    let times = run(rt, alloc, settings, shape, || -> Result<(), Stop> {
         let pieces = numbers.par_iter().with_min_len(piece.max(1));
         squares = pieces.map(|x: &u64| x.wrapping_mul(*x)).collect(rt, alloc)?;
         Ok(())
     })?;
     let wanted = numbers.iter().map(|x| x.wrapping_mul(*x));
     let same = wanted.zip(&squares).all(|(a, b)| a == *b);
-    right(squares.len() == MAPPED && same, Shape::Map)
+    finish(rt, settings, shape, squares.len() == MAPPED && same, &times)
+}
+
+/// Rounds that multiply two matrices of this size, a row of the left one at a time.
+pub fn product<H: Threads + Sync + Clock + Print + Alloc<A = Global>>(
+    rt: &H,
+    settings: &Settings,
+    shape: Shape,
+    size: usize,
+) -> Result<(), Stop> {
+    let alloc = rt.alloc();
+    let (rows, columns) = (rows(alloc, size)?, columns(alloc, size)?);
+    let piece = size / shape.jobs(settings.threads);
+    let mut entries = Vec::new(alloc);
+    let times = run(rt, alloc, settings, shape, || -> Result<(), Stop> {
+        let rows = rows.par_iter().with_min_len(piece.max(1));
+        let answers: Vec<Result<Vec<u64>, AllocError>> = rows
+            .map(|row: &Vec<u64>| entries_of(alloc, row.as_slice(), columns.as_slice()))
+            .collect(rt, alloc)?;
+        entries = Vec::new(alloc);
+        for answer in answers {
+            entries.append(&mut answer?)?;
+        }
+        Ok(())
+    })?;
+    finish(
+        rt,
+        settings,
+        shape,
+        are_products(size, entries.as_slice()),
+        &times,
+    )
 }

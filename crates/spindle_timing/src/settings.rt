@@ -1,6 +1,7 @@
 //! What the environment and the words ask for.
 ghost use Rattle.std.specs.Prelude.{◌≡◌, ◌*◌, ◌<◌, ◌≤◌, IfOk};
 
+use crate::line::Line;
 use crate::shape::Shape;
 use crate::stop::Stop;
 use std::alloc::Global;
@@ -19,7 +20,9 @@ pub struct Settings {
     /// The threads of each lock.
     pub threads: usize,
     /// The name of the one shape to run; all where there is none.
-    only: Option<String>,
+    shape: Option<String>,
+    /// The name of the one line of each shape to run; all where there is none.
+    pool: Option<String>,
     /// Whether rounds are only checked, and not timed.
     pub is_check: bool,
     ghost some: { 0 < threads },
@@ -27,24 +30,31 @@ pub struct Settings {
 }
 
 impl Settings {
-    /// Reads THREADS and SHAPE, and the word `check`.
+    /// Reads THREADS, SHAPE and POOL, and the word `check`.
     pub fn read(rt: &(impl Env + Alloc<A = Global>)) -> Result<Settings, Stop> {
         let threads = threads_of(env::var(rt, "THREADS").ok().as_deref())?;
-        let only = env::var(rt, "SHAPE").ok();
+        let shape = env::var(rt, "SHAPE").ok();
+        let pool = env::var(rt, "POOL").ok();
         let is_check = env::args(rt)?.any(|word| word.as_str() == "check");
         Ok(Settings {
             threads,
-            only,
+            shape,
+            pool,
             is_check,
         })
     }
 
-    /// Whether a shape is asked for.
-    pub fn wants(&self, shape: Shape) -> bool {
-        match &self.only {
-            Some(name) => name.as_str() == shape.name(),
-            None => true,
-        }
+    /// Whether this line of a shape is asked for.
+    pub fn wants(&self, line: Line, shape: Shape) -> bool {
+        is_asked(self.pool.as_deref(), line.name()) && is_asked(self.shape.as_deref(), shape.name())
+    }
+}
+
+// Whether a name is the one that is asked for, where one is. The word `all` asks for each.
+fn is_asked(asked: Option<&str>, name: &str) -> bool {
+    match asked {
+        Some(asked) => asked == name || asked == "all",
+        None => true,
     }
 }
 

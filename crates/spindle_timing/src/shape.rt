@@ -1,26 +1,42 @@
 //! The shapes of rounds, by their names and sizes.
-ghost use Rattle.std.specs.Prelude.{◌≡◌, ◌<◌, ◌≤◌};
+ghost use Rattle.std.specs.Prelude.{◌≡◌, ◌*◌, ◌<◌, ◌≤◌};
 
 /// The numbers of a round of `map`.
 pub const MAPPED: usize = 4096;
+
+/// The numbers of a round of `stencil100`.
+pub const SMOOTHED: usize = 4096;
+
+/// The passes of a round of `stencil100`.
+pub const PASSES: usize = 100;
 
 /// A shape of rounds.
 #[derive(Clone, Copy, Debug, PartialEq, Eq)]
 pub enum Shape {
     Empty,
     Tiny8,
+    Try8,
+    Nested,
     Stencil4k,
     Stencil256k,
+    Stencil100,
     Map,
+    Product64,
+    Product256,
 }
 
 /// All shapes, in the order of their lines.
-pub const SHAPES: [Shape; 5] = [
+pub const SHAPES: [Shape; 10] = [
     Shape::Empty,
     Shape::Tiny8,
+    Shape::Try8,
+    Shape::Nested,
     Shape::Stencil4k,
     Shape::Stencil256k,
+    Shape::Stencil100,
     Shape::Map,
+    Shape::Product64,
+    Shape::Product256,
 ];
 
 impl Shape {
@@ -29,9 +45,26 @@ impl Shape {
         match self {
             Shape::Empty => "empty",
             Shape::Tiny8 => "tiny8",
+            Shape::Try8 => "try8",
+            Shape::Nested => "nested",
             Shape::Stencil4k => "stencil4k",
             Shape::Stencil256k => "stencil256k",
+            Shape::Stencil100 => "stencil100",
             Shape::Map => "map",
+            Shape::Product64 => "product64",
+            Shape::Product256 => "product256",
+        }
+    }
+
+    /// The jobs of a round on so many threads; of `nested`, those that run a round of their own.
+    pub fn jobs(self, threads: usize) -> usize
+        requires { (0 < threads) × (threads ≤ 32767) }
+        ensures { (1 ≤ result) × (result ≤ 4294967295) }
+    {
+        match self {
+            Shape::Tiny8 | Shape::Try8 => threads * 8,
+            Shape::Map | Shape::Product64 | Shape::Product256 => threads * 4,
+            _ => threads,
         }
     }
 
@@ -40,8 +73,8 @@ impl Shape {
         ensures { result ≤ 300 }
     {
         match self {
-            Shape::Stencil256k => 100,
-            _ => 300,
+            Shape::Empty | Shape::Tiny8 | Shape::Try8 | Shape::Stencil4k | Shape::Map => 300,
+            _ => 100,
         }
     }
 
@@ -50,8 +83,18 @@ impl Shape {
         ensures { 0 < result }
     {
         match self {
-            Shape::Stencil256k => 10,
+            Shape::Product256 => 1,
+            Shape::Nested | Shape::Stencil256k | Shape::Stencil100 | Shape::Product64 => 10,
             _ => 100,
+        }
+    }
+
+    /// The rounds where they are only checked.
+    pub fn checked(self) -> u64 {
+        match self {
+            Shape::Product256 => 1,
+            Shape::Stencil100 | Shape::Product64 => 2,
+            _ => 20,
         }
     }
 }

@@ -1,14 +1,13 @@
 //! The clock, batches of rounds, and the printed line.
 ghost use Rattle.std.specs.Prelude.{◌≡◌, ◌<◌};
 
+use crate::line::Line;
+use crate::settings::Settings;
 use crate::shape::Shape;
 use crate::stop::Stop;
 use std::alloc::Global;
 use std::rt::Clock;
 use std::time::Instant;
-
-/// So many rounds are run where they are only checked.
-const CHECKED: u64 = 20;
 
 /// So many batches come before those that count.
 const WARM_UP: usize = 3;
@@ -22,14 +21,31 @@ const MOST_NANOS: u64 = 800_000_000;
 /// What a shape's batches took.
 #[derive(Drop)]
 pub struct Times {
-    /// Whole nanoseconds a round, one number a batch, in order of size.
+    /// Whole nanoseconds a round, one number a batch, in order of size. None where rounds are only checked.
     batches: Vec<u64>,
     /// How many rounds were run, those that warmed up included.
     pub rounds: u64,
 }
 
-/// Runs batches of rounds against the clock.
-pub fn timed<H: Clock, F: FnMut() -> Result<(), Stop>>(
+/// Runs rounds as the settings say: in batches against the clock, or a few to be checked.
+pub fn run<H: Clock, F: FnMut() -> Result<(), Stop>>(
+    rt: &H,
+    alloc: Global,
+    settings: &Settings,
+    shape: Shape,
+    round: F,
+) -> Result<Times, Stop>
+    requires callable { F.IsAlwaysCallable round }
+{
+    if settings.is_check {
+        checked(alloc, shape, round)
+    } else {
+        timed(rt, alloc, shape, round)
+    }
+}
+
+// Runs batches of rounds against the clock.
+fn timed<H: Clock, F: FnMut() -> Result<(), Stop>>(
     rt: &H,
     alloc: Global,
     shape: Shape,
@@ -61,21 +77,21 @@ pub fn timed<H: Clock, F: FnMut() -> Result<(), Stop>>(
     })
 }
 
-/// Runs a few rounds, with no clock, and says how many.
-pub fn checked<F: FnMut() -> Result<(), Stop>>(mut round: F) -> Result<u64, Stop>
+// Runs a few rounds, with no clock.
+fn checked<F: FnMut() -> Result<(), Stop>>(
+    alloc: Global,
+    shape: Shape,
+    mut round: F,
+) -> Result<Times, Stop>
     requires callable { F.IsAlwaysCallable round }
 {
-    for _ in 0..CHECKED {
+    for _ in 0..shape.checked() {
         round()?;
     }
-    Ok(CHECKED)
-}
-
-/// Says that the rounds of a shape were right.
-pub fn print_right(rt: &impl Print, shape: Shape) -> Result<(), Stop> {
-    let name = shape.name();
-    println!(rt; "{name} right")?;
-    Ok(())
+    Ok(Times {
+        batches: Vec::new(alloc),
+        rounds: shape.checked(),
+    })
 }
 
 /// The nanoseconds from an instant up to now.
@@ -86,20 +102,25 @@ pub fn nanos_since(rt: &impl Clock, begin: Instant) -> Result<u64, Stop> {
 }
 
 impl Times {
-    /// Prints the line of a shape that this pool ran on so many threads.
+    /// Prints the line of a shape, or that its rounds were right where they were only checked.
     pub fn print(
         &self,
         rt: &impl Print,
-        pool: &str,
+        settings: &Settings,
+        line: Line,
         shape: Shape,
-        threads: usize,
     ) -> Result<(), Stop> {
-        let name = shape.name();
+        let (head, name) = (line.head(), shape.name());
+        if settings.is_check {
+            println!(rt; "{head} {name} right")?;
+            return Ok(());
+        }
+        let threads = settings.threads;
         let best = self.below(0, 10);
         let median = self.below(5, 10);
         let low = self.below(1, 10);
         let high = self.below(9, 10);
-        println!(rt; "{pool} {name} {threads} {best} {median} {low} {high}")?;
+        println!(rt; "{head} {name} {threads} {best} {median} {low} {high}")?;
         Ok(())
     }
 
