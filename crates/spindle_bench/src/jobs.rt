@@ -1,12 +1,14 @@
-//! The kinds of job, one for each shape, with their kernels.
-ghost use Rattle.std.specs.Prelude.{◌≡◌, IfOk};
+//! The kinds of job of the shapes, with those kernels that contracts speak of.
+ghost use Rattle.std.specs.Prelude.{◌≡◌, ◌==◌, IfOk};
 ghost use Rattle.std.proofs.Common.{rules};
+ghost use Rattle.spindle_lists.specs.Chunks.{equal_chunks_are_same};
 ghost use Rattle.spindle_bench.specs.Kernels.{one_more_of, squares_of};
 
-use spindle::lock::{End, Job, JobCx};
-use spindle::{Fault, SharedList};
-use spindle_timing::kernels::stirred;
-use std::alloc::Global;
+use spindle::lock::{End, Job, JobCx, Remake, Under};
+use spindle::{Chunk, Fault, SharedList};
+use spindle_timing::kernels::{entries_of, smoothed, stirred};
+use spindle_timing::strips::Strip;
+use std::alloc::{AllocError, Global};
 use std::sync::Wait;
 use std::thread::Threads;
 
@@ -56,6 +58,40 @@ impl Job for Stir {
     ghost equal_is_same = { Prim.search rules };
 }
 
+/// A list of numbers as an output.
+#[derive(Drop)]
+pub struct Listed {
+    /// The numbers.
+    pub numbers: Vec<u64>,
+}
+
+/// Stirs eight numbers from its own on, by a round of as many jobs.
+pub struct StirEight;
+
+impl Job for StirEight {
+    type In = usize;
+
+    type Out = Result<Listed, Fault>;
+
+    type Inner = Under<Stir>;
+
+    ghost meets = { λ _ _. Unit {0} };
+
+    fn run<H: Threads + Wait + Sync>(
+        rt: &H,
+        alloc: Global,
+        input: &usize,
+        cx: &mut JobCx<Under<Stir>>,
+    ) -> Result<Listed, Fault> {
+        let from = *input;
+        let numbers = (from..from.saturating_add(8)).collect(alloc)?;
+        let numbers = cx.for_each(rt, alloc, 8, numbers)?;
+        Ok(Listed { numbers })
+    }
+
+    ghost equal_is_same = { Prim.search rules };
+}
+
 /// Answers a list of each number and one more.
 pub struct AddOne;
 
@@ -88,25 +124,56 @@ pub fn each_and_one(alloc: Global, numbers: &[u64]) -> Result<SharedList<u64>, F
     Ok(SharedList::from_vec(alloc, sums)?)
 }
 
+/// Adds one to each number of a list, in its place.
+pub struct AddOneInPlace;
+
+impl Remake for AddOneInPlace {
+    type Item = Vec<u64>;
+
+    type Inner = End;
+
+    ghost remade = { λ old new. new.items ≡ one_more_of old.items };
+
+    fn run<H: Threads + Wait + Sync>(
+        _rt: &H,
+        _alloc: Global,
+        mut item: Vec<u64>,
+        _cx: &mut JobCx<End>,
+    ) -> Vec<u64> {
+        one_more_each(item.as_mut_slice());
+        item
+    }
+}
+
+/// One more of each number, in its place; the sum wraps.
+pub fn one_more_each(numbers: &mut [u64])
+    ensures { numbers.new ≡ one_more_of numbers.old }
+{
+    for x in numbers {
+        *x = x.wrapping_add(1);
+    }
+}
+
 /// Answers the squares of a list.
 pub struct Squares;
 
 impl Job for Squares {
     type In = SharedList<u64>;
 
-    type Out = Result<Vec<u64>, Fault>;
+    type Out = Result<Listed, Fault>;
 
     type Inner = End;
 
-    ghost meets = { λ numbers output. IfOk output (λ squares. squares.items ≡ squares_of numbers) };
+    ghost meets = { λ numbers output. IfOk output (λ squares. squares.numbers.items ≡ squares_of numbers) };
 
     fn run<H: Threads + Wait + Sync>(
         _rt: &H,
         alloc: Global,
         numbers: &SharedList<u64>,
         _cx: &mut JobCx<End>,
-    ) -> Result<Vec<u64>, Fault> {
-        each_squared(alloc, numbers.as_slice())
+    ) -> Result<Listed, Fault> {
+        let numbers = each_squared(alloc, numbers.as_slice())?;
+        Ok(Listed { numbers })
     }
 
     ghost equal_is_same = { Prim.search rules };
@@ -117,4 +184,74 @@ pub fn each_squared(alloc: Global, numbers: &[u64]) -> Result<Vec<u64>, Fault>
     ensures { IfOk result (λ squares. squares.items ≡ squares_of numbers.now) }
 {
     Ok(numbers.iter().map(|x| x.wrapping_mul(*x)).collect(alloc)?)
+}
+
+/// Multiplies a row by all columns, which stand one behind the other, each as long as the row.
+pub struct Multiply;
+
+impl Job for Multiply {
+    type In = (SharedList<u64>, SharedList<u64>);
+
+    type Out = Result<Listed, Fault>;
+
+    type Inner = End;
+
+    ghost meets = { λ _ _. Unit {0} };
+
+    fn run<H: Threads + Wait + Sync>(
+        _rt: &H,
+        alloc: Global,
+        input: &(SharedList<u64>, SharedList<u64>),
+        _cx: &mut JobCx<End>,
+    ) -> Result<Listed, Fault> {
+        let numbers = entries_of(alloc, input.0.as_slice(), input.1.as_slice())?;
+        Ok(Listed { numbers })
+    }
+
+    ghost equal_is_same = { Prim.search rules };
+}
+
+/// One pass of the three-point stencil over a chunk, which is answered by a new list.
+pub struct Smooth;
+
+impl Job for Smooth {
+    type In = Chunk<u32>;
+
+    type Out = Result<Vec<u32>, AllocError>;
+
+    type Inner = End;
+
+    ghost meets = { λ _ _. Unit {0} };
+
+    fn run<H: Threads + Wait + Sync>(
+        _rt: &H,
+        alloc: Global,
+        chunk: &Chunk<u32>,
+        _cx: &mut JobCx<End>,
+    ) -> Result<Vec<u32>, AllocError> {
+        smoothed(alloc, chunk.as_slice(), chunk.from(), chunk.to())
+    }
+
+    ghost equal_is_same = { equal_chunks_are_same ◌==◌ (Prim.search rules) };
+}
+
+/// One pass of the three-point stencil over a strip, in its place.
+pub struct SmoothInPlace;
+
+impl Remake for SmoothInPlace {
+    type Item = Strip;
+
+    type Inner = End;
+
+    ghost remade = { λ _ _. Unit {0} };
+
+    fn run<H: Threads + Wait + Sync>(
+        _rt: &H,
+        _alloc: Global,
+        mut item: Strip,
+        _cx: &mut JobCx<End>,
+    ) -> Strip {
+        item.smooth();
+        item
+    }
 }

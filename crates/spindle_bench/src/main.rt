@@ -1,23 +1,40 @@
-//! Nanoseconds a round of a root lock, for five shapes of rounds.
+//! Nanoseconds a round of a root lock, for ten shapes of rounds and three kinds of locks.
 //!
-//! For each shape the program opens one lock of THREADS threads with the default limits, waits until all of them are
-//! there, runs rounds in it, checks what came out, and prints a line `zuflanto SHAPE THREADS best median p10 p90`, as
-//! `spindle_timing` says.
+//! For each shape and kind the program opens one lock of THREADS threads with the default limits, waits until all of them are
+//! there, runs rounds in it, checks what came out, and prints a line `NAME SHAPE THREADS best median p10 p90`, as
+//! `spindle_timing` says. NAME is `zuflanto` for a lock that `with_slots` opens, with a slot for each job of the round,
+//! `zuflanto-trays` for one that `with_lock` opens, and `zuflanto-place` for one that `with_slots_in_place` opens, whose rounds are
+//! `remake_each`: the stencils alone have such a line. `try8`, `nested` and the products run with trays alone.
 //!
-//! - `empty`: `for_each_raw` over as many numbers as threads; a job does nothing.
-//! - `tiny8`: `for_each_raw` over eight numbers a thread; a job is about 50 ns of dependent arithmetic.
+//! - `empty`: as many numbers as threads; a job does nothing. With trays by `for_each_raw`, with slots by `for_each` over a list
+//!   that is made as `for_each_raw` makes it.
+//! - `tiny8`: the same for eight numbers a thread; a job is about 50 ns of dependent arithmetic.
+//! - `try8`: `tiny8` by `try_for_each`: the same list of numbers, no job fails, and the outputs are joined out of
+//!   the report.
+//! - `nested`: `for_each` over as many numbers as threads; a job runs a round of its own by `for_each` of its context, over eight
+//!   numbers in eight jobs, each as one of `tiny8`, and answers their list. So it is the work of `tiny8`, by as many
+//!   inner locks as threads.
 //! - `stencil4k`, `stencil256k`: `for_each` over 4096 or 262144 numbers, in one shared list a thread; a job answers a list of
-//!   each number and one more, and these lists are the next round's items.
+//!   each number and one more, and these lists are the next round's items. In place an item is a list, one a thread, and
+//!   a job adds one to each of its numbers where they stand.
+//! - `stencil100`: a round is a hundred passes of a three-point stencil over 4096 numbers. A pass cuts the list of all numbers into
+//!   one chunk a thread, each with the number before it and the one behind it, runs `for_each` over them, and joins
+//!   the answers. In place the numbers are copied once a round into one strip a thread; a pass tells each strip its neighbours' ends,
+//!   and a job changes its numbers where they stand.
 //! - `map`: `for_each` over 4096 numbers, in four shared lists a thread that were made before the clock started; a job
 //!   answers the squares.
+//! - `product64`, `product256`: the product of two matrices of 64 or 256 rows and columns: `for_each` over the rows of the left one,
+//!   each with one shared list of all columns, in four jobs a thread; the rows of the product are joined into one list.
 //!
-//! What a round is charged with: making its list of items, all of `for_each`, and letting the outputs go.
+//! What a round is charged with: making its list of items, all of `for_each` (or of the call that stands for it), what is
+//! said above of its outputs, and letting them go. Lists that rounds share are made before the clock starts.
 #![tactic(auto)]
 
 ghost use Rattle.std.specs.Prelude.{◌≡◌};
 
 mod bench;
 mod jobs;
+mod locks;
 mod rounds;
 
 use spindle_timing::settings::Settings;

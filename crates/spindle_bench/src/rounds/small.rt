@@ -1,0 +1,224 @@
+//! Rounds of jobs that do nothing or little.
+ghost use Rattle.std.specs.Prelude.{◌≡◌};
+ghost use denote.Param.Send.{IsSync};
+
+use crate::jobs::{Listed, Nothing, Stir, StirEight};
+use crate::rounds::{Rounds, SlotRounds, TrayRounds};
+use spindle::Fault;
+use spindle::lock::{Leader, NoGate, SlotLeader};
+use spindle_timing::kernels::stirred;
+use spindle_timing::stop::Stop;
+use std::alloc::{AllocError, Global};
+use std::sync::Wait;
+use std::thread::Threads;
+
+// The numbers from 0 up, so many, as `for_each_raw` makes them.
+fn numbers(alloc: Global, count: usize) -> Result<Vec<usize>, AllocError> {
+    let mut numbers = Vec::with_capacity(alloc, count)?;
+    for number in 0..count {
+        numbers.push_reserved(number);
+    }
+    Ok(numbers)
+}
+
+// Whether these are so many numbers from one on, each stirred.
+fn are_stirred(outputs: &[u64], from: u64, count: usize) -> bool {
+    let wanted = (from..from.saturating_add(count as u64)).map(|number| stirred(number));
+    outputs.len() == count && wanted.zip(outputs).all(|(a, b)| a == *b)
+}
+
+/// Rounds of jobs that do nothing.
+#[derive(Drop)]
+pub struct EmptyRounds {
+    jobs: usize,
+    outputs: Vec<()>,
+}
+
+impl EmptyRounds {
+    /// Rounds of so many jobs.
+    pub fn new(alloc: Global, jobs: usize) -> EmptyRounds {
+        EmptyRounds {
+            jobs,
+            outputs: Vec::new(alloc),
+        }
+    }
+}
+
+impl Rounds for EmptyRounds {
+    fn is_right(&self, _rounds: u64) -> bool {
+        self.outputs.len() == self.jobs
+    }
+}
+
+impl SlotRounds for EmptyRounds {
+    type Kind = Nothing;
+
+    fn in_slots<H: Threads + Wait + Sync>(
+        &mut self,
+        rt: &H,
+        alloc: Global,
+        leader: &mut SlotLeader<Nothing, NoGate>,
+    ) -> Result<(), Stop> {
+        let numbers = numbers(alloc, self.jobs)?;
+        self.outputs = leader.for_each(rt, alloc, numbers.len(), numbers)?;
+        Ok(())
+    }
+}
+
+impl TrayRounds for EmptyRounds {
+    type Kind = Nothing;
+
+    fn in_trays<H: Threads + Wait + Sync>(
+        &mut self,
+        rt: &H,
+        alloc: Global,
+        leader: &mut Leader<Nothing, NoGate>,
+    ) -> Result<(), Stop> {
+        self.outputs = leader.for_each_raw(rt, alloc, self.jobs)?;
+        Ok(())
+    }
+}
+
+/// Rounds of small jobs.
+#[derive(Drop)]
+pub struct TinyRounds {
+    jobs: usize,
+    outputs: Vec<u64>,
+}
+
+impl TinyRounds {
+    /// Rounds of so many jobs.
+    pub fn new(alloc: Global, jobs: usize) -> TinyRounds {
+        TinyRounds {
+            jobs,
+            outputs: Vec::new(alloc),
+        }
+    }
+}
+
+impl Rounds for TinyRounds {
+    fn is_right(&self, _rounds: u64) -> bool {
+        are_stirred(self.outputs.as_slice(), 0, self.jobs)
+    }
+}
+
+impl SlotRounds for TinyRounds {
+    type Kind = Stir;
+
+    fn in_slots<H: Threads + Wait + Sync>(
+        &mut self,
+        rt: &H,
+        alloc: Global,
+        leader: &mut SlotLeader<Stir, NoGate>,
+    ) -> Result<(), Stop> {
+        let numbers = numbers(alloc, self.jobs)?;
+        self.outputs = leader.for_each(rt, alloc, numbers.len(), numbers)?;
+        Ok(())
+    }
+}
+
+impl TrayRounds for TinyRounds {
+    type Kind = Stir;
+
+    fn in_trays<H: Threads + Wait + Sync>(
+        &mut self,
+        rt: &H,
+        alloc: Global,
+        leader: &mut Leader<Stir, NoGate>,
+    ) -> Result<(), Stop> {
+        self.outputs = leader.for_each_raw(rt, alloc, self.jobs)?;
+        Ok(())
+    }
+}
+
+/// Rounds of small jobs that may stop at a failure, of which there is none.
+#[derive(Drop)]
+pub struct TryRounds {
+    jobs: usize,
+    outputs: Vec<u64>,
+}
+
+impl TryRounds {
+    /// Rounds of so many jobs.
+    pub fn new(alloc: Global, jobs: usize) -> TryRounds {
+        TryRounds {
+            jobs,
+            outputs: Vec::new(alloc),
+        }
+    }
+}
+
+impl Rounds for TryRounds {
+    fn is_right(&self, _rounds: u64) -> bool {
+        are_stirred(self.outputs.as_slice(), 0, self.jobs)
+    }
+}
+
+impl TrayRounds for TryRounds {
+    type Kind = Stir;
+
+    fn in_trays<H: Threads + Wait + Sync>(
+        &mut self,
+        rt: &H,
+        alloc: Global,
+        leader: &mut Leader<Stir, NoGate>,
+    ) -> Result<(), Stop> {
+        let numbers = numbers(alloc, self.jobs)?;
+        let report = leader.try_for_each(rt, alloc, numbers.len(), numbers)?;
+        self.outputs = report.into_outputs(alloc)?;
+        Ok(())
+    }
+}
+
+/// Rounds of jobs that each run a round of eight small jobs.
+#[derive(Drop)]
+pub struct NestedRounds {
+    jobs: usize,
+    outputs: Vec<Result<Listed, Fault>>,
+}
+
+impl NestedRounds {
+    /// Rounds of so many jobs.
+    pub fn new(alloc: Global, jobs: usize) -> NestedRounds {
+        NestedRounds {
+            jobs,
+            outputs: Vec::new(alloc),
+        }
+    }
+
+    // What the jobs are given: each eighth number from 0 on.
+    fn inputs(&self, alloc: Global) -> Result<Vec<usize>, AllocError> {
+        (0..self.jobs)
+            .map(|job| job.saturating_mul(8))
+            .collect(alloc)
+    }
+}
+
+impl Rounds for NestedRounds {
+    fn is_right(&self, _rounds: u64) -> bool {
+        let mut from = 0u64;
+        for output in &self.outputs {
+            match output {
+                Ok(listed) if are_stirred(listed.numbers.as_slice(), from, 8) => {}
+                _ => return false,
+            }
+            from = from.saturating_add(8);
+        }
+        self.outputs.len() == self.jobs
+    }
+}
+
+impl TrayRounds for NestedRounds {
+    type Kind = StirEight;
+
+    fn in_trays<H: Threads + Wait + Sync>(
+        &mut self,
+        rt: &H,
+        alloc: Global,
+        leader: &mut Leader<StirEight, NoGate>,
+    ) -> Result<(), Stop> {
+        let inputs = self.inputs(alloc)?;
+        self.outputs = leader.for_each(rt, alloc, inputs.len(), inputs)?;
+        Ok(())
+    }
+}

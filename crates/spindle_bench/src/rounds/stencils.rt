@@ -1,0 +1,123 @@
+//! Rounds that add one to each number of lists; what comes out goes in again.
+ghost use Rattle.std.specs.Prelude.{◌≡◌, ◌<◌};
+ghost use denote.Param.Send.{IsSync};
+
+use crate::jobs::{AddOne, AddOneInPlace};
+use crate::rounds::{PlaceRounds, Rounds, SlotRounds, TrayRounds};
+use spindle::SharedList;
+use spindle::lock::{InPlace, Leader, NoGate, PlacePost, SlotLeader};
+use spindle_timing::stop::Stop;
+use std::alloc::Global;
+use std::mem;
+use std::sync::Wait;
+use std::thread::Threads;
+
+/// Rounds over shared lists, each of which a job answers by a new one.
+#[derive(Drop)]
+pub struct StencilRounds {
+    chunks: Vec<SharedList<u64>>,
+}
+
+impl StencilRounds {
+    /// So many zeros in so many lists.
+    pub fn new(alloc: Global, numbers: usize, jobs: usize) -> Result<StencilRounds, Stop>
+        requires { 0 < jobs }
+    {
+        let mut chunks = Vec::with_capacity(alloc, jobs)?;
+        for _ in 0..jobs {
+            let zeros = vec![in alloc; 0u64; numbers / jobs]?;
+            chunks.push(SharedList::from_vec(alloc, zeros)?)?;
+        }
+        Ok(StencilRounds { chunks })
+    }
+
+    // Takes the lists, in whose place stands room for as many.
+    fn take(&mut self, alloc: Global) -> Result<Vec<SharedList<u64>>, Stop> {
+        let next = Vec::with_capacity(alloc, self.chunks.len())?;
+        Ok(mem::replace(&mut self.chunks, next))
+    }
+}
+
+impl Rounds for StencilRounds {
+    fn is_right(&self, rounds: u64) -> bool {
+        let is_sum = |x: &u64| *x == rounds;
+        self.chunks
+            .iter()
+            .all(|chunk| chunk.as_slice().iter().all(is_sum))
+    }
+}
+
+impl SlotRounds for StencilRounds {
+    type Kind = AddOne;
+
+    fn in_slots<H: Threads + Wait + Sync>(
+        &mut self,
+        rt: &H,
+        alloc: Global,
+        leader: &mut SlotLeader<AddOne, NoGate>,
+    ) -> Result<(), Stop> {
+        let chunks = self.take(alloc)?;
+        for sums in leader.for_each(rt, alloc, chunks.len(), chunks)? {
+            self.chunks.push(sums?)?;
+        }
+        Ok(())
+    }
+}
+
+impl TrayRounds for StencilRounds {
+    type Kind = AddOne;
+
+    fn in_trays<H: Threads + Wait + Sync>(
+        &mut self,
+        rt: &H,
+        alloc: Global,
+        leader: &mut Leader<AddOne, NoGate>,
+    ) -> Result<(), Stop> {
+        let chunks = self.take(alloc)?;
+        for sums in leader.for_each(rt, alloc, chunks.len(), chunks)? {
+            self.chunks.push(sums?)?;
+        }
+        Ok(())
+    }
+}
+
+/// Rounds over lists whose numbers a job changes in their place.
+#[derive(Drop)]
+pub struct StencilPlaceRounds {
+    chunks: Vec<Vec<u64>>,
+}
+
+impl StencilPlaceRounds {
+    /// So many zeros in so many lists.
+    pub fn new(alloc: Global, numbers: usize, jobs: usize) -> Result<StencilPlaceRounds, Stop>
+        requires { 0 < jobs }
+    {
+        let mut chunks = Vec::with_capacity(alloc, jobs)?;
+        for _ in 0..jobs {
+            chunks.push(vec![in alloc; 0u64; numbers / jobs]?)?;
+        }
+        Ok(StencilPlaceRounds { chunks })
+    }
+}
+
+impl Rounds for StencilPlaceRounds {
+    fn is_right(&self, rounds: u64) -> bool {
+        let is_sum = |x: &u64| *x == rounds;
+        self.chunks.iter().all(|chunk| chunk.iter().all(is_sum))
+    }
+}
+
+impl PlaceRounds for StencilPlaceRounds {
+    type Kind = AddOneInPlace;
+
+    fn in_place<H: Threads + Wait + Sync>(
+        &mut self,
+        rt: &H,
+        alloc: Global,
+        leader: &mut SlotLeader<InPlace<AddOneInPlace>, NoGate, PlacePost<InPlace<AddOneInPlace>>>,
+    ) -> Result<(), Stop> {
+        let jobs = self.chunks.len();
+        leader.remake_each(rt, alloc, jobs, &mut self.chunks)?;
+        Ok(())
+    }
+}
