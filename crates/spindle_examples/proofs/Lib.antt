@@ -3,4 +3,5 @@ mod Numbers
 mod Wrapped
 mod Prefixes
 mod Products
+mod Evaluations
 pub mod Stencils

@@ -4,3 +4,4 @@ pub mod Prefix
 pub mod Product
 pub mod Batch
 pub mod Stencil
+pub mod Chomp

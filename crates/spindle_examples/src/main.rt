@@ -1,10 +1,13 @@
 //! Programs of the users' fields, each a few dozen lines over the public calls of `spindle`, with its contract in its own
-//! terms: a batch that loses nothing, prefix sums in two rounds, a matrix product, and a stencil of many passes.
+//! terms: a batch that loses nothing, prefix sums in two rounds, a matrix product, a stencil of many passes, and a game
+//! evaluated by rounds in rounds.
 //!
 //! The program runs each once over fixed numbers, and prints what comes out. The tests compute the same plainly.
 #![tactic(auto)]
 
 mod batch;
+mod chomp;
+mod evaluator;
 mod prefix;
 mod product;
 mod stencil;
@@ -13,6 +16,7 @@ mod stop;
 mod tests;
 
 use crate::batch::Order;
+use crate::chomp::Board;
 use crate::stop::Stop;
 use spindle::lock::Pool;
 
@@ -39,5 +43,12 @@ fn main(rt: HostRuntime) -> Result<(), Stop> {
     let heat = vec![in alloc; 0u32, 0, 0, 0, 4096, 0, 0, 0, 0]?;
     let smooth = stencil::smoothed(&rt, alloc, &pool, 4, heat, 8)?;
     println!(rt; "stencil {smooth:?}")?;
+    let board = Board {
+        top: 4,
+        middle: 3,
+        bottom: 3,
+    };
+    let bites = evaluator::won_by(&rt, alloc, &pool, board)?;
+    println!(rt; "evaluator {bites:?}")?;
     Ok(())
 }

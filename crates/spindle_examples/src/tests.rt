@@ -1,7 +1,8 @@
 //! The examples against the same computed plainly, over random inputs, with one thread and with several.
 
 use crate::batch::Order;
-use crate::{batch, prefix, product, stencil};
+use crate::chomp::Board;
+use crate::{batch, evaluator, prefix, product, stencil};
 use spindle::Fault;
 use spindle::lock::{Limits, NoGate, Pool};
 use std::alloc::Global;
@@ -154,6 +155,85 @@ fn each_order_of_a_batch_has_its_bill(rt: HostRuntime) -> Result<(), Fault> {
             let pool = Pool::new(threads, Limits::new(), NoGate);
             let bills = batch::bills(&rt, alloc, &pool, jobs, orders.clone()?)?;
             assert_eq!(rt; bills, plain.clone()?, "{size} orders in {jobs} jobs");
+        }
+    }
+    Ok(())
+}
+
+// Whether a table of the lost boards has this one. It has rows of at most four squares.
+fn is_lost(table: &[bool], top: u8, middle: u8, bottom: u8) -> bool {
+    let at = (usize::from(top) * 5 + usize::from(middle)) * 5 + usize::from(bottom);
+    table.get(at).copied().unwrap_or(false)
+}
+
+// The winning bites, row by row, where the table has all boards that they may leave.
+fn plain_bites(alloc: Global, table: &[bool], board: Board) -> Result<Vec<usize>, Fault> {
+    let Board {
+        top,
+        middle,
+        bottom,
+    } = board;
+    let mut bites = Vec::new(alloc);
+    for column in 1..top {
+        if is_lost(table, column, middle.min(column), bottom.min(column)) {
+            bites.push(usize::from(column))?;
+        }
+    }
+    for column in 0..middle {
+        if is_lost(table, top, column, bottom.min(column)) {
+            bites.push(usize::from(top) + usize::from(column))?;
+        }
+    }
+    for column in 0..bottom {
+        if is_lost(table, top, middle, column) {
+            bites.push(usize::from(top) + usize::from(middle) + usize::from(column))?;
+        }
+    }
+    Ok(bites)
+}
+
+// Of each board with rows of at most four squares, whether it is lost, from the smallest on.
+fn plain_table(alloc: Global) -> Result<Vec<bool>, Fault> {
+    let mut table = Vec::new(alloc);
+    for top in 0..5 {
+        for middle in 0..5 {
+            for bottom in 0..5 {
+                let board = Board {
+                    top,
+                    middle,
+                    bottom,
+                };
+                let is_lost = plain_bites(alloc, table.as_slice(), board)?.is_empty();
+                table.push(is_lost)?;
+            }
+        }
+    }
+    Ok(table)
+}
+
+#[test]
+fn a_game_by_nested_rounds_is_the_one_by_a_table(rt: HostRuntime) -> Result<(), Fault> {
+    let alloc = rt.alloc();
+    let table = plain_table(alloc)?;
+    let mut state = 11;
+    for _ in 0..8 {
+        let top = (next(&mut state) % 4) as u8 + 1;
+        let middle = (next(&mut state) % (u32::from(top) + 1)) as u8;
+        let bottom = (next(&mut state) % (u32::from(middle) + 1)) as u8;
+        let board = Board {
+            top,
+            middle,
+            bottom,
+        };
+        let plain = plain_bites(alloc, table.as_slice(), board)?;
+        for threads in [1, 2, 4] {
+            let pool = Pool::new(threads, Limits::new(), NoGate);
+            let bites = evaluator::won_by(&rt, alloc, &pool, board)?;
+            assert_eq!(rt;
+                bites,
+                plain.clone()?,
+                "{top}, {middle} and {bottom} squares"
+            );
         }
     }
     Ok(())
