@@ -2,7 +2,8 @@
 //! terms: a batch that loses nothing, prefix sums in two rounds, a matrix product, a stencil of many passes, and a game
 //! evaluated by rounds in rounds.
 //!
-//! The program runs each once over fixed numbers, and prints what comes out. The tests compute the same plainly.
+//! The program runs each once over fixed numbers, and prints what comes out. The tests compute the same plainly. Where the
+//! variable TRACE is set, it also prints who ran which job of a recorded round when, which differs from run to run.
 #![tactic(auto)]
 
 mod batch;
@@ -14,11 +15,13 @@ mod stencil;
 mod stop;
 #[cfg(test)]
 mod tests;
+mod trace;
 
 use crate::batch::Order;
 use crate::chomp::Board;
 use crate::stop::Stop;
 use spindle::lock::Pool;
+use std::env;
 
 fn main(rt: HostRuntime) -> Result<(), Stop> {
     let alloc = rt.alloc();
@@ -50,5 +53,11 @@ fn main(rt: HostRuntime) -> Result<(), Stop> {
     };
     let bites = evaluator::won_by(&rt, alloc, &pool, board)?;
     println!(rt; "evaluator {bites:?}")?;
+    if env::var(&rt, "TRACE").is_ok() {
+        for (job, span) in trace::traced(&rt, alloc, 2)?.into_iter().enumerate() {
+            let thread = span.thread.unwrap_or(0);
+            println!(rt; "trace {job} {thread} {} {}", span.begun, span.done)?;
+        }
+    }
     Ok(())
 }
