@@ -1,7 +1,7 @@
 //! The lines of each shape in turn.
 ghost use Rattle.std.specs.Prelude.{◌≡◌};
 
-use crate::locks::{in_place, in_slots, in_trays};
+use crate::locks::{add_in_place, in_slots, in_trays, smooth_in_place};
 use crate::rounds::maps::MapRounds;
 use crate::rounds::products::ProductRounds;
 use crate::rounds::small::{EmptyRounds, NestedRounds, TinyRounds, TryRounds};
@@ -95,19 +95,24 @@ fn run_in_place<H: Threads + Wait + Sync + Clock + Print + Alloc<A = Global>>(
     let alloc = rt.alloc();
     let jobs = shape.jobs(settings.threads);
     match shape {
-        Shape::Stencil4k => in_place(
+        Shape::Stencil4k => add_in_place(
             rt,
             settings,
             shape,
             StencilPlaceRounds::new(alloc, 4096, jobs)?,
         ),
-        Shape::Stencil256k => in_place(
+        Shape::Stencil256k => add_in_place(
             rt,
             settings,
             shape,
             StencilPlaceRounds::new(alloc, 262144, jobs)?,
         ),
-        Shape::Stencil100 => in_place(rt, settings, shape, SmoothPlaceRounds::new(alloc, jobs)?),
+        Shape::Stencil100 => smooth_in_place(
+            rt,
+            settings,
+            shape,
+            SmoothPlaceRounds::new(alloc, jobs)?,
+        ),
         _ => Ok(()),
     }
 }

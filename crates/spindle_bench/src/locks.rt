@@ -2,10 +2,11 @@
 ghost use Rattle.std.specs.Prelude.{◌≡◌, ◌*◌, ◌<◌, ◌≤◌};
 ghost use denote.Param.Send.{IsSync};
 
+use crate::jobs::{AddOneInPlace, SmoothInPlace};
+use crate::rounds::smooth::SmoothPlaceRounds;
+use crate::rounds::stencils::StencilPlaceRounds;
 use crate::rounds::{PlaceRounds, Rounds, SlotRounds, TrayRounds};
-use spindle::lock::{
-    InPlace, Job, Leader, Limits, Nest, NoGate, PlacePost, Pool, Remake, SlotLeader,
-};
+use spindle::lock::{InPlace, Job, Leader, Limits, Nest, NoGate, PlacePost, Pool, SlotLeader};
 use spindle::{with_lock, with_slots, with_slots_in_place};
 use spindle_timing::line::Line;
 use spindle_timing::settings::Settings;
@@ -129,20 +130,33 @@ fn led_in_trays<S: TrayRounds, H: Threads + Wait + Sync + Clock + Print + Alloc<
     finish(rt, settings, Line::Trays, shape, &rounds, &times)
 }
 
-/// Runs a shape's rounds in a lock with a slot for each of their jobs, in place.
-pub fn in_place<S: PlaceRounds, H: Threads + Wait + Sync + Clock + Print + Alloc<A = Global>>(
+/// Runs the rounds of a stencil that adds one in a lock with a slot for each of their jobs, in place.
+pub fn add_in_place<H: Threads + Wait + Sync + Clock + Print + Alloc<A = Global>>(
     rt: &H,
     settings: &Settings,
     shape: Shape,
-    rounds: S,
-) -> Result<(), Stop>
-where
-    InPlace<S::Kind>: Send,
-    <S::Kind as Remake>::Item: Send,
-    <S::Kind as Remake>::Inner: Send,
-    <<S::Kind as Remake>::Inner as Nest>::Slots: Send + Sync,
-{
-    with_slots_in_place::<InPlace<S::Kind>, NoGate, Result<(), Stop>, _, _, H>(
+    rounds: StencilPlaceRounds,
+) -> Result<(), Stop> {
+    with_slots_in_place::<InPlace<AddOneInPlace>, NoGate, Result<(), Stop>, _, _, H>(
+        rt,
+        rt.alloc(),
+        &pool(settings),
+        settings.threads,
+        shape.jobs(settings.threads),
+        |leader| -> Result<(), Stop>
+            requires { IsSync H.row }
+        { led_in_place(rt, settings, shape, leader, rounds) },
+    )?
+}
+
+/// Runs the rounds of the stencil of many passes in a lock with a slot for each of their jobs, in place.
+pub fn smooth_in_place<H: Threads + Wait + Sync + Clock + Print + Alloc<A = Global>>(
+    rt: &H,
+    settings: &Settings,
+    shape: Shape,
+    rounds: SmoothPlaceRounds,
+) -> Result<(), Stop> {
+    with_slots_in_place::<InPlace<SmoothInPlace>, NoGate, Result<(), Stop>, _, _, H>(
         rt,
         rt.alloc(),
         &pool(settings),
