@@ -1,5 +1,6 @@
-//! A matrix product by blocks of rows: a job is given a run of the left matrix' rows, each with all columns of the right one. That
-//! list is shared, so nobody copies it; the leader compares it once a row, which is little beside the row's products.
+//! A matrix product by rows: a job is given a run of the left matrix' rows, each with all columns of the right one. That list is
+//! shared, so nobody copies it; the leader compares it once a row, about as long as that row's products take. Blocks of rows
+//! as items, one a job, make that little: the timing program multiplies so.
 ghost use Rattle.std.specs.Prelude.{◌≡◌, IfOk, map};
 ghost use Rattle.std.proofs.Common.{rules};
 ghost use Rattle.spindle_examples.specs.Product.{dot, row_of, product, IsRowOf};
