@@ -186,11 +186,12 @@ pub fn each_squared(alloc: Global, numbers: &[u64]) -> Result<Vec<u64>, Fault>
     Ok(numbers.iter().map(|x| x.wrapping_mul(*x)).collect(alloc)?)
 }
 
-/// Multiplies a row by all columns, which stand one behind the other, each as long as the row.
+/// Multiplies the rows of a block by all columns. The rows stand one behind the other, each as long as the number says, and so do
+/// the columns.
 pub struct Multiply;
 
 impl Job for Multiply {
-    type In = (SharedList<u64>, SharedList<u64>);
+    type In = (usize, (SharedList<u64>, SharedList<u64>));
 
     type Out = Result<Listed, Fault>;
 
@@ -201,10 +202,14 @@ impl Job for Multiply {
     fn run<H: Threads + Wait + Sync>(
         _rt: &H,
         alloc: Global,
-        input: &(SharedList<u64>, SharedList<u64>),
+        input: &(usize, (SharedList<u64>, SharedList<u64>)),
         _cx: &mut JobCx<End>,
     ) -> Result<Listed, Fault> {
-        let numbers = entries_of(alloc, input.0.as_slice(), input.1.as_slice())?;
+        let (rows, columns) = (input.1.0.as_slice(), input.1.1.as_slice());
+        let mut numbers = Vec::new(alloc);
+        for row in rows.chunks(input.0.max(1)) {
+            numbers.append(&mut entries_of(alloc, row, columns)?)?;
+        }
         Ok(Listed { numbers })
     }
 

@@ -9,8 +9,7 @@
 //! - `empty`: as many numbers as threads; a job does nothing. With trays by `for_each_raw`, with slots by `for_each` over a list
 //!   that is made as `for_each_raw` makes it.
 //! - `tiny8`: the same for eight numbers a thread; a job is about 50 ns of dependent arithmetic.
-//! - `try8`: `tiny8` by `try_for_each`: the same list of numbers, no job fails, and the outputs are joined out of
-//!   the report.
+//! - `try8`: `tiny8` by `try_for_each`: the same list of numbers, no job fails, and what comes out is the report.
 //! - `nested`: `for_each` over as many numbers as threads; a job runs a round of its own by `for_each` of its context, over eight
 //!   numbers in eight jobs, each as one of `tiny8`, and answers their list. So it is the work of `tiny8`, by as many
 //!   inner locks as threads.
@@ -23,8 +22,8 @@
 //!   and a job changes its numbers where they stand.
 //! - `map`: `for_each` over 4096 numbers, in four shared lists a thread that were made before the clock started; a job
 //!   answers the squares.
-//! - `product64`, `product256`: the product of two matrices of 64 or 256 rows and columns: `for_each` over the rows of the left one,
-//!   each with one shared list of all columns, in four jobs a thread; the rows of the product are joined into one list.
+//! - `product64`, `product256`: the product of two matrices of 64 or 256 rows and columns: `for_each` over blocks of the left
+//!   one's rows, four a thread, each with one shared list of all columns; the rows of the product are joined into one list.
 //!
 //! What a round is charged with: making its list of items, all of `for_each` (or of the call that stands for it), what is
 //! said above of its outputs, and letting them go. Lists that rounds share are made before the clock starts.

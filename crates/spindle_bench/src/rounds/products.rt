@@ -1,4 +1,4 @@
-//! Rounds that multiply two matrices, a row of the left one at a time.
+//! Rounds that multiply two matrices, a block of the left one's rows a job: the leader compares the columns once a block.
 ghost use Rattle.std.specs.Prelude.{◌≡◌};
 ghost use denote.Param.Send.{IsSync};
 
@@ -12,11 +12,11 @@ use std::alloc::Global;
 use std::sync::Wait;
 use std::thread::Threads;
 
-/// Rounds over the rows, each with all columns.
+/// Rounds over blocks of rows, each with all columns.
 #[derive(Drop)]
 pub struct ProductRounds {
-    jobs: usize,
-    rows: Vec<SharedList<u64>>,
+    size: usize,
+    blocks: Vec<SharedList<u64>>,
     columns: SharedList<u64>,
     entries: Vec<u64>,
 }
@@ -24,31 +24,42 @@ pub struct ProductRounds {
 impl ProductRounds {
     /// The product of two matrices of this size, in so many jobs.
     pub fn new(alloc: Global, size: usize, jobs: usize) -> Result<ProductRounds, Stop> {
-        let mut lists = Vec::new(alloc);
-        for row in rows(alloc, size)? {
-            lists.push(SharedList::from_vec(alloc, row)?)?;
-        }
         Ok(ProductRounds {
-            jobs,
-            rows: lists,
+            size,
+            blocks: blocks(alloc, size, jobs)?,
             columns: SharedList::from_vec(alloc, columns(alloc, size)?)?,
             entries: Vec::new(alloc),
         })
     }
 
-    // Each row with the columns.
-    fn inputs(&self, alloc: Global) -> Result<Vec<(SharedList<u64>, SharedList<u64>)>, Stop> {
-        let mut inputs = Vec::with_capacity(alloc, self.rows.len())?;
-        for row in &self.rows {
-            inputs.push((row.clone()?, self.columns.clone()?))?;
+    // Each block, its rows' length, and the columns.
+    fn inputs(&self, alloc: Global) -> Result<Vec<Block>, Stop> {
+        let mut inputs = Vec::with_capacity(alloc, self.blocks.len())?;
+        for block in &self.blocks {
+            inputs.push((self.size, (block.clone()?, self.columns.clone()?)))?;
         }
         Ok(inputs)
     }
 }
 
+// The rows of the left matrix in as many blocks as jobs, or in fewer; the rows of a block stand one behind the other.
+fn blocks(alloc: Global, size: usize, jobs: usize) -> Result<Vec<SharedList<u64>>, Stop> {
+    let each = (size.saturating_sub(1) / jobs.max(1)).saturating_add(1);
+    let rows = rows(alloc, size)?;
+    let mut blocks = Vec::new(alloc);
+    for block in rows.chunks(each) {
+        let mut joined = Vec::new(alloc);
+        for row in block {
+            joined.append(&mut row.as_slice().to_vec(alloc)?)?;
+        }
+        blocks.push(SharedList::from_vec(alloc, joined)?)?;
+    }
+    Ok(blocks)
+}
+
 impl Rounds for ProductRounds {
     fn is_right(&self, _rounds: u64) -> bool {
-        are_products(self.rows.len(), self.entries.as_slice())
+        are_products(self.size, self.entries.as_slice())
     }
 }
 
@@ -62,11 +73,14 @@ impl TrayRounds for ProductRounds {
         leader: &mut Leader<Multiply, NoGate>,
     ) -> Result<(), Stop> {
         let inputs = self.inputs(alloc)?;
-        let answers = leader.for_each(rt, alloc, self.jobs.max(1), inputs)?;
+        let answers = leader.for_each(rt, alloc, inputs.len().max(1), inputs)?;
         self.entries = joined(alloc, answers)?;
         Ok(())
     }
 }
+
+// What a job is given.
+type Block = (usize, (SharedList<u64>, SharedList<u64>));
 
 // The rows of the product as one list.
 fn joined(alloc: Global, answers: Vec<Result<Listed, Fault>>) -> Result<Vec<u64>, Stop> {

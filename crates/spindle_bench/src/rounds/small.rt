@@ -5,7 +5,7 @@ ghost use denote.Param.Send.{IsSync};
 use crate::jobs::{Listed, Nothing, Stir, StirEight};
 use crate::rounds::{Rounds, SlotRounds, TrayRounds};
 use spindle::Fault;
-use spindle::lock::{Leader, NoGate, SlotLeader};
+use spindle::lock::{Leader, NoGate, Report, SlotLeader};
 use spindle_timing::kernels::stirred;
 use spindle_timing::stop::Stop;
 use std::alloc::{AllocError, Global};
@@ -135,22 +135,27 @@ impl TrayRounds for TinyRounds {
 #[derive(Drop)]
 pub struct TryRounds {
     jobs: usize,
-    outputs: Vec<u64>,
+    report: Option<Report<u64>>,
 }
 
 impl TryRounds {
     /// Rounds of so many jobs.
-    pub fn new(alloc: Global, jobs: usize) -> TryRounds {
-        TryRounds {
-            jobs,
-            outputs: Vec::new(alloc),
-        }
+    pub fn new(jobs: usize) -> TryRounds {
+        TryRounds { jobs, report: None }
     }
 }
 
 impl Rounds for TryRounds {
     fn is_right(&self, _rounds: u64) -> bool {
-        are_stirred(self.outputs.as_slice(), 0, self.jobs)
+        let is_stirred = |piece: &(usize, Vec<u64>)| are_stirred(
+            piece.1.as_slice(),
+            piece.0 as u64,
+            1,
+        );
+        match &self.report {
+            Some(report) => report.ran.len() == self.jobs && report.ran.iter().all(is_stirred),
+            None => false,
+        }
     }
 }
 
@@ -164,8 +169,7 @@ impl TrayRounds for TryRounds {
         leader: &mut Leader<Stir, NoGate>,
     ) -> Result<(), Stop> {
         let numbers = numbers(alloc, self.jobs)?;
-        let report = leader.try_for_each(rt, alloc, numbers.len(), numbers)?;
-        self.outputs = report.into_outputs(alloc)?;
+        self.report = Some(leader.try_for_each(rt, alloc, numbers.len(), numbers)?);
         Ok(())
     }
 }
