@@ -1,6 +1,6 @@
 //! Jobs over chunks of a table, which are runs of one shared list: each element becomes one more, or is halved; and an operation that
 //! makes one total of a table.
-ghost use Rattle.std.specs.Prelude.{◌≡◌, ◌+◌, ◌%◌, IfOk, map};
+ghost use Rattle.std.specs.Prelude.{◌≡◌, ◌+◌, ◌/◌, IfOk, map};
 ghost use Rattle.std.proofs.Common.{rules};
 
 #[cfg(test)]
@@ -52,7 +52,7 @@ impl Job for Halve {
 
     type Inner = End;
 
-    ghost meets = { λ chunk output. IfOk output (λ halves. map (λ x. x + x) halves.items ≡ chunk) };
+    ghost meets = { λ chunk output. IfOk output (λ halves. halves.items ≡ map (λ x. x / 2) chunk) };
 
     ghost equal_is_same = { Prim.search rules };
 
@@ -77,18 +77,25 @@ pub enum Odd {
 
 /// The halves of the elements.
 pub fn halves(alloc: Global, chunk: &[u32]) -> Result<Vec<u32>, Odd>
-    ensures { IfOk result (λ halves. map (λ x. x + x) halves.items ≡ chunk.now) }
+    ensures { IfOk result (λ halves. halves.items ≡ map (λ x. x / 2) chunk.now) }
 {
-    let mut halves = Vec::new(alloc);
+    if let Some(odd) = first_odd(chunk) {
+        return Err(Odd::Element(odd));
+    }
+    match chunk.iter().map(|x| *x / 2).collect(alloc) {
+        Ok(halves) => Ok(halves),
+        Err(_) => Err(Odd::Memory),
+    }
+}
+
+// The first odd element, if there is one.
+fn first_odd(chunk: &[u32]) -> Option<u32> {
     for element in chunk {
         if *element % 2 == 1 {
-            return Err(Odd::Element(*element));
-        }
-        if halves.push(*element / 2).is_err() {
-            return Err(Odd::Memory);
+            return Some(*element);
         }
     }
-    Ok(halves)
+    None
 }
 
 /// The last odd element, or 0 where there is none. Which comes later counts, so this operation isn't commutative.
