@@ -114,8 +114,12 @@ pub trait ChunkRounds<
         ensures refused { IfErr result
             (Self.Rounds.refuses self.old (job_count (length list.now) n_jobs)) }
         ensures empty { length list.now ≡ 0 → IsOk result }
+        ensures rests { Self.Rounds.rests self.new }
         ensures lock { Self.Rounds.threads self.new ≡ Self.Rounds.threads self.old }
+        ensures hands { (jobs : ℕ) → (fault : Fault) → Self.Rounds.refuses self.new jobs fault
+            → Self.Rounds.refuses self.old jobs fault }
     {
+        let _threads = self.max_num_threads();
         if list.is_empty() {
             return Ok(Ok(Vec::new(alloc)));
         }
