@@ -1,5 +1,5 @@
 -- A list folded chunk by chunk has the total of the list.
-use Rattle.std.proofs.Common.{◌≡◌, List, [], ◌∷◌, ◌++◌, refl, ap, sym, ◌∙◌}
+use Rattle.std.proofs.Common.{◌≡◌, List, [], ◌∷◌, refl, ap, sym, ◌∙◌}
 use Rattle.std.specs.Prelude.{fold}
 use Rattle.std.specs.List.{AllZip}
 use Rattle.std.proofs.lemmas.List.Sums.{fold-append}

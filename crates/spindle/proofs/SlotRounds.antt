@@ -1,5 +1,5 @@
 -- The pieces of a round in the slots of its table.
-use Rattle.std.proofs.Common.{◌≡◌, ℕ, List, [], length, take, ap, sym, ◌∙◌, subst, ◌≤◌, true, arith}
+use Rattle.std.proofs.Common.{◌≡◌, ℕ, List, ap, sym, ◌∙◌, subst, ◌≤◌, true}
 use Rattle.atomic_table.specs.Table.{Me}
 use Rattle.spindle_rounds.specs.declared.round_table.pieces.Stand.{Stand}
 use Rattle.spindle_rounds.specs.declared.round_table.pieces.Stand.TheVariants as stand
@@ -17,7 +17,7 @@ use Rattle.spindle_rounds.specs.RoundSteps.{round_of}
 use Rattle.spindle_rounds.specs.RoundViews.{Onward}
 use Rattle.spindle_rounds.proofs.SlotHands.{laid_out, awaits, collected, turning_less}
 use Rattle.spindle_trays.specs.Done.{Given, Done}
-use Rattle.spindle_trays.specs.PieceRuns.{piece_start, items_before, piece_at}
+use Rattle.spindle_trays.specs.PieceRuns.{piece_at}
 use Rattle.spindle.specs.SlotRounds.{IsAnswerTo, IsPieceOf, LeadsAt, PlayedPieces}
 use Rattle.spindle_trays.specs.declared.crew.tables.Tables.{Tables}
 

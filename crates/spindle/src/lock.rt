@@ -2,11 +2,12 @@
 //! out here.
 //!
 //! Locks with slots: `slot_root` and `place_root` have how they open, `slot_leader` what both kinds of their leader share,
-//! `slot_rounds` and `place_rounds` their rounds, and `slot_workspace` and `place_post` what they know their posts by. Locks for one
+//! `slot_rounds` and `place_rounds` their rounds, `slot_workspace` what they know their posts by, and `piece_post` and `place_post` their posts. Locks for one
 //! call: `one_round` opens one for a round, `folds` for the total of a list.
 
 mod folds;
 mod one_round;
+mod piece_post;
 mod place_post;
 mod place_root;
 mod place_rounds;
@@ -18,11 +19,12 @@ mod slot_workspace;
 
 pub use self::folds::{Combine, Folds, reduce};
 pub use self::one_round::run_one;
+pub use self::piece_post::{PiecePost, PlaysPieces};
 pub use self::place_post::{PlacePost, PlaysInPlace};
 pub use self::place_root::with_slots_in_place;
 pub use self::slot_leader::SlotLeader;
 pub use self::slot_root::with_slots;
-pub use self::slot_workspace::{MakesSlots, OpensSlots, PlaysPieces, SlotWorkspace};
+pub use self::slot_workspace::{MakesSlots, OpensSlots, SlotWorkspace};
 pub use crate::crew::slot_post::SlotPost;
 pub use crate::job::remake::{InPlace, Remake, Remakes};
 pub use crate::pieces::of_kind::{ChunkOf, PieceOf};

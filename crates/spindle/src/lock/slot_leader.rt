@@ -5,9 +5,8 @@
 ghost use Rattle.std.specs.Prelude.{◌≡◌, ◌<◌, ◌≤◌, IsNone};
 ghost use Rattle.spindle.specs.SlotLeaders.{threads_of, AnnouncedRest, IsAsBefore};
 
-use crate::crew::slot_post::SlotPost;
+use crate::lock::piece_post::PiecePost;
 use crate::lock::slot_workspace::OpensSlots;
-use crate::pieces::of_kind::PieceOf;
 use spindle_trays::crew::Crew;
 use spindle_trays::job::Job;
 use spindle_trays::job::gate::Gate;
@@ -16,7 +15,7 @@ use std::sync::Wait;
 
 /// The leader of a lock with slots over jobs of kind J, lent to the closure that the lock was opened for.
 #[derive(Drop)]
-pub struct SlotLeader<'a, J: Job, G: Gate, P = SlotPost<PieceOf<J>>> {
+pub struct SlotLeader<'a, J: Job, G: Gate, P = PiecePost<J>> {
     pub(crate) crew: Crew,
     pub(crate) runner: Runner<'a, J, G>,
     pub(crate) post: P,

@@ -8,8 +8,8 @@ ghost use Rattle.spindle_parts.specs.Pieces.{counted};
 ghost use Rattle.spindle_parts.specs.declared.fault.Fault.TheVariants.{Memory};
 ghost use Rattle.spindle.specs.SlotLeaders.{threads_of, slots_of, slot_jobs, IsAsBefore, IsBetweenRounds, PlayedOnce};
 
+use crate::lock::piece_post::PlaysPieces;
 use crate::lock::slot_leader::SlotLeader;
-use crate::lock::slot_workspace::PlaysPieces;
 use spindle_lists::shared::SharedList;
 use spindle_parts::fault::Fault;
 use spindle_trays::job::gate::Gate;

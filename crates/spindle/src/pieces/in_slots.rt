@@ -11,6 +11,7 @@ ghost use Rattle.spindle.specs.SlotRounds.{IsAnswerTo, IsPieceOf};
 
 use crate::crew::slot_tables::SlotTables;
 use crate::pieces::of_kind::PieceOf;
+use crate::pieces::rooms::Rooms;
 use spindle_parts::fault::Fault;
 use spindle_rounds::round_table::Seat;
 use spindle_rounds::round_table::pieces::{Pieces, Stand};
@@ -19,25 +20,26 @@ use spindle_trays::pieces::ready::Ready;
 use spindle_trays::pieces::runs;
 use std::alloc::{AllocError, Global};
 
-// The piece of a number, with room for its outputs.
+// The piece of a number, with this room for its outputs.
 fn ready<J: Job>(
-    alloc: Global,
     pieces: &runs::Pieces<J::In>,
     number: usize,
+    room: Vec<J::Out>,
 ) -> Result<Ready<J>, AllocError>
     requires { number < pieces.now.count }
     ensures { IfOk result (IsPieceOf pieces.now.items pieces.now.count number) }
 {
-    Ready::new(number, pieces.run(number)?, Vec::new(alloc))
+    Ready::new(number, pieces.run(number)?, room)
 }
 
 impl<'t, J: Job> SlotTables<'t, Pieces<PieceOf<J>>> {
-    /// Puts each piece into the slot of its number. After a refusal all slots are empty.
+    /// Puts each piece into the slot of its number, with the room that is kept for it. After a refusal all slots are empty.
     pub(crate) fn fill(
         &self,
         alloc: Global,
         seat: &mut Seat<Pieces<PieceOf<J>>>,
         pieces: &runs::Pieces<J::In>,
+        rooms: &mut Rooms<J::Out>,
     ) -> Result<(), Fault>
         requires seated { IsSeatAt self.now.tables.now.round.init seat.old }
         requires held { HoldsEach IsEmpty self.now.slots seat.old.me.1 }
@@ -49,9 +51,11 @@ impl<'t, J: Job> SlotTables<'t, Pieces<PieceOf<J>>> {
         ensures empty { OnErr result (HoldsEach IsEmpty self.now.slots seat.new.me.1) }
         ensures memory { OnErr result (IsErrOf result Fault.Memory) }
     {
+        rooms.furnish(alloc, pieces.count())?;
         let round = &self.tables.round;
         for slot in 0..pieces.count() {
-            let Ok(piece) = ready(alloc, pieces, slot) else {
+            let room = rooms.take(alloc, slot);
+            let Ok(piece) = ready(pieces, slot, room) else {
                 round.turn_slots(seat, slot, self.slots);
                 round.empty_slots(seat, self.slots);
                 return Err(Fault::Memory);
@@ -61,11 +65,13 @@ impl<'t, J: Job> SlotTables<'t, Pieces<PieceOf<J>>> {
         Ok(())
     }
 
-    /// Moves the outputs of the pieces out of their slots to the end of the list, in order, and leaves all slots empty.
+    /// Moves the outputs of the pieces out of their slots to the end of the list, in order, and leaves all slots empty. The rooms
+    /// of the outputs are kept.
     pub(crate) fn collect(
         &self,
         seat: &mut Seat<Pieces<PieceOf<J>>>,
         pieces: &runs::Pieces<J::In>,
+        rooms: &mut Rooms<J::Out>,
         outputs: &mut Vec<J::Out>,
     )
         requires seated { IsSeatAt self.now.tables.now.round.init seat.old }
@@ -82,6 +88,7 @@ impl<'t, J: Job> SlotTables<'t, Pieces<PieceOf<J>>> {
         for slot in 0..pieces.count() {
             let mut finished = round.take_answer(seat, slot);
             finished.move_outputs(outputs);
+            rooms.keep(slot, finished.into_outputs());
         }
         round.turn_slots(seat, pieces.count(), self.slots);
     }

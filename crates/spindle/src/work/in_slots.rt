@@ -11,6 +11,7 @@ ghost use Rattle.spindle.specs.SlotRounds.{IsAnswerTo, LeadsAt, LeadsIn, PlayedP
 
 use crate::crew::slot_tables::SlotTables;
 use crate::pieces::of_kind::PieceOf;
+use crate::pieces::rooms::Rooms;
 use spindle_parts::fault::Fault;
 use spindle_rounds::barrier::Barrier;
 use spindle_rounds::round::claim::Claimed;
@@ -116,6 +117,7 @@ impl<'t, J: Job> SlotTables<'t, Pieces<PieceOf<J>>> {
         barrier: &mut Barrier<'_, Pieces<PieceOf<J>>>,
         runner: &mut Runner<'_, J, G>,
         pieces: &runs::Pieces<J::In>,
+        rooms: &mut Rooms<J::Out>,
         outputs: &mut Vec<J::Out>,
     ) -> Result<(), Fault>
         requires leads { LeadsIn self.now.tables.now barrier.old }
@@ -131,7 +133,7 @@ impl<'t, J: Job> SlotTables<'t, Pieces<PieceOf<J>>> {
         ensures left { OnErr result (barrier.new.seat.me.0 ≡ barrier.old.seat.me.0) }
         ensures memory { OnErr result (IsErrOf result Fault.Memory) }
     {
-        self.fill(alloc, &mut barrier.seat, pieces)?;
+        self.fill(alloc, &mut barrier.seat, pieces, rooms)?;
         runner.notices.end_rest();
         let work = SlotWork {
             runner,
@@ -140,7 +142,7 @@ impl<'t, J: Job> SlotTables<'t, Pieces<PieceOf<J>>> {
         };
         let jobs = pieces.count() as u64;
         self.play_held(rt, barrier, jobs, work);
-        self.collect(&mut barrier.seat, pieces, outputs);
+        self.collect(&mut barrier.seat, pieces, rooms, outputs);
         Ok(())
     }
 }

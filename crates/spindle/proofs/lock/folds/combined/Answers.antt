@@ -1,5 +1,5 @@
 -- One more total.
-use Rattle.std.proofs.Common.{ap, sym, ◌∙◌, rules, [], ◌∷◌}
+use Rattle.std.proofs.Common.{ap, sym, ◌∙◌, [], ◌∷◌}
 use Rattle.std.proofs.lemmas.List.Sums.{fold-append}
 use Rattle.spindle.proofs.lock.folds.combined.Goals as goal
 

@@ -1,5 +1,5 @@
 -- One more item.
-use Rattle.std.proofs.Common.{take, ap, sym, ◌∙◌, arith, rules}
+use Rattle.std.proofs.Common.{sym, arith}
 use Rattle.std.proofs.lemmas.List.Sums.{fold_more}
 use Rattle.spindle.proofs.lock.folds.folded.Goals as goal
 

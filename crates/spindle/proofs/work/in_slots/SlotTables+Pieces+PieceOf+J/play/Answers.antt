@@ -1,5 +1,5 @@
 -- The pieces go into the slots, are played, and their answers come out of them.
-use Rattle.std.proofs.Common.{◌≡◌, ◌≤◌, ℕ, refl, ◌∙◌, sym, subst, arith}
+use Rattle.std.proofs.Common.{◌≡◌, ◌≤◌, ℕ, refl, sym, subst, arith}
 use Rattle.spindle_rounds.specs.SlotHands.{AnsweredAs, WaitsAs}
 use Rattle.spindle_rounds.specs.SlotLoops.{IsEmpty, IsPiece, HoldsEach, Turning}
 use Rattle.spindle_rounds.specs.Working.{PlayedRound}
