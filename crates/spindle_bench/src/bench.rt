@@ -3,8 +3,9 @@ ghost use Rattle.std.specs.Prelude.{◌≡◌};
 
 use crate::locks::{add_in_place, in_slots, in_trays, smooth_in_place};
 use crate::rounds::maps::MapRounds;
+use crate::rounds::nested::NestedRounds;
 use crate::rounds::products::ProductRounds;
-use crate::rounds::small::{EmptyRounds, NestedRounds, TinyRounds, TryRounds};
+use crate::rounds::small::{EmptyRounds, TinyRounds, TryRounds};
 use crate::rounds::smooth::{SmoothPlaceRounds, SmoothRounds};
 use crate::rounds::stencils::{StencilPlaceRounds, StencilRounds};
 use spindle_timing::line::Line;
@@ -71,7 +72,7 @@ fn run_in_trays<H: Threads + Wait + Sync + Clock + Print + Alloc<A = Global>>(
         Shape::Empty => in_trays(rt, settings, shape, EmptyRounds::new(alloc, jobs)),
         Shape::Tiny8 => in_trays(rt, settings, shape, TinyRounds::new(alloc, jobs)),
         Shape::Try8 => in_trays(rt, settings, shape, TryRounds::new(jobs)),
-        Shape::Nested => in_trays(rt, settings, shape, NestedRounds::new(alloc, jobs)),
+        Shape::Nested => in_trays(rt, settings, shape, NestedRounds::new(alloc, jobs)?),
         Shape::Stencil4k => in_trays(rt, settings, shape, StencilRounds::new(alloc, 4096, jobs)?),
         Shape::Stencil256k => in_trays(
             rt,

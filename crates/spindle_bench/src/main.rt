@@ -10,9 +10,9 @@
 //!   that is made as `for_each_raw` makes it.
 //! - `tiny8`: the same for eight numbers a thread; a job is about 50 ns of dependent arithmetic.
 //! - `try8`: `tiny8` by `try_for_each`: the same list of numbers, no job fails, and what comes out is the report.
-//! - `nested`: `for_each` over as many numbers as threads; a job runs a round of its own by `for_each` of its context, over eight
-//!   numbers in eight jobs, each as one of `tiny8`, and answers their list. So it is the work of `tiny8`, by as many
-//!   inner locks as threads.
+//! - `nested`: `for_each` over two shared lists of 256 numbers in four parts; a job opens a lock with trays for half of the threads and
+//!   runs sixteen rounds there, each of which adds one to each number, a part a job. An item of an inner round is a part itself, and
+//!   what a round answers is the next round's items. The lists that the jobs answer are the next round's items too.
 //! - `stencil4k`, `stencil256k`: `for_each` over 4096 or 262144 numbers, in one shared list a thread; a job answers a list of
 //!   each number and one more, and these lists are the next round's items. In place an item is a list, one a thread, and
 //!   a job adds one to each of its numbers where they stand.

@@ -3,6 +3,7 @@ ghost use Rattle.std.specs.Prelude.{◌≡◌};
 ghost use denote.Param.Send.{IsSync};
 
 pub mod maps;
+pub mod nested;
 pub mod products;
 pub mod small;
 pub mod smooth;

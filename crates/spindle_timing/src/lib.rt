@@ -7,7 +7,7 @@
 //! ```
 //!
 //! where the last four are whole nanoseconds a round: the best batch, the middle one, and those that a tenth and nine
-//! tenths of all batches stand below. A batch is 100 rounds between two readings of the clock (10 of `nested`, `stencil256k`,
+//! tenths of all batches stand below. A batch is 100 rounds between two readings of the clock (20 of `nested`, 10 of `stencil256k`,
 //! `stencil100` and `product64`, and one of `product256`); three batches warm up, then 300 count (100 of those), or as many as end
 //! within 0.8 seconds.
 //!

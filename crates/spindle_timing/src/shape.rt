@@ -10,6 +10,15 @@ pub const SMOOTHED: usize = 4096;
 /// The passes of a round of `stencil100`.
 pub const PASSES: usize = 100;
 
+/// The numbers of each list of `nested`.
+pub const NESTED_LEN: usize = 256;
+
+/// The parts of such a list: a job of an inner round has one.
+pub const NESTED_PARTS: usize = 4;
+
+/// The rounds of each inner lock.
+pub const NESTED_ROUNDS: u64 = 16;
+
 /// A shape of rounds.
 #[derive(Clone, Copy, Debug, PartialEq, Eq)]
 pub enum Shape {
@@ -56,7 +65,7 @@ impl Shape {
         }
     }
 
-    /// The jobs of a round on so many threads; of `nested`, those that run a round of their own.
+    /// The jobs of a round on so many threads; of `nested`, those that open a lock of their own.
     pub fn jobs(self, threads: usize) -> usize
         requires { (0 < threads) × (threads ≤ 32767) }
         ensures { (1 ≤ result) × (result ≤ 4294967295) }
@@ -64,6 +73,7 @@ impl Shape {
         match self {
             Shape::Tiny8 | Shape::Try8 => threads * 8,
             Shape::Map | Shape::Product64 | Shape::Product256 => threads * 4,
+            Shape::Nested => 2,
             _ => threads,
         }
     }
@@ -84,7 +94,8 @@ impl Shape {
     {
         match self {
             Shape::Product256 => 1,
-            Shape::Nested | Shape::Stencil256k | Shape::Stencil100 | Shape::Product64 => 10,
+            Shape::Nested => 20,
+            Shape::Stencil256k | Shape::Stencil100 | Shape::Product64 => 10,
             _ => 100,
         }
     }

@@ -2,9 +2,8 @@
 ghost use Rattle.std.specs.Prelude.{◌≡◌};
 ghost use denote.Param.Send.{IsSync};
 
-use crate::jobs::{Listed, Nothing, Stir, StirEight};
+use crate::jobs::{Nothing, Stir};
 use crate::rounds::{Rounds, SlotRounds, TrayRounds};
-use spindle::Fault;
 use spindle::lock::{Leader, NoGate, Report, SlotLeader};
 use spindle_timing::kernels::stirred;
 use spindle_timing::stop::Stop;
@@ -170,59 +169,6 @@ impl TrayRounds for TryRounds {
     ) -> Result<(), Stop> {
         let numbers = numbers(alloc, self.jobs)?;
         self.report = Some(leader.try_for_each(rt, alloc, numbers.len(), numbers)?);
-        Ok(())
-    }
-}
-
-/// Rounds of jobs that each run a round of eight small jobs.
-#[derive(Drop)]
-pub struct NestedRounds {
-    jobs: usize,
-    outputs: Vec<Result<Listed, Fault>>,
-}
-
-impl NestedRounds {
-    /// Rounds of so many jobs.
-    pub fn new(alloc: Global, jobs: usize) -> NestedRounds {
-        NestedRounds {
-            jobs,
-            outputs: Vec::new(alloc),
-        }
-    }
-
-    // What the jobs are given: each eighth number from 0 on.
-    fn inputs(&self, alloc: Global) -> Result<Vec<usize>, AllocError> {
-        (0..self.jobs)
-            .map(|job| job.saturating_mul(8))
-            .collect(alloc)
-    }
-}
-
-impl Rounds for NestedRounds {
-    fn is_right(&self, _rounds: u64) -> bool {
-        let mut from = 0u64;
-        for output in &self.outputs {
-            match output {
-                Ok(listed) if are_stirred(listed.numbers.as_slice(), from, 8) => {}
-                _ => return false,
-            }
-            from = from.saturating_add(8);
-        }
-        self.outputs.len() == self.jobs
-    }
-}
-
-impl TrayRounds for NestedRounds {
-    type Kind = StirEight;
-
-    fn in_trays<H: Threads + Wait + Sync>(
-        &mut self,
-        rt: &H,
-        alloc: Global,
-        leader: &mut Leader<StirEight, NoGate>,
-    ) -> Result<(), Stop> {
-        let inputs = self.inputs(alloc)?;
-        self.outputs = leader.for_each(rt, alloc, inputs.len(), inputs)?;
         Ok(())
     }
 }

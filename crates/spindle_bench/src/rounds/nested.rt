@@ -1,0 +1,66 @@
+//! Rounds of jobs that each open a lock of their own and run rounds there, over the list that their last round left.
+ghost use Rattle.std.specs.Prelude.{◌≡◌};
+ghost use denote.Param.Send.{IsSync};
+
+use crate::jobs::{AddInRounds, Part};
+use crate::rounds::{Rounds, TrayRounds};
+use spindle::SharedList;
+use spindle::lock::{Leader, NoGate};
+use spindle_timing::shape::{NESTED_LEN, NESTED_PARTS, NESTED_ROUNDS};
+use spindle_timing::stop::Stop;
+use std::alloc::Global;
+use std::mem;
+use std::sync::Wait;
+use std::thread::Threads;
+
+/// Rounds over a list a job, in parts.
+#[derive(Drop)]
+pub struct NestedRounds {
+    jobs: usize,
+    lists: Vec<SharedList<Part>>,
+}
+
+impl NestedRounds {
+    /// So many lists of zeros.
+    pub fn new(alloc: Global, jobs: usize) -> Result<NestedRounds, Stop> {
+        let mut lists = Vec::with_capacity(alloc, jobs)?;
+        for _ in 0..jobs {
+            let zeros = vec![in alloc; [0u64; NESTED_LEN / NESTED_PARTS]; NESTED_PARTS]?;
+            lists.push(SharedList::from_vec(alloc, zeros)?)?;
+        }
+        Ok(NestedRounds { jobs, lists })
+    }
+
+    // Takes the lists, in whose place stands room for as many.
+    fn take(&mut self, alloc: Global) -> Result<Vec<SharedList<Part>>, Stop> {
+        let next = Vec::with_capacity(alloc, self.lists.len())?;
+        Ok(mem::replace(&mut self.lists, next))
+    }
+}
+
+impl Rounds for NestedRounds {
+    fn is_right(&self, rounds: u64) -> bool {
+        let sum = rounds.saturating_mul(NESTED_ROUNDS);
+        let is_sum = |part: &Part| part.iter().all(|x| *x == sum);
+        let is_right = |list: &SharedList<Part>| list.len() == NESTED_PARTS
+            && list.as_slice().iter().all(is_sum);
+        self.lists.len() == self.jobs && self.lists.iter().all(is_right)
+    }
+}
+
+impl TrayRounds for NestedRounds {
+    type Kind = AddInRounds;
+
+    fn in_trays<H: Threads + Wait + Sync>(
+        &mut self,
+        rt: &H,
+        alloc: Global,
+        leader: &mut Leader<AddInRounds, NoGate>,
+    ) -> Result<(), Stop> {
+        let lists = self.take(alloc)?;
+        for sums in leader.for_each(rt, alloc, lists.len(), lists)? {
+            self.lists.push(sums?)?;
+        }
+        Ok(())
+    }
+}
