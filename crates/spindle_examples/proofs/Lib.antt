@@ -3,5 +3,6 @@ mod Numbers
 mod Wrapped
 mod Prefixes
 mod Products
+mod Passes
 mod Evaluations
 pub mod Stencils

@@ -4,4 +4,5 @@ pub mod Prefix
 pub mod Product
 pub mod Batch
 pub mod Stencil
+pub mod Strips
 pub mod Chomp

@@ -1,6 +1,6 @@
 //! Programs of the users' fields, each a few dozen lines over the public calls of `spindle`, with its contract in its own
-//! terms: a batch that loses nothing, prefix sums in two rounds, a matrix product, a stencil of many passes, and a game
-//! evaluated by rounds in rounds.
+//! terms: a batch that loses nothing, prefix sums in two rounds, a matrix product, a stencil of
+//! many passes, the same in place, and a game evaluated by rounds in rounds.
 //!
 //! The program runs each once over fixed numbers, and prints what comes out. The tests compute the same plainly. Where the
 //! variable TRACE is set, it also prints who ran which job of a recorded round when, which differs from run to run.
@@ -13,6 +13,7 @@ mod prefix;
 mod product;
 mod stencil;
 mod stop;
+mod strips;
 #[cfg(test)]
 mod tests;
 mod trace;
@@ -46,6 +47,9 @@ fn main(rt: HostRuntime) -> Result<(), Stop> {
     let heat = vec![in alloc; 0u32, 0, 0, 0, 4096, 0, 0, 0, 0]?;
     let smooth = stencil::smoothed(&rt, alloc, &pool, 4, heat, 8)?;
     println!(rt; "stencil {smooth:?}")?;
+    let heat = vec![in alloc; 1024u32, 0, 0, 0, 0, 512, 0]?;
+    let smooth = strips::smoothed(&rt, alloc, &pool, 3, heat, 4)?;
+    println!(rt; "strips {smooth:?}")?;
     let board = Board {
         top: 4,
         middle: 3,

@@ -2,7 +2,7 @@
 
 use crate::batch::Order;
 use crate::chomp::Board;
-use crate::{batch, evaluator, prefix, product, stencil};
+use crate::{batch, evaluator, prefix, product, stencil, strips};
 use spindle::Fault;
 use spindle::lock::{Limits, NoGate, Pool};
 use std::alloc::Global;
@@ -65,6 +65,25 @@ fn a_stencil_in_chunks_is_one_over_all_values(rt: HostRuntime) -> Result<(), Fau
             for passes in 0..4 {
                 let smooth = stencil::smoothed(&rt, alloc, &pool, size, values.clone()?, passes)?;
                 assert_eq!(rt; smooth, plain.clone()?, "{count} values, chunks of {size}");
+                plain = plain_pass(alloc, plain.as_slice())?;
+            }
+        }
+    }
+    Ok(())
+}
+
+#[test]
+fn a_stencil_in_place_is_one_over_all_values(rt: HostRuntime) -> Result<(), Fault> {
+    let alloc = rt.alloc();
+    let mut state = 13;
+    for count in [0, 1, 2, 3, 10, 257] {
+        let values = numbers(alloc, &mut state, count)?;
+        for (threads, size) in [(1, 1), (4, 2), (4, 64), (4, 1000)] {
+            let pool = Pool::new(threads, Limits::new(), NoGate);
+            let mut plain = values.clone()?;
+            for passes in 0..4 {
+                let smooth = strips::smoothed(&rt, alloc, &pool, size, values.clone()?, passes)?;
+                assert_eq!(rt; smooth, plain.clone()?, "{count} values, strips of {size}");
                 plain = plain_pass(alloc, plain.as_slice())?;
             }
         }
