@@ -1,7 +1,10 @@
 -- A product place by place, and row by row.
-use Rattle.std.proofs.Common.{◌≡◌, ℕ, zero, suc, ◌+◌, ◌*◌, ◌<◌, ◌≤◌, List, [], ◌∷◌, ◌++◌, Vec, Global, length, map, min, take, get_or, refl, ap, ◌∙◌, arith}
+use Rattle.std.proofs.Common.{◌≡◌, ℕ, zero, suc, ◌+◌, ◌*◌, ◌<◌, ◌≤◌, List, [], ◌∷◌, ◌++◌, Vec, Global, length, map, min, take, get_or, IfOk, refl, ap, sym, ◌∙◌, arith, append_assoc, append-nil}
+use Rattle.std.specs.List.{AllZip}
 use Rattle.spindle_parts.specs.Pieces.{joined}
 use Rattle.spindle_examples.specs.Product.{dot, row_of, product}
+use Rattle.spindle_examples.specs.Blocks.{rows_and_columns, IsFilled}
+use Rattle.spindle_examples.specs.declared.product.Block.{Block}
 
 -- one place more
 pub dot_more : (xs ys : List ℕ) (k : ℕ) → k < length xs → k < length ys
@@ -23,9 +26,44 @@ dot_whole (x ∷ xs) [] (suc k) h = refl
 dot_whole (x ∷ xs) (y ∷ ys) zero h = absurd (omega (arith, h))
 dot_whole (x ∷ xs) (y ∷ ys) (suc k) h = ap (λ n. x * y + n) (dot_whole xs ys k (omega (arith, h)))
 
--- what the rows answer, one behind the other, is the product
-pub joined_rows : (rows : List (Vec ℕ Global)) (columns : List ℕ)
-    → joined (map (λ (input : List ℕ × List ℕ). row_of input.1 input.0) (map (λ (row : Vec ℕ Global). (row.items, columns)) rows))
-    ≡ product (map (λ (row : Vec ℕ Global). row.items) rows) columns
-joined_rows [] columns = refl
-joined_rows (row ∷ rows) columns = ap (λ l. row_of columns row.items ++ l) (joined_rows rows columns)
+-- rows in two lists
+pub product_append : (xs ys : List (List ℕ)) (columns : List ℕ) → product (xs ++ ys) columns ≡ product xs columns ++ product ys columns
+product_append [] ys columns = refl
+product_append (row ∷ xs) ys columns =
+    let first : List ℕ = row_of columns row in
+    ap (λ l. first ++ l) (product_append xs ys columns) ∙ sym (append_assoc first (product xs columns) (product ys columns))
+
+-- one row more
+pub product_snoc : (rows : List (List ℕ)) (row columns : List ℕ) → product (rows ++ row ∷ []) columns ≡ product rows columns ++ row_of columns row
+product_snoc rows row columns =
+    product_append rows (row ∷ []) columns ∙ ap (λ l. product rows columns ++ l) (append-nil (row_of columns row))
+
+-- what runs of the rows make with the columns, one behind the other, is the product
+product_runs : (runs : List (List (List ℕ))) (columns : List ℕ)
+    → joined (map (λ (input : List (List ℕ) × List ℕ). product input.0 input.1) (map (λ rows. (rows, columns)) runs)) ≡ product (joined runs) columns
+product_runs [] columns = refl
+product_runs (run ∷ runs) columns =
+    ap (λ l. product run columns ++ l) (product_runs runs columns) ∙ sym (product_append run (joined runs) columns)
+
+-- and what blocks make
+made_of : (blocks : List Block)
+    → joined (map (λ block. product block.rows block.columns) blocks)
+    ≡ joined (map (λ (input : List (List ℕ) × List ℕ). product input.0 input.1) (map rows_and_columns blocks))
+made_of [] = refl
+made_of (block ∷ blocks) = ap (λ l. product block.rows block.columns ++ l) (made_of blocks)
+
+-- blocks of the runs make the product
+pub product_blocks : (blocks : List Block) (runs : List (List (List ℕ))) (columns : List ℕ) → map rows_and_columns blocks ≡ map (λ rows. (rows, columns)) runs
+    → joined (map (λ block. product block.rows block.columns) blocks) ≡ product (joined runs) columns
+product_blocks blocks runs columns same =
+    made_of blocks
+    ∙ ap (λ inputs. joined (map (λ (input : List (List ℕ) × List ℕ). product input.0 input.1) inputs)) same
+    ∙ product_runs runs columns
+
+-- the entries of blocks that were filled
+pub filled_entries : (old new : List Block) → AllZip IsFilled old new
+    → AllZip (λ block answer. IfOk answer (λ (list : Vec ℕ Global). list.items ≡ product block.rows block.columns)) old (map (λ block. block.entries) new)
+filled_entries [] [] z = z
+filled_entries [] (n ∷ new) z = absurd z
+filled_entries (o ∷ old) [] z = absurd z
+filled_entries (o ∷ old) (n ∷ new) z = (z.0, filled_entries old new z.1)

@@ -2,6 +2,7 @@
 pub mod Wrapping
 pub mod Prefix
 pub mod Product
+pub mod Blocks
 pub mod Batch
 pub mod Stencil
 pub mod Strips

@@ -1,7 +1,5 @@
 -- The product of a matrix that is given by its rows and one whose columns stand one behind the other.
-use Rattle.std.specs.Prelude.{◌≡◌, ℕ, zero, suc, ◌+◌, ◌*◌, ◌/◌, List, [], ◌∷◌, Result, IfOk, Vec, length, map, drop}
-use Rattle.std.specs.declared.alloc.AllocError.{AllocError}
-use Rattle.std.specs.declared.alloc.Global.{Global}
+use Rattle.std.specs.Prelude.{ℕ, zero, suc, ◌+◌, ◌*◌, ◌/◌, List, [], ◌∷◌, length, map, drop}
 use Rattle.spindle_parts.specs.Pieces.{joined, counted}
 use Rattle.spindle_examples.specs.Wrapping.{wrapped}
 
@@ -24,7 +22,3 @@ row_of columns row =
 -- the product, row by row
 abbrev pub product : (rows : List (List ℕ)) → (columns : List ℕ) → List ℕ
 product rows columns = joined (map (row_of columns) rows)
-
--- what a job answers, given a row and the columns: the row of the product, where it has memory
-abbrev pub IsRowOf : List ℕ × List ℕ → Result (Vec ℕ Global) AllocError → Type 0
-IsRowOf input answer = IfOk answer (λ entries. entries.items ≡ row_of input.1 input.0)

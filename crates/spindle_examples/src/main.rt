@@ -1,5 +1,5 @@
 //! Programs of the users' fields, each a few dozen lines over the public calls of `spindle`, with its contract in its own
-//! terms: a batch that loses nothing, prefix sums in two rounds, a matrix product, a stencil of
+//! terms: a batch that loses nothing, prefix sums in two rounds, a matrix product in blocks that stand in place, a stencil of
 //! many passes, the same in place, and a game evaluated by rounds in rounds.
 //!
 //! The program runs each once over fixed numbers, and prints what comes out. The tests compute the same plainly. Where the
