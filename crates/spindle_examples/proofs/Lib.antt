@@ -5,4 +5,5 @@ mod Prefixes
 mod Products
 mod Passes
 mod Evaluations
+mod Reports
 pub mod Stencils

@@ -4,6 +4,7 @@ pub mod Prefix
 pub mod Product
 pub mod Blocks
 pub mod Batch
+pub mod Checked
 pub mod Stencil
 pub mod Strips
 pub mod Chomp

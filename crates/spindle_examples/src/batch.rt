@@ -1,11 +1,11 @@
 //! A batch of orders in a lock with slots, which may lose none: each order gets its bill, and only want of memory refuses the
 //! batch. An order whose bill would be too large is answered so, and fails none of the others.
-ghost use Rattle.std.specs.Prelude.{◌≡◌, ◌<◌, ◌≤◌, IfOk, OnErr, IsErrOf};
+ghost use Rattle.std.specs.Prelude.{◌≡◌, ◌<◌, ◌≤◌, None, IfOk, OnErr, IsErrOf};
 ghost use Rattle.std.specs.List.{AllZip};
 ghost use Rattle.std.proofs.Common.{rules};
 ghost use Rattle.spindle_examples.specs.Batch.{IsBillOf};
 
-use spindle::lock::{End, Gate, Job, JobCx, Pool};
+use spindle::lock::{End, Gate, Job, JobCx, Pool, TellsFailures};
 use spindle::{Fault, with_slots};
 use std::alloc::Global;
 use std::sync::Wait;
@@ -32,6 +32,8 @@ impl Job for Bill {
 
     ghost meets = { IsBillOf };
 
+    ghost fails = { λ bill. bill ≡ None };
+
     fn run<H: Threads + Wait + Sync>(
         _rt: &H,
         _alloc: Global,
@@ -41,7 +43,17 @@ impl Job for Bill {
         order.count.checked_mul(order.price)
     }
 
+    fn failed(bill: &Option<u32>) -> bool {
+        Self::is_failure(bill)
+    }
+
     ghost equal_is_same = { Prim.search rules };
+}
+
+impl TellsFailures for Bill {
+    fn is_failure(bill: &Option<u32>) -> bool {
+        bill.is_none()
+    }
 }
 
 /// The bill of each order, in their order, by one round of so many jobs; none where it is beyond 32 bits.

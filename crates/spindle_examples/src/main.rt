@@ -1,12 +1,15 @@
 //! Programs of the users' fields, each a few dozen lines over the public calls of `spindle`, with its contract in its own
-//! terms: a batch that loses nothing, prefix sums in two rounds, a matrix product in blocks that stand in place, a stencil of
-//! many passes, the same in place, and a game evaluated by rounds in rounds.
+//! terms: a batch that loses nothing, one that a failure stops, prefix sums in two rounds, a matrix product in blocks that stand
+//! in place, a stencil of many passes, the same in place, and a game evaluated by rounds in rounds.
 //!
 //! The program runs each once over fixed numbers, and prints what comes out. The tests compute the same plainly. Where the
 //! variable TRACE is set, it also prints who ran which job of a recorded round when, which differs from run to run.
 #![tactic(auto)]
 
 mod batch;
+#[cfg(test)]
+mod batch_tests;
+mod checked;
 mod chomp;
 mod evaluator;
 mod prefix;
@@ -19,24 +22,20 @@ mod tests;
 mod trace;
 
 use crate::batch::Order;
+use crate::checked::Checked;
 use crate::chomp::Board;
 use crate::stop::Stop;
-use spindle::lock::Pool;
+use spindle::lock::{NoGate, Pool};
+use std::alloc::Global;
 use std::env;
+use std::io::Print;
+use std::sync::Wait;
+use std::thread::Threads;
 
 fn main(rt: HostRuntime) -> Result<(), Stop> {
     let alloc = rt.alloc();
     let pool = Pool::of_machine(&rt);
-    let many = Order {
-        count: 3,
-        price: 250,
-    };
-    let dear = Order {
-        count: 65536,
-        price: 65536,
-    };
-    let bills = batch::bills(&rt, alloc, &pool, 2, vec![in alloc; many, dear, many]?)?;
-    println!(rt; "batch {bills:?}")?;
+    batches(&rt, alloc, &pool)?;
     let table = vec![in alloc; 3u64, 1, 4, 1, 5, 9, 2, 6]?;
     let sums = prefix::summed(&rt, alloc, &pool, 3, table)?;
     println!(rt; "prefix {sums:?}")?;
@@ -61,6 +60,31 @@ fn main(rt: HostRuntime) -> Result<(), Stop> {
         for (job, span) in trace::traced(&rt, alloc, 2)?.into_iter().enumerate() {
             let thread = span.thread.unwrap_or(0);
             println!(rt; "trace {job} {thread} {} {}", span.begun, span.done)?;
+        }
+    }
+    Ok(())
+}
+
+// Two batches of orders: one in which each order has its bill, and one that stops where an order comes to too much.
+fn batches<H: Threads + Wait + Sync + Print>(
+    rt: &H,
+    alloc: Global,
+    pool: &Pool<NoGate>,
+) -> Result<(), Stop> {
+    let many = Order {
+        count: 3,
+        price: 250,
+    };
+    let dear = Order {
+        count: 65536,
+        price: 65536,
+    };
+    let bills = batch::bills(rt, alloc, pool, 2, vec![in alloc; many, dear, many]?)?;
+    println!(rt; "batch {bills:?}")?;
+    for last in [many, dear] {
+        match checked::check_orders(rt, alloc, pool, 3, vec![in alloc; many, many, last]?)? {
+            Checked::Amounts(amounts) => println!(rt; "checked {amounts:?}")?,
+            Checked::Stopped(piece, _) => println!(rt; "checked, and stopped at {piece}")?,
         }
     }
     Ok(())

@@ -1,14 +1,13 @@
 //! The examples against the same computed plainly, over random inputs, with one thread and with several.
 
-use crate::batch::Order;
 use crate::chomp::Board;
-use crate::{batch, evaluator, prefix, product, stencil, strips};
+use crate::{evaluator, prefix, product, stencil, strips};
 use spindle::Fault;
 use spindle::lock::{Limits, NoGate, Pool};
 use std::alloc::Global;
 
-// A generator of pseudo-random numbers: Knuth's multiplier, whose upper half is used.
-fn next(state: &mut u64) -> u32 {
+/// A generator of pseudo-random numbers: Knuth's multiplier, whose upper half is used.
+pub fn next(state: &mut u64) -> u32 {
     *state = state
         .wrapping_mul(6364136223846793005)
         .wrapping_add(1442695040888963407);
@@ -148,32 +147,6 @@ fn a_product_by_blocks_is_the_one_entry_by_entry(rt: HostRuntime) -> Result<(), 
             let (left, right) = (left.clone()?, right.clone()?);
             let entries = product::multiplied(&rt, alloc, &pool, jobs, left, right)?;
             assert_eq!(rt; entries, plain.clone()?, "{rows} rows in {jobs} jobs");
-        }
-    }
-    Ok(())
-}
-
-#[test]
-fn each_order_of_a_batch_has_its_bill(rt: HostRuntime) -> Result<(), Fault> {
-    let alloc = rt.alloc();
-    let mut state = 7;
-    for size in [0, 1, 2, 3, 10, 257] {
-        let mut orders = Vec::new(alloc);
-        let mut plain = Vec::new(alloc);
-        for _ in 0..size {
-            let (count, price) = (next(&mut state) >> 16, next(&mut state) >> 15);
-            let due = u64::from(count) * u64::from(price);
-            orders.push(Order { count, price })?;
-            plain.push(if due >> 32 == 0 {
-                Some(due as u32)
-            } else {
-                None
-            })?;
-        }
-        for (threads, jobs) in [(1, 1), (1, 3), (4, 2), (4, 300)] {
-            let pool = Pool::new(threads, Limits::new(), NoGate);
-            let bills = batch::bills(&rt, alloc, &pool, jobs, orders.clone()?)?;
-            assert_eq!(rt; bills, plain.clone()?, "{size} orders in {jobs} jobs");
         }
     }
     Ok(())

@@ -1,4 +1,3 @@
 -- The lemmas of the examples.
 pub mod Answering
-pub mod Batches
 pub mod Trails

@@ -34,7 +34,6 @@ mod refused_lists;
 mod refused_slots;
 #[cfg(test)]
 mod refused_trying;
-pub mod sales;
 #[cfg(test)]
 mod slot_rows;
 #[cfg(test)]

@@ -1,4 +1,4 @@
--- What the report of a batch of sales tells of their amounts.
+-- What the report of a batch of orders tells of what they come to.
 use Rattle.std.proofs.Common.{◌≡◌, ◌∙◌, ◌^◌, ◌<◌, ◌≤◌, ℕ, zero, suc, List, [], ◌∷◌, Option, None, Some, unwrap_or, Vec, Global, map, length, length-append, slice_index_or, All, Any, ⊎_elim, refl, sym, ap, subst, arith}
 use Rattle.std.specs.Option.{SomeIff}
 use Rattle.std.specs.List.{AllZip}
@@ -9,8 +9,9 @@ use Rattle.spindle_trays.specs.PieceRuns.{piece_at}
 use Rattle.spindle_trays.specs.Reports.{HasFailed, IsAnswered, IsFirstFailed, IsReport, NoneFailed, outputs_of}
 use Rattle.spindle_trays.specs.declared.lock.report.Report.{Report}
 use Rattle.spindle_trays.proofs.Reports.{all_answered, first_is_least}
-use Rattle.spindle_vectors.specs.declared.sales.Sale.{Sale}
-use Rattle.spindle_vectors.specs.Sales.{amount_of, IsAmountOf, HasTooLarge}
+use Rattle.spindle_examples.specs.declared.batch.Order.{Order}
+use Rattle.spindle_examples.specs.Batch.{due, IsBillOf}
+use Rattle.spindle_examples.specs.Checked.{HasTooLarge}
 
 -- of lists that belong together place by place: where one has an element, so has the other
 zip_any : {A B : Type 0} (R : A → B → Type 0) (P : A → Type 0) (Q : B → Type 0) → ((a : A) (b : B) → R a b → P a → Q b) → (xs : List A) (ys : List B)
@@ -66,30 +67,30 @@ module _ {A : Type 0} (amount : A → ℕ) (limit : ℕ) where
   pub one_missing : (xs : List A) (ys : List (Option ℕ)) → AllZip Says xs ys → Any (λ a. limit ≤ amount a) xs → Any (λ o. o ≡ None) ys
   one_missing xs ys z h = zip_any Says (λ a. limit ≤ amount a) (λ o. o ≡ None) none_if xs ys z h
 
--- a sale has no amount
+-- an order has no bill
 abbrev Missing : Option ℕ → Type 0
-Missing amount = amount ≡ None
+Missing bill = bill ≡ None
 
-module _ (sales : List Sale) (n : ℕ) (report : Report (Option ℕ)) (told : IsReport IsAmountOf Missing sales n report) where
+module _ (orders : List Order) (n : ℕ) (report : Report (Option ℕ)) (told : IsReport IsBillOf Missing orders n report) where
   abbrev ran : List (ℕ × Vec (Option ℕ) Global)
   ran = report.ran.items
 
   -- where no piece has failed, the outputs are the amounts
-  pub all_amounts : (0 < length sales → 0 < n) → NoneFailed Missing ran → map (λ amount. unwrap_or amount 0) (outputs_of ran) ≡ map amount_of sales
+  pub all_amounts : (0 < length orders → 0 < n) → NoneFailed Missing ran → map (λ bill. unwrap_or bill 0) (outputs_of ran) ≡ map due orders
   all_amounts some none =
       let skipped = ⊎_elim (λ e. e) (λ (h : Any (HasFailed Missing) ran). absurd (none h.0 h.1 h.2 (subst (HasFailed Missing) (sym h.3) h.4))) told.stopped in
-      whole amount_of (2 ^ 32) sales (outputs_of ran) (all_answered IsAmountOf Missing sales n report some skipped told) (none_fails Missing ran none)
+      whole due (2 ^ 32) orders (outputs_of ran) (all_answered IsBillOf Missing orders n report some skipped told) (none_fails Missing ran none)
 
-  -- the first piece that has failed is the first with a sale that is too large
+  -- the first piece that has failed is the first with an order that comes to too much
   pub first_too_large : (number : ℕ) → IsFirstFailed Missing ran number
-      → HasTooLarge (piece_at sales n number) × All (λ piece. HasTooLarge (piece_at sales n piece.0) → number ≤ piece.0) ran
+      → HasTooLarge (piece_at orders n number) × All (λ piece. HasTooLarge (piece_at orders n piece.0) → number ≤ piece.0) ran
   first_too_large number first =
       let before = first.0 in let after = first.1 in let piece = first.2 in let split = first.3 in let i = length before in
       let long = length-append before (piece ∷ after) in let all = ap length split in let inside : i < length ran = omega arith in
       let there : slice_index_or ran i piece ≡ piece = ap (λ ps. slice_index_or ps i piece) split ∙ get_or_at before piece after piece i refl in
-      let answered = subst (IsAnswered IsAmountOf sales n) there (told.answers i piece inside) in
+      let answered = subst (IsAnswered IsBillOf orders n) there (told.answers i piece inside) in
       let least = first_is_least Missing ran number told.ran first in (
-        subst (λ (j : ℕ). HasTooLarge (piece_at sales n j)) first.4 (one_too_large amount_of (2 ^ 32) (piece_at sales n piece.0) piece.1.items answered first.5),
+        subst (λ (j : ℕ). HasTooLarge (piece_at orders n j)) first.4 (one_too_large due (2 ^ 32) (piece_at orders n piece.0) piece.1.items answered first.5),
         (λ k d lt large. let its = slice_index_or ran k d in
-            least k d lt (one_missing amount_of (2 ^ 32) (piece_at sales n its.0) its.1.items (told.answers k d lt) large)),
+            least k d lt (one_missing due (2 ^ 32) (piece_at orders n its.0) its.1.items (told.answers k d lt) large)),
       )
