@@ -2,7 +2,7 @@
 
 use crate::callers;
 use crate::checks::{are, is};
-use crate::refusals::{are_seven_squares, seven_items};
+use crate::sevens::{are_seven_squares, seven_items};
 use spindle::lock::{Limits, NoGate, Pool};
 use spindle::{DEFAULT_PAUSE_LIMIT, DEFAULT_SPIN_LIMIT, Fault, for_each, for_each_raw};
 use std::hint::spin_loop;

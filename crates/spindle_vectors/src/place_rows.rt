@@ -2,7 +2,7 @@
 ghost use Rattle.std.specs.Prelude.{◌<◌};
 
 use crate::checks::is;
-use crate::refusals::seven_items;
+use crate::sevens::seven_items;
 use spindle::lock::{End, InPlace, JobCx, Limits, NoGate, Pool, Remake};
 use spindle::{Fault, with_slots_in_place};
 use std::alloc::Global;

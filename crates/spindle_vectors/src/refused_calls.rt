@@ -7,7 +7,7 @@ ghost use Rattle.std.specs.Prelude.{◌<◌};
 use crate::checks::{are, is};
 use crate::chunks::{Halve, LastOdd};
 use crate::jobs::{Calls, Counting, Square};
-use crate::refusals::{are_seven_squares, seven_items};
+use crate::sevens::{are_seven_squares, seven_items};
 use spindle::lock::{ChunkRounds, Limits, Pool, Rounds};
 use spindle::{Fault, SharedList, reduce, run_one, with_lock, with_slots};
 use std::alloc::Global;
@@ -32,16 +32,16 @@ fn refused_call_of_one_round_has_run_no_job(rt: HostRuntime) -> Result<(), Fault
     Ok(())
 }
 
-// The list of a fold; where memory for it is refused once, it is asked for again.
-fn four_numbers(alloc: Global) -> Result<SharedList<u32>, Fault> {
-    for _ in 0..1 {
-        if let Ok(numbers) = vec![in alloc; 2u32, 7, 4, 6]
-            && let Ok(list) = SharedList::from_vec(alloc, numbers)
-        {
-            return Ok(list);
-        }
+// The list of these numbers; where memory for it is refused once, it is asked for again.
+fn list_of(alloc: Global, numbers: [u32; 4]) -> Result<SharedList<u32>, Fault> {
+    match shared(alloc, numbers) {
+        Ok(list) => Ok(list),
+        Err(_) => shared(alloc, numbers),
     }
-    Ok(SharedList::from_vec(alloc, vec![in alloc; 2u32, 7, 4, 6]?)?)
+}
+
+fn shared(alloc: Global, numbers: [u32; 4]) -> Result<SharedList<u32>, Fault> {
+    Ok(SharedList::from_vec(alloc, Vec::from_array(alloc, numbers)?)?)
 }
 
 #[test]
@@ -49,7 +49,7 @@ fn refused_fold_has_run_no_job(rt: HostRuntime) -> Result<(), Fault> {
     let alloc = rt.alloc();
     let calls = Calls::new();
     let pool = Pool::new(4, Limits::new(), Counting { calls: &calls });
-    let list = four_numbers(alloc)?;
+    let list = list_of(alloc, [2, 7, 4, 6])?;
     let total = match reduce::<LastOdd>(&rt, alloc, &pool, 0, &list) {
         Ok(total) => total,
         Err(fault) => {
@@ -83,7 +83,7 @@ fn refused_round_over_chunks_is_answered_when_asked_again(rt: HostRuntime) -> Re
     let alloc = rt.alloc();
     let calls = Calls::new();
     let pool = Pool::new(2, Limits::new(), Counting { calls: &calls });
-    let even = four_even_numbers(alloc)?;
+    let even = list_of(alloc, [2, 6, 4, 0])?;
     let mut full = 0usize;
     for _ in 0..2 {
         let answer = with_lock::<Halve, _, _, _, _, _>(&rt, alloc, &pool, 2, |leader| {
@@ -96,17 +96,6 @@ fn refused_round_over_chunks_is_answered_when_asked_again(rt: HostRuntime) -> Re
     }
     assert!(rt; 0 < full);
     Ok(())
-}
-
-fn four_even_numbers(alloc: Global) -> Result<SharedList<u32>, Fault> {
-    for _ in 0..1 {
-        if let Ok(numbers) = vec![in alloc; 2u32, 6, 4, 0]
-            && let Ok(list) = SharedList::from_vec(alloc, numbers)
-        {
-            return Ok(list);
-        }
-    }
-    Ok(SharedList::from_vec(alloc, vec![in alloc; 2u32, 6, 4, 0]?)?)
 }
 
 #[test]

@@ -6,7 +6,7 @@ ghost use Rattle.spindle.specs.SlotLeaders.{lock_slots};
 
 use crate::checks::is;
 use crate::jobs::{Calls, Counting, Square};
-use crate::refusals::{are_seven_squares, unopened_or};
+use crate::sevens::{are_seven_squares, unopened_or};
 use spindle::lock::{Limits, Pool};
 use spindle::{Fault, with_slots};
 use std::sync::atomic::{AtomicUsize, Ordering};
@@ -62,7 +62,7 @@ fn refused_round_over_numbers_in_slots_has_run_no_job(rt: HostRuntime) -> Result
             Ok::<(), Fault>(())
         },
     );
-    unopened_or(&rt, &opened, answer)
+    unopened_or(&opened, answer)
 }
 
 // An empty round that took memory would be refused it once.
@@ -82,5 +82,5 @@ fn refused_nothing_in_slots_where_nothing_is_run(rt: HostRuntime) -> Result<(), 
         is(&rt, calls.in_all(), (0, 0));
         Ok::<(), Fault>(())
     });
-    unopened_or(&rt, &opened, answer)
+    unopened_or(&opened, answer)
 }

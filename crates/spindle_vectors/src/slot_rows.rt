@@ -1,13 +1,95 @@
 //! Rows of locks with slots: a round has as many pieces as slots at most, loses none, and is refused for memory alone.
-ghost use Rattle.std.specs.Prelude.{◌≡◌, ◌<◌};
+ghost use Rattle.std.specs.Prelude.{◌≡◌, ◌<◌, ◌≤◌};
 ghost use Rattle.spindle.specs.SlotLeaders.{lock_slots};
 
 use crate::checks::{are, is};
 use crate::gates::Meetings;
-use crate::jobs::{Calls, Counting, Place, Square};
-use spindle::lock::{Limits, NoGate, Pool};
+use crate::jobs::{Calls, Counting, Place, Square, one_each};
+use spindle::lock::{Gate, Limits, NoGate, Pool};
 use spindle::{Fault, with_slots};
+use std::alloc::Global;
+use std::process::Abort;
+use std::sync::Wait;
 use std::sync::atomic::{AtomicUsize, Ordering};
+use std::thread::Threads;
+
+// The squares of the numbers, by one round in a lock of so many slots.
+fn squares<G: Gate + Sync, H: Threads + Wait + Sync>(
+    rt: &H,
+    alloc: Global,
+    pool: &Pool<G>,
+    slots: usize,
+    jobs: usize,
+    numbers: Vec<usize>,
+) -> Result<Vec<u128>, Fault>
+    requires slots { (1 ≤ slots) × (slots ≤ 4294967295) }
+    requires jobs { 0 < jobs }
+{
+    with_slots::<Square, _, _, _, _, _>(
+        rt,
+        alloc,
+        pool,
+        pool.max_num_threads(),
+        slots,
+        |leader|
+            requires { 0 < jobs }
+        { leader.for_each(rt, alloc, jobs, numbers) },
+    )?
+}
+
+// So many rounds of one lock of so many slots, in each of which the first numbers have these squares.
+fn square_often<G: Gate + Sync, H: Threads + Wait + Abort + Sync>(
+    rt: &H,
+    alloc: Global,
+    pool: &Pool<G>,
+    slots: usize,
+    jobs: usize,
+    rounds: usize,
+    squares: &[u128],
+) -> Result<(), Fault>
+    requires slots { (1 ≤ slots) × (slots ≤ 4294967295) }
+    requires jobs { 0 < jobs }
+{
+    with_slots::<Square, _, _, _, _, _>(
+        rt,
+        alloc,
+        pool,
+        pool.max_num_threads(),
+        slots,
+        |leader|
+            requires { 0 < jobs }
+        {
+            for _ in 0..rounds {
+                let numbers = (0..squares.len()).collect(alloc)?;
+                are(rt, &leader.for_each(rt, alloc, jobs, numbers)?, squares);
+            }
+            Ok::<(), Fault>(())
+        },
+    )?
+}
+
+// Where the jobs of a round run that has as many as the lock has slots.
+fn places<G: Gate + Sync, H: Threads + Wait + Sync>(
+    rt: &H,
+    alloc: Global,
+    pool: &Pool<G>,
+    most: usize,
+    slots: usize,
+) -> Result<Vec<(Option<usize>, usize, usize)>, Fault>
+    requires most { 0 < most }
+    requires slots { (1 ≤ slots) × (slots ≤ 4294967295) }
+{
+    with_slots::<Place, _, _, _, _, _>(
+        rt,
+        alloc,
+        pool,
+        most,
+        slots,
+        |leader|
+            requires { 0 < slots }
+        { leader.for_each(rt, alloc, slots, (0..slots).collect(alloc)?) },
+    )?
+}
 
 #[test]
 fn ten_numbers_are_squared_in_slots(rt: HostRuntime) -> Result<(), Fault> {
@@ -24,16 +106,7 @@ fn ten_numbers_are_squared_in_slots(rt: HostRuntime) -> Result<(), Fault> {
     ] {
         let pool = Pool::new(threads, Limits::new(), NoGate);
         let numbers = vec![in alloc; 0, 1, 2, 3, 4, 5, 6, 7, 8, 9]?;
-        let squares = with_slots::<Square, _, _, _, _, _>(
-            &rt,
-            alloc,
-            &pool,
-            threads,
-            slots,
-            |leader|
-                requires { 0 < jobs }
-            { leader.for_each(&rt, alloc, jobs, numbers) },
-        )??;
+        let squares = squares(&rt, alloc, &pool, slots, jobs, numbers)?;
         are(&rt, &squares, &[0, 1, 4, 9, 16, 25, 36, 49, 64, 81]);
     }
     Ok(())
@@ -69,16 +142,9 @@ fn a_round_has_as_many_jobs_as_slots_at_most(rt: HostRuntime) -> Result<(), Faul
         let calls = Calls::new();
         let pool = Pool::new(4, Limits::new(), Counting { calls: &calls });
         let numbers = vec![in alloc; 0, 1, 2, 3, 4, 5, 6, 7, 8, 9]?;
-        let squares = with_slots::<Square, _, _, _, _, _>(
-            &rt,
-            alloc,
-            &pool,
-            4,
-            slots,
-            |leader| { leader.for_each(&rt, alloc, 8, numbers) },
-        )??;
+        let squares = squares(&rt, alloc, &pool, slots, 8, numbers)?;
         are(&rt, &squares, &[0, 1, 4, 9, 16, 25, 36, 49, 64, 81]);
-        assert_eq!(rt; calls.in_all(), (jobs, jobs), "{slots} slots");
+        is(&rt, calls.in_all(), (jobs, jobs));
         is(&rt, calls.of_job(0), (1, 1));
     }
     Ok(())
@@ -101,11 +167,8 @@ fn one_slot_is_one_direct_job(rt: HostRuntime) -> Result<(), Fault> {
 
 #[test]
 fn a_leader_alone_has_number_0_in_a_round_in_slots(rt: HostRuntime) -> Result<(), Fault> {
-    let alloc = rt.alloc();
     let pool = Pool::new(16, Limits::new(), NoGate);
-    let places = with_slots::<Place, _, _, _, _, _>(&rt, alloc, &pool, 1, 2, |leader| {
-        leader.for_each(&rt, alloc, 2, vec![in alloc; 0, 1]?)
-    })??;
+    let places = places(&rt, rt.alloc(), &pool, 1, 2)?;
     are(&rt, &places, &[(Some(0), 1, 1), (Some(0), 1, 1)]);
     Ok(())
 }
@@ -131,33 +194,18 @@ fn more_slots_than_memory_holds_are_refused(rt: HostRuntime) {
 // A round that its leader ran alone would miss the second job at the gate.
 #[test]
 fn two_jobs_in_slots_wait_for_each_other(rt: HostRuntime) -> Result<(), Fault> {
-    let alloc = rt.alloc();
     let meetings = Meetings::new();
-    let pool = meetings.pool(2);
-    with_slots::<Square, _, _, _, _, _>(&rt, alloc, &pool, 2, 2, |leader| {
-        for _ in 0..50 {
-            let squares = leader.for_each(&rt, alloc, 2, vec![in alloc; 5, 6]?)?;
-            are(&rt, &squares, &[25, 36]);
-        }
-        Ok::<(), Fault>(())
-    })??;
+    square_often(&rt, rt.alloc(), &meetings.pool(2), 2, 2, 50, &[0, 1])?;
     is(&rt, meetings.counts(), (100, 0));
     Ok(())
 }
 
 #[test]
 fn four_threads_at_once_have_four_numbers_in_slots(rt: HostRuntime) -> Result<(), Fault> {
-    let alloc = rt.alloc();
     let meetings = Meetings::new();
-    let pool = meetings.pool(4);
-    let places = with_slots::<Place, _, _, _, _, _>(&rt, alloc, &pool, 4, 4, |leader| {
-        leader.for_each(&rt, alloc, 4, vec![in alloc; 0, 1, 2, 3]?)
-    })??;
+    let places = places(&rt, rt.alloc(), &meetings.pool(4), 4, 4)?;
     is(&rt, meetings.counts(), (4, 0));
-    for thread in 0..4 {
-        let here = places.iter().filter(|place| place.0 == Some(thread));
-        assert_eq!(rt; here.count(), 1, "thread {thread}");
-    }
+    assert!(rt; one_each(&places, 4));
     Ok(())
 }
 
@@ -168,9 +216,9 @@ fn two_jobs_in_slots_that_met_each_count_two_threads(rt: HostRuntime) -> Result<
     let meetings = Meetings::new();
     let pool = meetings.pool(2);
     with_slots::<Place, _, _, _, _, _>(&rt, alloc, &pool, 2, 2, |leader| {
-        for round in 0..50 {
+        for _ in 0..50 {
             let places = leader.for_each(&rt, alloc, 2, vec![in alloc; 0, 1]?)?;
-            assert_eq!(rt; (places[0].1, places[1].1), (2, 2), "round {round}");
+            is(&rt, (places[0].1, places[1].1), (2, 2));
             is(&rt, leader.current_num_threads(), 2);
         }
         Ok::<(), Fault>(())
@@ -196,15 +244,8 @@ fn threads_that_cannot_be_started_change_no_answer_in_slots(rt: HostRuntime) -> 
 
 #[test]
 fn ten_thousand_rounds_in_slots(rt: HostRuntime) -> Result<(), Fault> {
-    let alloc = rt.alloc();
     let pool = Pool::new(3, Limits::new(), NoGate);
-    with_slots::<Square, _, _, _, _, _>(&rt, alloc, &pool, 3, 5, |leader| {
-        for _ in 0..10000 {
-            let squares = leader.for_each(&rt, alloc, 3, vec![in alloc; 1, 2, 3]?)?;
-            are(&rt, &squares, &[1, 4, 9]);
-        }
-        Ok::<(), Fault>(())
-    })?
+    square_often(&rt, rt.alloc(), &pool, 5, 3, 10000, &[0, 1, 4])
 }
 
 // More threads than cores, none of which makes a turn before it sleeps, and rounds that leave slots empty.

@@ -1,41 +1,30 @@
 //! Rows of rounds that several threads run: idle threads that sleep at once, jobs that wait for each other, and locks
 //! some of whose threads can't be started.
 
-use crate::callers;
 use crate::checks::{are, is};
 use crate::gates::Meetings;
-use crate::jobs::{Calls, Counting, Place, Square};
-use spindle::lock::{Limits, NoGate, Pool};
-use spindle::{Fault, with_lock};
+use crate::jobs::{Calls, Counting, Place, Square, one_each};
+use crate::rounds::{round_of, square_often, square_raw_often};
+use spindle_parts::fault::Fault;
+use spindle_trays::crew::limits::Limits;
+use spindle_trays::job::gate::NoGate;
+use spindle_trays::lock::pool::Pool;
+use spindle_trays::lock::root::with_lock;
 
 #[test]
 fn threads_that_sleep_at_once_miss_no_round(rt: HostRuntime) -> Result<(), Fault> {
-    let alloc = rt.alloc();
     let pool = Pool::new(4, Limits { spin: 0, pause: 0 }, NoGate);
-    with_lock::<Square, _, _, _, _, _>(&rt, alloc, &pool, 4, |leader| {
-        for _ in 0..1000 {
-            let numbers = vec![in alloc; 0, 1, 2, 3, 4, 5, 6, 7]?;
-            let squares = leader.for_each(&rt, alloc, 4, numbers)?;
-            are(&rt, &squares, &[0, 1, 4, 9, 16, 25, 36, 49]);
-        }
-        Ok::<(), Fault>(())
-    })?
+    let squares = [0, 1, 4, 9, 16, 25, 36, 49];
+    square_often(&rt, rt.alloc(), &pool, 4, 1000, squares.as_slice())
 }
 
 // More threads than cores, none of which makes a turn before it sleeps: a wake that passes the mutex by would come between
 // a thread's last look and its sleep in some round.
 #[test]
 fn many_threads_that_sleep_at_once_miss_no_round(rt: HostRuntime) -> Result<(), Fault> {
-    let alloc = rt.alloc();
     let pool = Pool::new(12, Limits { spin: 0, pause: 0 }, NoGate);
-    with_lock::<Square, _, _, _, _, _>(&rt, alloc, &pool, 12, |leader| {
-        for _ in 0..3000 {
-            let squares = leader.for_each_raw(&rt, alloc, 12)?;
-            is(&rt, squares[11], 121);
-        }
-        Ok::<(), Fault>(())
-    })??;
-    Ok(())
+    let squares = [0, 1, 4, 9, 16, 25, 36, 49, 64, 81, 100, 121];
+    square_raw_often(&rt, rt.alloc(), &pool, 3000, squares.as_slice())
 }
 
 #[test]
@@ -44,9 +33,7 @@ fn each_job_of_many_threads_passes_the_gate_once(rt: HostRuntime) -> Result<(), 
     let calls = Calls::new();
     let pool = Pool::new(4, Limits::new(), Counting { calls: &calls });
     let numbers = vec![in alloc; 0, 1, 2, 3, 4, 5, 6, 7, 8, 9]?;
-    let squares = with_lock::<Square, _, _, _, _, _>(&rt, alloc, &pool, 4, |leader| {
-        leader.for_each(&rt, alloc, 4, numbers)
-    })??;
+    let squares = round_of::<Square, _, _>(&rt, alloc, &pool, 4, 4, numbers)?;
     are(&rt, &squares, &[0, 1, 4, 9, 16, 25, 36, 49, 64, 81]);
     for number in 0..4 {
         is(&rt, calls.of_job(number), (1, 1));
@@ -57,16 +44,8 @@ fn each_job_of_many_threads_passes_the_gate_once(rt: HostRuntime) -> Result<(), 
 
 #[test]
 fn four_jobs_of_each_round_run_at_once(rt: HostRuntime) -> Result<(), Fault> {
-    let alloc = rt.alloc();
     let meetings = Meetings::new();
-    let pool = meetings.pool(4);
-    with_lock::<Square, _, _, _, _, _>(&rt, alloc, &pool, 4, |leader| {
-        for _ in 0..3 {
-            let squares = leader.for_each(&rt, alloc, 4, vec![in alloc; 0, 1, 2, 3]?)?;
-            are(&rt, &squares, &[0, 1, 4, 9]);
-        }
-        Ok::<(), Fault>(())
-    })??;
+    square_often(&rt, rt.alloc(), &meetings.pool(4), 4, 3, &[0, 1, 4, 9])?;
     is(&rt, meetings.counts(), (12, 0));
     Ok(())
 }
@@ -75,15 +54,10 @@ fn four_jobs_of_each_round_run_at_once(rt: HostRuntime) -> Result<(), Fault> {
 fn four_threads_at_once_have_four_numbers(rt: HostRuntime) -> Result<(), Fault> {
     let alloc = rt.alloc();
     let meetings = Meetings::new();
-    let pool = meetings.pool(4);
-    let places = with_lock::<Place, _, _, _, _, _>(&rt, alloc, &pool, 4, |leader| {
-        leader.for_each(&rt, alloc, 4, vec![in alloc; 0, 1, 2, 3]?)
-    })??;
+    let items = vec![in alloc; 0, 1, 2, 3]?;
+    let places = round_of::<Place, _, _>(&rt, alloc, &meetings.pool(4), 4, 4, items)?;
     is(&rt, meetings.counts(), (4, 0));
-    for thread in 0..4 {
-        let here = places.iter().filter(|place| place.0 == Some(thread));
-        assert_eq!(rt; here.count(), 1, "thread {thread}");
-    }
+    assert!(rt; one_each(&places, 4));
     Ok(())
 }
 
@@ -130,10 +104,8 @@ fn a_leader_with_helpers_has_no_number_outside_a_published_round(
 fn two_jobs_wait_for_each_other(rt: HostRuntime) -> Result<(), Fault> {
     let alloc = rt.alloc();
     let meetings = Meetings::new();
-    let pool = meetings.pool(2);
-    let squares = with_lock::<Square, _, _, _, _, _>(&rt, alloc, &pool, 2, |leader| {
-        leader.for_each(&rt, alloc, 2, vec![in alloc; 5, 6]?)
-    })??;
+    let items = vec![in alloc; 5, 6]?;
+    let squares = round_of::<Square, _, _>(&rt, alloc, &meetings.pool(2), 2, 2, items)?;
     are(&rt, &squares, &[25, 36]);
     is(&rt, meetings.counts(), (2, 0));
     Ok(())
@@ -164,9 +136,7 @@ fn without_helpers_jobs_cannot_meet(rt: HostRuntime) -> Result<(), Fault> {
     let alloc = rt.alloc();
     let meetings = Meetings::new();
     let pool = Pool::with_starts(2, Limits::new(), meetings.of_jobs(2), 0);
-    let squares = with_lock::<Square, _, _, _, _, _>(&rt, alloc, &pool, 2, |leader| {
-        leader.for_each(&rt, alloc, 2, vec![in alloc; 5, 6]?)
-    })??;
+    let squares = round_of::<Square, _, _>(&rt, alloc, &pool, 2, 2, vec![in alloc; 5, 6]?)?;
     are(&rt, &squares, &[25, 36]);
     is(&rt, meetings.counts(), (2, 1));
     Ok(())
@@ -174,15 +144,8 @@ fn without_helpers_jobs_cannot_meet(rt: HostRuntime) -> Result<(), Fault> {
 
 #[test]
 fn ten_thousand_rounds_in_one_lock(rt: HostRuntime) -> Result<(), Fault> {
-    let alloc = rt.alloc();
     let pool = Pool::new(3, Limits::new(), NoGate);
-    with_lock::<Square, _, _, _, _, _>(&rt, alloc, &pool, 3, |leader| {
-        for _ in 0..10000 {
-            let squares = leader.for_each(&rt, alloc, 3, vec![in alloc; 1, 2, 3]?)?;
-            are(&rt, &squares, &[1, 4, 9]);
-        }
-        Ok::<(), Fault>(())
-    })?
+    square_often(&rt, rt.alloc(), &pool, 3, 10000, &[0, 1, 4])
 }
 
 #[test]
@@ -190,7 +153,7 @@ fn a_thousand_locks_in_turn(rt: HostRuntime) -> Result<(), Fault> {
     let alloc = rt.alloc();
     let pool = Pool::new(2, Limits::new(), NoGate);
     for _ in 0..1000 {
-        let squares = callers::squares(&rt, alloc, &pool, 2, vec![in alloc; 3, 4]?)?;
+        let squares = round_of::<Square, _, _>(&rt, alloc, &pool, 2, 2, vec![in alloc; 3, 4]?)?;
         are(&rt, &squares, &[9, 16]);
     }
     Ok(())
@@ -199,6 +162,10 @@ fn a_thousand_locks_in_turn(rt: HostRuntime) -> Result<(), Fault> {
 #[test]
 fn sixty_four_threads_on_few_processors(rt: HostRuntime) -> Result<(), Fault> {
     let alloc = rt.alloc();
+    let mut squares = Vec::with_capacity(alloc, 100)?;
+    for number in 0..100u128 {
+        squares.push(number.wrapping_mul(number))?;
+    }
     for limits in [
         Limits::new(),
         Limits { spin: 0, pause: 0 },
@@ -212,14 +179,7 @@ fn sixty_four_threads_on_few_processors(rt: HostRuntime) -> Result<(), Fault> {
         },
     ] {
         let pool = Pool::new(64, limits, NoGate);
-        with_lock::<Square, _, _, _, _, _>(&rt, alloc, &pool, 64, |leader| {
-            for _ in 0..50 {
-                let squares = leader.for_each_raw(&rt, alloc, 100)?;
-                assert_eq!(rt; squares.len(), 100);
-                is(&rt, squares[99], 9801);
-            }
-            Ok::<(), Fault>(())
-        })??;
+        square_raw_often(&rt, alloc, &pool, 50, &squares)?;
     }
     Ok(())
 }
@@ -248,7 +208,7 @@ fn a_closure_that_returns_early_closes_its_lock(rt: HostRuntime) -> Result<(), F
         Ok(100)
     })??;
     is(&rt, last, 5);
-    let squares = callers::squares(&rt, alloc, &pool, 4, vec![in alloc; 5, 6]?)?;
+    let squares = round_of::<Square, _, _>(&rt, alloc, &pool, 4, 4, vec![in alloc; 5, 6]?)?;
     are(&rt, &squares, &[25, 36]);
     Ok(())
 }

@@ -6,12 +6,16 @@
 ghost use Rattle.std.specs.Prelude.{◌<◌};
 
 use crate::checks::is;
-use crate::jobs::{Calls, Counting, Length};
-use crate::refusals::unopened_or;
-use crate::refused_lists::{comes_out_again, seven_clones, three_numbers};
+use crate::jobs::{Calls, Counting};
+use crate::refused_lists::{Length, comes_out_again, seven_clones, three_numbers};
+use crate::sevens::unopened_or;
 use crate::trying_rows::{Trying, is_report, items};
-use spindle::lock::{Leader, Limits, NoGate, Pool};
-use spindle::{Fault, with_lock};
+use spindle_parts::fault::Fault;
+use spindle_trays::crew::limits::Limits;
+use spindle_trays::job::gate::NoGate;
+use spindle_trays::lock::leader::Leader;
+use spindle_trays::lock::pool::Pool;
+use spindle_trays::lock::root::with_lock;
 use std::alloc::Global;
 use std::process::Abort;
 use std::sync::Wait;
@@ -74,7 +78,7 @@ fn try_in_three_rounds<H: Threads + Wait + Abort + Sync>(
         }
         Ok::<(), Fault>(())
     });
-    unopened_or(rt, &opened, answer)
+    unopened_or(&opened, answer)
 }
 
 #[test]
@@ -121,7 +125,7 @@ fn refused_nothing_where_nothing_is_tried(rt: HostRuntime) -> Result<(), Fault> 
         is(&rt, calls.in_all(), (0, 0));
         Ok::<(), Fault>(())
     });
-    unopened_or(&rt, &opened, answer)
+    unopened_or(&opened, answer)
 }
 
 // Tries seven clones of a list; whatever that answers, no clone is left.

@@ -1,10 +1,10 @@
 //! What a leader gathers where a piece is missing or a stranger stands in its place, played on the trays by one thread, since
 //! no round of a lock loses a piece: the least of these numbers is lost, and the trays keep nothing.
 
-use crate::callers::Square;
 use crate::checks::{are, is};
 use crate::gathering_rows::squared;
-use spindle::SharedList;
+use crate::jobs::Square;
+use spindle_lists::SharedList;
 use spindle_trays::pieces::runs::Pieces;
 use spindle_trays::pieces::trays::Trays;
 use std::alloc::Global;
@@ -17,8 +17,8 @@ use std::test::Fail;
 fn gathered<H: Wait + Abort>(
     rt: &H,
     alloc: Global,
-    brought_back: &[(usize, u32)],
-) -> Result<(Result<(), usize>, Vec<u64>), Fail> {
+    brought_back: &[(usize, usize)],
+) -> Result<(Result<(), usize>, Vec<u128>), Fail> {
     let items = SharedList::from_vec(alloc, vec![in alloc; 1, 2, 3, 4, 5]?)?;
     let kept = items.clone()?;
     let len = items.len();
@@ -43,7 +43,7 @@ fn gathered<H: Wait + Abort>(
     Ok((answer, outputs))
 }
 
-const ALL: [(usize, u32); 5] = [(0, 1), (1, 2), (2, 3), (3, 4), (4, 5)];
+const ALL: [(usize, usize); 5] = [(0, 1), (1, 2), (2, 3), (3, 4), (4, 5)];
 
 #[test]
 fn pieces_that_are_all_back_give_their_outputs_in_order(rt: HostRuntime) -> Result<(), Fail> {

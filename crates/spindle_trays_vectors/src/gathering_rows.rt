@@ -2,11 +2,12 @@
 ghost use Rattle.std.specs.Prelude.{◌≡◌, ◌∷◌, [], IfOk, length};
 ghost use Rattle.spindle_trays.specs.Rounds.{items_of};
 
-use crate::callers::Square;
 use crate::checks::{are, is};
-use spindle::SharedList;
-use spindle::lock::{Finished, gather};
+use crate::jobs::Square;
+use spindle_lists::SharedList;
 use spindle_parts::cut::Piece;
+use spindle_trays::pieces::finished::Finished;
+use spindle_trays::pieces::gathering::gather;
 use std::alloc::{AllocError, Global};
 use std::test::Fail;
 
@@ -20,15 +21,15 @@ fn only<T: Drop>(alloc: Global, item: T) -> Result<Vec<T>, AllocError>
 }
 
 /// A piece of one number, squared.
-pub fn squared(alloc: Global, number: usize, input: u32) -> Result<Finished<Square>, Fail> {
-    let square = u64::from(input) * u64::from(input);
+pub fn squared(alloc: Global, number: usize, input: usize) -> Result<Finished<Square>, Fail> {
+    let square = input as u128 * input as u128;
     let inputs = SharedList::from_vec(alloc, only(alloc, input)?)?.run(0, 1)?;
     let outputs = only(alloc, square)?;
     Ok(Finished::new(number, inputs, outputs))
 }
 
 /// The pieces [1] and [2].
-fn two_pieces(alloc: Global) -> Result<Vec<Piece<u32>>, AllocError>
+fn two_pieces(alloc: Global) -> Result<Vec<Piece<usize>>, AllocError>
     ensures items { IfOk result (λ pieces. items_of pieces.items ≡ 1 ∷ 2 ∷ []) }
     ensures count { IfOk result (λ pieces. length pieces.items ≡ 2) }
 {
@@ -45,7 +46,7 @@ fn gathered(
     alloc: Global,
     first: Option<Finished<Square>>,
     second: Option<Finished<Square>>,
-) -> Result<(Result<(), usize>, Vec<u64>, usize), Fail> {
+) -> Result<(Result<(), usize>, Vec<u128>, usize), Fail> {
     let handed = two_pieces(alloc)?;
     let mut places = Vec::with_capacity(alloc, 2)?;
     places.push_reserved(first);

@@ -2,10 +2,13 @@
 //! jobs of one round meet where there are threads for them.
 
 use crate::checks::{are, is};
-use crate::gates::{Marks, Meetings, Noted, Noting, Watching};
-use crate::jobs::{Place, Square};
-use spindle::lock::{Limits, Pool};
-use spindle::{Fault, with_lock};
+use crate::gates::Meetings;
+use crate::jobs::{Place, Square, one_each};
+use crate::marks::{Marks, Noted, Noting, Watching};
+use spindle_parts::fault::Fault;
+use spindle_trays::crew::limits::Limits;
+use spindle_trays::lock::pool::Pool;
+use spindle_trays::lock::root::with_lock;
 use std::alloc::Global;
 use std::sync::Arc;
 
@@ -34,7 +37,7 @@ fn each_job_runs_between_its_calls(rt: HostRuntime) -> Result<(), Fault> {
             }
             Ok::<(), Fault>(())
         })??;
-        assert_eq!(rt; marks.faults(), 0, "{threads} threads");
+        is(&rt, marks.faults(), 0);
     }
     Ok(())
 }
@@ -46,10 +49,7 @@ fn eight_jobs_of_eight_threads_run_at_once(rt: HostRuntime) -> Result<(), Fault>
     with_lock::<Place, _, _, _, _, _>(&rt, alloc, &meetings.pool(8), 8, |leader| {
         for _ in 0..3 {
             let places = leader.for_each_raw(&rt, alloc, 8)?;
-            for thread in 0..8 {
-                let here = places.iter().filter(|place| place.0 == Some(thread));
-                assert_eq!(rt; here.count(), 1, "thread {thread}");
-            }
+            assert!(rt; one_each(&places, 8));
         }
         Ok::<(), Fault>(())
     })??;

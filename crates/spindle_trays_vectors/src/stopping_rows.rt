@@ -4,10 +4,14 @@
 ghost use Rattle.std.specs.Prelude.{◌<◌};
 
 use crate::checks::{are, is};
-use crate::gates::{Crossings, Meetings};
+use crate::crossings::Crossings;
+use crate::gates::Meetings;
 use crate::trying_rows::{Trying, is_report, items, report_of};
-use spindle::lock::{Limits, Pool, Report};
-use spindle::{Fault, with_lock};
+use spindle_parts::fault::Fault;
+use spindle_trays::crew::limits::Limits;
+use spindle_trays::lock::pool::Pool;
+use spindle_trays::lock::report::Report;
+use spindle_trays::lock::root::with_lock;
 use std::alloc::Global;
 use std::process::Abort;
 use std::sync::Wait;
@@ -104,39 +108,38 @@ fn eight_threads_that_meet_and_fail_run_a_piece_each(rt: HostRuntime) -> Result<
     Ok(())
 }
 
+// A hundred rounds of sixteen items, one of which fails, by two threads that cross at piece 5: whether the piece of this number is
+// skipped in each.
+fn crossed_and_skipped<H: Threads + Wait + Abort + Sync>(
+    rt: &H,
+    alloc: Global,
+    bad: u32,
+    number: usize,
+    is_skipped: bool,
+) -> Result<(), Fault> {
+    let crossings = Crossings::new();
+    let pool = Pool::new(2, Limits::new(), crossings.with_job(5));
+    with_lock::<Trying, _, _, _, _, _>(rt, alloc, &pool, 2, |leader| {
+        for _ in 0..100 {
+            let report = leader.try_for_each(rt, alloc, 16, items_but(alloc, 16, bad)?)?;
+            assert!(rt; is_report(&report, 16, 16));
+            is(rt, report.skipped.contains(&number), is_skipped);
+        }
+        Ok::<(), Fault>(())
+    })??;
+    is(rt, crossings.counts(), (100, 0));
+    Ok(())
+}
+
 // Job 0 keeps the leader until the helper has done its own range and has stolen 5, 6 and 7 of the leader's. The helper's
 // piece 5 fails. The leader, where it has looked before, may still steal 7 of what goes back, and then looks again.
 #[test]
 fn a_thief_that_fails_leaves_the_rest_of_its_share(rt: HostRuntime) -> Result<(), Fault> {
-    let alloc = rt.alloc();
-    let crossings = Crossings::new();
-    let pool = Pool::new(2, Limits::new(), crossings.with_job(5));
-    with_lock::<Trying, _, _, _, _, _>(&rt, alloc, &pool, 2, |leader| {
-        for _ in 0..100 {
-            let report = leader.try_for_each(&rt, alloc, 16, items_but(alloc, 16, 5)?)?;
-            assert!(rt; is_report(&report, 16, 16));
-            assert!(rt; report.skipped.iter().any(|number| *number == 6));
-        }
-        Ok::<(), Fault>(())
-    })??;
-    is(&rt, crossings.counts(), (100, 0));
-    Ok(())
+    crossed_and_skipped(&rt, rt.alloc(), 5, 6, true)
 }
 
 // The same where job 0 fails, while the helper is in piece 5: what it has left then goes back or runs, and piece 5 is brought.
 #[test]
 fn a_thief_that_sees_a_stop_loses_nothing_of_its_share(rt: HostRuntime) -> Result<(), Fault> {
-    let alloc = rt.alloc();
-    let crossings = Crossings::new();
-    let pool = Pool::new(2, Limits::new(), crossings.with_job(5));
-    with_lock::<Trying, _, _, _, _, _>(&rt, alloc, &pool, 2, |leader| {
-        for _ in 0..100 {
-            let report = leader.try_for_each(&rt, alloc, 16, items_but(alloc, 16, 0)?)?;
-            assert!(rt; is_report(&report, 16, 16));
-            assert!(rt; report.ran.iter().any(|piece| piece.0 == 5));
-        }
-        Ok::<(), Fault>(())
-    })??;
-    is(&rt, crossings.counts(), (100, 0));
-    Ok(())
+    crossed_and_skipped(&rt, rt.alloc(), 0, 5, false)
 }

@@ -1,37 +1,15 @@
-//! Jobs and a gate that the rows share.
+//! Jobs and a gate that rows of all kinds of lock share.
 ghost use Rattle.std.specs.Prelude.{◌≡◌};
 ghost use Rattle.std.proofs.Common.{rules};
 
-use spindle::SharedList;
-use spindle::lock::{End, Gate, Job, JobCx, Under};
+use spindle_trays::job::Job;
+use spindle_trays::job::context::JobCx;
+use spindle_trays::job::gate::Gate;
+use spindle_trays::job::nest::End;
 use std::alloc::Global;
 use std::sync::Wait;
 use std::sync::atomic::{AtomicUsize, Ordering};
 use std::thread::Threads;
-
-/// Answers 0.
-pub struct Zero;
-
-impl Job for Zero {
-    type In = u64;
-
-    type Out = u64;
-
-    type Inner = End;
-
-    ghost meets = { λ _ y. y ≡ 0 };
-
-    fn run<H: Threads + Wait + Sync>(
-        _rt: &H,
-        _alloc: Global,
-        _input: &u64,
-        _cx: &mut JobCx<End>,
-    ) -> u64 {
-        0
-    }
-
-    ghost equal_is_same = { Prim.search rules };
-}
 
 /// Answers where it runs: its thread's number, how many threads are there, and the lock's threads.
 pub struct Place;
@@ -65,52 +43,25 @@ impl Job for Place {
     ghost equal_is_same = { Prim.search rules };
 }
 
-/// Does nothing, though it may open locks.
-pub struct Nothing;
-
-impl Job for Nothing {
-    type In = ();
-
-    type Out = ();
-
-    type Inner = Under<Zero>;
-
-    ghost meets = { λ _ _. Unit {0} };
-
-    fn run<H: Threads + Wait + Sync>(
-        _rt: &H,
-        _alloc: Global,
-        _input: &(),
-        _cx: &mut JobCx<Under<Zero>>,
-    ) {}
-
-    ghost equal_is_same = { Prim.search rules };
+/// Whether each of so many threads ran one of the jobs that ran there.
+pub fn one_each(places: &[(Option<usize>, usize, usize)], threads: usize) -> bool {
+    for thread in 0..threads {
+        if runs_of(places, thread) != 1 {
+            return false;
+        }
+    }
+    true
 }
 
-/// Answers how long a list is.
-pub struct Length;
-
-impl Job for Length {
-    type In = SharedList<usize>;
-
-    type Out = usize;
-
-    type Inner = End;
-
-    ghost use Rattle.std.specs.Prelude.{length};
-
-    ghost meets = { λ list n. n ≡ length list };
-
-    fn run<H: Threads + Wait + Sync>(
-        _rt: &H,
-        _alloc: Global,
-        input: &SharedList<usize>,
-        _cx: &mut JobCx<End>,
-    ) -> usize {
-        input.len()
+// How many of the jobs a thread ran.
+fn runs_of(places: &[(Option<usize>, usize, usize)], thread: usize) -> usize {
+    let mut runs = 0usize;
+    for place in places {
+        if place.0 == Some(thread) {
+            runs = runs.wrapping_add(1);
+        }
     }
-
-    ghost equal_is_same = { Prim.search rules };
+    runs
 }
 
 /// Squares a number of a round.

@@ -4,16 +4,50 @@
 //! Each of these tests ends well whichever one of its allocations is refused. With memory for all, they show that a round
 //! that answers keeps no item either.
 
-ghost use Rattle.std.specs.Prelude.{◌<◌};
+ghost use Rattle.std.specs.Prelude.{◌≡◌, ◌<◌};
+ghost use Rattle.std.proofs.Common.{rules};
 
 use crate::checks::are;
-use crate::jobs::Length;
-use spindle::lock::{Leader, Limits, NoGate, Pool};
-use spindle::{Fault, SharedList, with_lock};
+use spindle_lists::SharedList;
+use spindle_parts::fault::Fault;
+use spindle_trays::crew::limits::Limits;
+use spindle_trays::job::Job;
+use spindle_trays::job::context::JobCx;
+use spindle_trays::job::gate::NoGate;
+use spindle_trays::job::nest::End;
+use spindle_trays::lock::leader::Leader;
+use spindle_trays::lock::pool::Pool;
+use spindle_trays::lock::root::with_lock;
 use std::alloc::Global;
 use std::process::Abort;
 use std::sync::Wait;
 use std::thread::Threads;
+
+/// Answers how long a list is.
+pub struct Length;
+
+impl Job for Length {
+    type In = SharedList<usize>;
+
+    type Out = usize;
+
+    type Inner = End;
+
+    ghost use Rattle.std.specs.Prelude.{length};
+
+    ghost meets = { λ list n. n ≡ length list };
+
+    fn run<H: Threads + Wait + Sync>(
+        _rt: &H,
+        _alloc: Global,
+        input: &SharedList<usize>,
+        _cx: &mut JobCx<End>,
+    ) -> usize {
+        input.len()
+    }
+
+    ghost equal_is_same = { Prim.search rules };
+}
 
 /// A list of three numbers.
 pub fn three_numbers(alloc: Global) -> Result<SharedList<usize>, Fault> {

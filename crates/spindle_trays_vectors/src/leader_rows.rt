@@ -1,10 +1,67 @@
 //! Rows of a leader's rounds, over jobs that open no locks.
+ghost use Rattle.std.specs.Prelude.{◌≡◌};
+ghost use Rattle.std.proofs.Common.{rules};
 
-use crate::callers;
 use crate::checks::{are, is};
-use crate::jobs::{Calls, Counting, Nothing, Place, Square, Zero};
-use spindle::lock::{Limits, NoGate, Pool};
-use spindle::{Fault, with_lock};
+use crate::jobs::{Calls, Counting, Place, Square};
+use crate::rounds::round_of;
+use spindle_parts::fault::Fault;
+use spindle_trays::crew::limits::Limits;
+use spindle_trays::job::Job;
+use spindle_trays::job::context::JobCx;
+use spindle_trays::job::gate::NoGate;
+use spindle_trays::job::nest::{End, Under};
+use spindle_trays::lock::pool::Pool;
+use spindle_trays::lock::root::with_lock;
+use std::alloc::Global;
+use std::sync::Wait;
+use std::thread::Threads;
+
+/// Answers 0.
+pub struct Zero;
+
+impl Job for Zero {
+    type In = u64;
+
+    type Out = u64;
+
+    type Inner = End;
+
+    ghost meets = { λ _ y. y ≡ 0 };
+
+    fn run<H: Threads + Wait + Sync>(
+        _rt: &H,
+        _alloc: Global,
+        _input: &u64,
+        _cx: &mut JobCx<End>,
+    ) -> u64 {
+        0
+    }
+
+    ghost equal_is_same = { Prim.search rules };
+}
+
+/// Does nothing, though it may open locks.
+pub struct Nothing;
+
+impl Job for Nothing {
+    type In = ();
+
+    type Out = ();
+
+    type Inner = Under<Zero>;
+
+    ghost meets = { λ _ _. Unit {0} };
+
+    fn run<H: Threads + Wait + Sync>(
+        _rt: &H,
+        _alloc: Global,
+        _input: &(),
+        _cx: &mut JobCx<Under<Zero>>,
+    ) {}
+
+    ghost equal_is_same = { Prim.search rules };
+}
 
 #[test]
 fn ten_numbers_are_squared(rt: HostRuntime) -> Result<(), Fault> {
@@ -12,7 +69,7 @@ fn ten_numbers_are_squared(rt: HostRuntime) -> Result<(), Fault> {
     for (threads, jobs) in [(4, 4), (1, 4), (4, 1), (4, 10), (4, 11), (64, 3)] {
         let pool = Pool::new(threads, Limits::new(), NoGate);
         let numbers = vec![in alloc; 0, 1, 2, 3, 4, 5, 6, 7, 8, 9]?;
-        let squares = callers::squares(&rt, alloc, &pool, jobs, numbers)?;
+        let squares = round_of::<Square, _, _>(&rt, alloc, &pool, threads, jobs, numbers)?;
         are(&rt, &squares, &[0, 1, 4, 9, 16, 25, 36, 49, 64, 81]);
     }
     Ok(())
@@ -75,15 +132,11 @@ fn one_item_is_one_direct_job(rt: HostRuntime) -> Result<(), Fault> {
     let alloc = rt.alloc();
     let calls = Calls::new();
     let pool = Pool::with_starts(16, Limits::new(), Counting { calls: &calls }, 0);
-    let squares = with_lock::<Square, _, _, _, _, _>(&rt, alloc, &pool, 16, |leader| {
-        leader.for_each(&rt, alloc, 8, vec![in alloc; 7]?)
-    })??;
+    let squares = round_of::<Square, _, _>(&rt, alloc, &pool, 16, 8, vec![in alloc; 7]?)?;
     are(&rt, &squares, &[49]);
     is(&rt, calls.of_job(0), (1, 1));
     is(&rt, calls.in_all(), (1, 1));
-    let places = with_lock::<Place, _, _, _, _, _>(&rt, alloc, &pool, 16, |leader| {
-        leader.for_each(&rt, alloc, 8, vec![in alloc; 7]?)
-    })??;
+    let places = round_of::<Place, _, _>(&rt, alloc, &pool, 16, 8, vec![in alloc; 7]?)?;
     are(&rt, &places, &[(None, 1, 16)]);
     Ok(())
 }
@@ -93,9 +146,8 @@ fn more_jobs_than_items_are_as_many_as_items(rt: HostRuntime) -> Result<(), Faul
     let alloc = rt.alloc();
     let calls = Calls::new();
     let pool = Pool::new(16, Limits::new(), Counting { calls: &calls });
-    let squares = with_lock::<Square, _, _, _, _, _>(&rt, alloc, &pool, 16, |leader| {
-        leader.for_each(&rt, alloc, usize::MAX, vec![in alloc; 1, 2, 3]?)
-    })??;
+    let numbers = vec![in alloc; 1, 2, 3]?;
+    let squares = round_of::<Square, _, _>(&rt, alloc, &pool, 16, usize::MAX, numbers)?;
     are(&rt, &squares, &[1, 4, 9]);
     is(&rt, calls.in_all(), (3, 3));
     Ok(())
@@ -107,11 +159,9 @@ fn the_gate_is_called_once_before_and_once_after_each_job(rt: HostRuntime) -> Re
     let calls = Calls::new();
     let pool = Pool::new(4, Limits::new(), Counting { calls: &calls });
     let numbers = vec![in alloc; 0, 1, 2, 3, 4, 5, 6, 7, 8, 9]?;
-    with_lock::<Square, _, _, _, _, _>(&rt, alloc, &pool, 4, |leader| {
-        leader.for_each(&rt, alloc, 4, numbers)
-    })??;
+    round_of::<Square, _, _>(&rt, alloc, &pool, 4, 4, numbers)?;
     for number in 0..4 {
-        assert_eq!(rt; calls.of_job(number), (1, 1), "job {number}");
+        is(&rt, calls.of_job(number), (1, 1));
     }
     is(&rt, calls.in_all(), (4, 4));
     Ok(())
@@ -155,53 +205,8 @@ fn fewer_starts_change_no_answer(rt: HostRuntime) -> Result<(), Fault> {
     for starts in 0..4 {
         let pool = Pool::with_starts(4, Limits::new(), NoGate, starts);
         let numbers = vec![in alloc; 0, 1, 2, 3, 4, 5, 6, 7, 8, 9]?;
-        let squares = callers::squares(&rt, alloc, &pool, 4, numbers)?;
+        let squares = round_of::<Square, _, _>(&rt, alloc, &pool, 4, 4, numbers)?;
         are(&rt, &squares, &[0, 1, 4, 9, 16, 25, 36, 49, 64, 81]);
     }
-    Ok(())
-}
-
-#[test]
-fn chunks_of_a_list_become_one_more(rt: HostRuntime) -> Result<(), Fault> {
-    let alloc = rt.alloc();
-    let pool = Pool::new(4, Limits::new(), NoGate);
-    let numbers = vec![in alloc; 3, 1, 4, 1, 5, u32::MAX, 2]?;
-    let sums = callers::one_more_each(&rt, alloc, &pool, 3, numbers)?;
-    are(&rt, &sums, &[4, 2, 5, 2, 6, 4294967296, 3]);
-    let none = callers::one_more_each(&rt, alloc, &pool, 3, Vec::new(alloc))?;
-    assert!(rt; none.is_empty());
-    Ok(())
-}
-
-#[test]
-fn one_thread_and_many_answer_alike(rt: HostRuntime) -> Result<(), Fault> {
-    let alloc = rt.alloc();
-    let pool = Pool::new(4, Limits::new(), NoGate);
-    let numbers = vec![in alloc; 2, 3, 5]?;
-    let equal_numbers = vec![in alloc; 2, 3, 5]?;
-    let (by_one, by_many) = callers::outputs_twice::<Square, _, _>(
-        &rt,
-        alloc,
-        &pool,
-        2,
-        numbers,
-        equal_numbers,
-    )?;
-    are(&rt, &by_one, &[4, 9, 25]);
-    are(&rt, &by_many, &[4, 9, 25]);
-    Ok(())
-}
-
-#[test]
-fn two_rounds_of_one_leader_answer_both_lists(rt: HostRuntime) -> Result<(), Fault> {
-    let alloc = rt.alloc();
-    let pool = Pool::new(4, Limits::new(), NoGate);
-    let (first, second) = with_lock::<Square, _, _, _, _, _>(&rt, alloc, &pool, 4, |leader| {
-        let first = vec![in alloc; 2, 3, 5]?;
-        let second = vec![in alloc; 7, 11]?;
-        callers::two_rounds(&rt, alloc, leader, 2, first, second)
-    })??;
-    are(&rt, &first, &[4, 9, 25]);
-    are(&rt, &second, &[49, 121]);
     Ok(())
 }

@@ -7,26 +7,17 @@ ghost use Rattle.std.specs.Prelude.{◌<◌};
 
 use crate::checks::is;
 use crate::jobs::{Calls, Counting, Square};
-use spindle::lock::{Leader, Limits, Pool};
-use spindle::{Fault, with_lock};
+use crate::sevens::{are_seven_squares, seven_items, unopened_or};
+use spindle_parts::fault::Fault;
+use spindle_trays::crew::limits::Limits;
+use spindle_trays::lock::leader::Leader;
+use spindle_trays::lock::pool::Pool;
+use spindle_trays::lock::root::with_lock;
 use std::alloc::Global;
 use std::process::Abort;
 use std::sync::Wait;
 use std::sync::atomic::{AtomicUsize, Ordering};
 use std::thread::Threads;
-
-/// The items of a round; where memory for them is refused once, it is asked for again.
-pub fn seven_items(alloc: Global) -> Result<Vec<usize>, Fault> {
-    match vec![in alloc; 0, 1, 2, 3, 4, 5, 6] {
-        Ok(items) => Ok(items),
-        Err(_) => Ok(vec![in alloc; 0, 1, 2, 3, 4, 5, 6]?),
-    }
-}
-
-/// Whether these are the squares of the numbers from 0 to 6.
-pub fn are_seven_squares(squares: &[u128]) -> bool {
-    squares == [0, 1, 4, 9, 16, 25, 36].as_slice()
-}
 
 #[test]
 fn refused_round_has_run_no_job(rt: HostRuntime) -> Result<(), Fault> {
@@ -74,23 +65,7 @@ fn square_in_three_rounds<H: Threads + Wait + Abort + Sync>(
         }
         Ok::<(), Fault>(())
     });
-    unopened_or(rt, &opened, answer)
-}
-
-/// What the rounds of a lock answered; where the lock was refused, its closure wasn't run.
-pub fn unopened_or<H: Abort>(
-    rt: &H,
-    opened: &AtomicUsize,
-    answer: Result<Result<(), Fault>, Fault>,
-) -> Result<(), Fault> {
-    match answer {
-        Ok(rounds) => rounds,
-        Err(fault) => {
-            assert!(rt; matches!(fault, Fault::Memory));
-            is(rt, opened.load(Ordering::SeqCst), 0);
-            Ok(())
-        }
-    }
+    unopened_or(&opened, answer)
 }
 
 // One allocation at most is refused, so one of the two locks opens.
@@ -163,7 +138,7 @@ fn refused_round_over_numbers_has_run_no_job(rt: HostRuntime) -> Result<(), Faul
         is(&rt, calls.in_all(), (7, 7));
         Ok::<(), Fault>(())
     });
-    unopened_or(&rt, &opened, answer)
+    unopened_or(&opened, answer)
 }
 
 #[test]
@@ -201,5 +176,5 @@ fn refused_nothing_where_nothing_is_run(rt: HostRuntime) -> Result<(), Fault> {
         is(&rt, calls.in_all(), (0, 0));
         Ok::<(), Fault>(())
     });
-    unopened_or(&rt, &opened, answer)
+    unopened_or(&opened, answer)
 }

@@ -5,8 +5,15 @@ ghost use Rattle.std.proofs.Common.{rules};
 use crate::checks::{are, is};
 use crate::gates::Meetings;
 use crate::jobs::{Calls, Counting};
-use spindle::lock::{End, Job, JobCx, Limits, NoGate, Pool, Report, TellsFailures};
-use spindle::{Fault, with_lock};
+use spindle_parts::fault::Fault;
+use spindle_trays::crew::limits::Limits;
+use spindle_trays::job::context::JobCx;
+use spindle_trays::job::gate::{Gate, NoGate};
+use spindle_trays::job::nest::End;
+use spindle_trays::job::{Job, TellsFailures};
+use spindle_trays::lock::pool::Pool;
+use spindle_trays::lock::report::Report;
+use spindle_trays::lock::root::with_lock;
 use std::alloc::Global;
 use std::sync::Wait;
 use std::thread;
@@ -107,11 +114,24 @@ pub fn report_of<H: Threads + Wait + Sync>(
     requires jobs { 0 < jobs }
 {
     let pool = Pool::new(threads, Limits::new(), NoGate);
+    report_in(rt, alloc, &pool, jobs, items)
+}
+
+/// The report of one round in a lock of the pool.
+pub fn report_in<G: Gate + Sync, H: Threads + Wait + Sync>(
+    rt: &H,
+    alloc: Global,
+    pool: &Pool<G>,
+    jobs: usize,
+    items: Vec<(u32, bool)>,
+) -> Result<Report<(u32, bool)>, Fault>
+    requires { 0 < jobs }
+{
     with_lock::<Trying, _, _, _, _, _>(
         rt,
         alloc,
-        &pool,
-        threads,
+        pool,
+        pool.max_num_threads(),
         |leader|
             requires { 0 < jobs }
         { leader.try_for_each(rt, alloc, jobs, items) },
@@ -124,9 +144,8 @@ fn a_leader_alone_runs_the_pieces_up_to_the_first_that_fails(rt: HostRuntime) ->
     let report = report_of(&rt, alloc, 1, 6, items(alloc, 6, 3)?)?;
     assert!(rt; is_report(&report, 6, 6));
     are(&rt, &report.skipped, &[3, 4, 5]);
-    assert!(rt;
-        report.ran.iter().any(|piece| piece.0 == 2 && piece.1.as_slice() == [(2, true)].as_slice())
-    );
+    assert!(rt; report.ran.len() == 3 && report.ran[2].0 == 2);
+    are(&rt, report.ran[2].1.as_slice(), &[(2, true)]);
     let report = report_of(&rt, alloc, 1, 2, items(alloc, 5, 2)?)?;
     assert!(rt; is_report(&report, 5, 2));
     are(&rt, &report.skipped, &[1]);
@@ -162,10 +181,7 @@ fn a_round_in_which_nothing_fails_runs_every_piece(rt: HostRuntime) -> Result<()
 fn both_jobs_of_a_round_that_may_stop_meet(rt: HostRuntime) -> Result<(), Fault> {
     let alloc = rt.alloc();
     let meetings = Meetings::new();
-    let pool = meetings.pool(2);
-    let report = with_lock::<Trying, _, _, _, _, _>(&rt, alloc, &pool, 2, |leader| {
-        leader.try_for_each(&rt, alloc, 2, items(alloc, 2, 0)?)
-    })??;
+    let report = report_in(&rt, alloc, &meetings.pool(2), 2, items(alloc, 2, 0)?)?;
     assert!(rt; is_report(&report, 2, 2) && report.skipped.is_empty());
     is(&rt, meetings.counts(), (2, 0));
     Ok(())
@@ -210,9 +226,7 @@ fn the_gate_is_called_once_for_each_piece_that_ran(rt: HostRuntime) -> Result<()
     for threads in [1, 4] {
         let calls = Calls::new();
         let pool = Pool::new(threads, Limits::new(), Counting { calls: &calls });
-        let report = with_lock::<Trying, _, _, _, _, _>(&rt, alloc, &pool, threads, |leader| {
-            leader.try_for_each(&rt, alloc, 30, items(alloc, 30, 7)?)
-        })??;
+        let report = report_in(&rt, alloc, &pool, 30, items(alloc, 30, 7)?)?;
         let ran = report.ran.len();
         assert!(rt; is_report(&report, 30, 30));
         is(&rt, calls.in_all(), (ran, ran));
@@ -223,22 +237,16 @@ fn the_gate_is_called_once_for_each_piece_that_ran(rt: HostRuntime) -> Result<()
 #[test]
 fn a_report_names_the_first_piece_that_failed(rt: HostRuntime) -> Result<(), Fault> {
     let alloc = rt.alloc();
-    let alone = Pool::new(1, Limits::new(), NoGate);
-    with_lock::<Trying, _, _, _, _, _>(&rt, alloc, &alone, 1, |leader| {
-        let report = leader.try_for_each(&rt, alloc, 6, items(alloc, 6, 3)?)?;
-        is(&rt, report.first_failed::<Trying>(), Some(2));
-        let report = leader.try_for_each(&rt, alloc, 2, items(alloc, 5, 2)?)?;
-        is(&rt, report.first_failed::<Trying>(), Some(0));
-        Ok::<(), Fault>(())
-    })??;
-    let pool = Pool::new(4, Limits::new(), NoGate);
-    with_lock::<Trying, _, _, _, _, _>(&rt, alloc, &pool, 4, |leader| {
-        let report = leader.try_for_each(&rt, alloc, 10, items(alloc, 10, 6)?)?;
-        is(&rt, report.first_failed::<Trying>(), Some(5));
-        let report = leader.try_for_each(&rt, alloc, 10, items(alloc, 10, 0)?)?;
-        is(&rt, report.first_failed::<Trying>(), None);
-        Ok::<(), Fault>(())
-    })?
+    for (threads, count, every, jobs, first) in [
+        (1, 6, 3, 6, Some(2)),
+        (1, 5, 2, 2, Some(0)),
+        (4, 10, 6, 10, Some(5)),
+        (4, 10, 0, 10, None),
+    ] {
+        let report = report_of(&rt, alloc, threads, jobs, items(alloc, count, every)?)?;
+        is(&rt, report.first_failed::<Trying>(), first);
+    }
+    Ok(())
 }
 
 #[test]

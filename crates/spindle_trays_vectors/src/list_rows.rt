@@ -1,0 +1,131 @@
+//! Rows of lists that clones and runs share, that are shared out in runs or in chunks with what stands around them, and of answers
+//! that are gathered.
+
+use crate::checks::{are, is};
+use spindle_lists::{Chunk, ListRun, SharedList, gathered};
+use spindle_parts::fault::Fault;
+use std::alloc::Global;
+
+fn five(alloc: Global) -> Result<SharedList<u32>, Fault> {
+    let numbers = vec![in alloc; 1, 2, 3, 4, 5]?;
+    Ok(SharedList::from_vec(alloc, numbers)?)
+}
+
+fn is_run(run: &ListRun<u32>, items: &[u32]) -> bool {
+    run.len() == items.len() && run.as_slice() == items && run.is_empty() == items.is_empty()
+}
+
+fn is_input<T: Clone + Eq + Drop + Send + Sync>(input: &T) -> bool {
+    *input == *input
+}
+
+fn is_chunk(chunk: &Chunk<u32>, items: &[u32], from: usize, to: usize) -> bool {
+    chunk.as_slice() == items && chunk.from() == from && chunk.to() == to
+}
+
+#[test]
+fn a_list_comes_out_again_where_no_clone_is_left(rt: HostRuntime) -> Result<(), Fault> {
+    let alloc = rt.alloc();
+    let list = SharedList::from_vec(alloc, vec![in alloc; 4u32, 5, 6]?)?;
+    let clone = list.clone()?;
+    assert!(rt; list == clone && list.len() == 3 && !list.is_empty());
+    let Err(list) = list.try_into_vec() else {
+        panic!(rt; "a clone is left");
+    };
+    are(&rt, list.as_slice(), &[4, 5, 6]);
+    drop(clone);
+    let run = list.run(1, 3)?;
+    let Err(list) = list.try_into_vec() else {
+        panic!(rt; "a run is left");
+    };
+    assert!(rt; is_run(&run, &[5, 6]));
+    drop(run);
+    let Ok(items) = list.try_into_vec() else {
+        panic!(rt; "no clone is left");
+    };
+    are(&rt, items.as_slice(), &[4, 5, 6]);
+    Ok(())
+}
+
+#[test]
+fn lists_are_equal_item_by_item(rt: HostRuntime) -> Result<(), Fault> {
+    let alloc = rt.alloc();
+    let list = SharedList::from_vec(alloc, vec![in alloc; 1u32, 2, 3, 1, 2]?)?;
+    let shorter = SharedList::from_vec(alloc, vec![in alloc; 1u32, 2, 3]?)?;
+    let other = SharedList::from_vec(alloc, vec![in alloc; 9u32, 2, 3]?)?;
+    let empty = SharedList::from_vec(alloc, Vec::<u32>::new(alloc))?;
+    assert!(rt; list != shorter && shorter != other && empty != shorter && empty.is_empty());
+    assert!(rt; list.run(0, 2)? == list.run(3, 5)? && list.run(0, 2)? != list.run(1, 3)?);
+    assert!(rt; list.run(0, 3)? == shorter.run(0, 3)? && list.run(4, 4)? == empty.run(0, 0)?);
+    let pairs = SharedList::from_vec(alloc, vec![in alloc; (1u8, true), (2, false)]?)?;
+    assert!(rt; is_input(&list) && is_input(&pairs.run(0, 2)?));
+    assert!(rt; pairs == pairs.clone()? && pairs.run(0, 1)? != pairs.run(1, 2)?);
+    Ok(())
+}
+
+#[test]
+fn a_list_is_shared_out_in_runs_of_the_lengths_given(rt: HostRuntime) -> Result<(), Fault> {
+    let alloc = rt.alloc();
+    let list = SharedList::from_vec(alloc, vec![in alloc; 1u32, 2, 3, 4, 5]?)?;
+    let runs = list.share_out(alloc, &[2, 0, 3])?;
+    is(&rt, runs.len(), 3);
+    assert!(rt; is_run(&runs[0], &[1, 2]) && is_run(&runs[1], &[]) && is_run(&runs[2], &[3, 4, 5]));
+    let inner = runs[2].share_out(alloc, &[1, 2])?;
+    is(&rt, inner.len(), 2);
+    assert!(rt; is_run(&inner[0], &[3]) && is_run(&inner[1], &[4, 5]));
+    assert!(rt; is_run(&inner[1].run(1, 2)?, &[5]) && inner[1].clone()? == list.run(3, 5)?);
+    let none = SharedList::from_vec(alloc, Vec::<u32>::new(alloc))?;
+    assert!(rt; none.share_out(alloc, &[])?.is_empty());
+    Ok(())
+}
+
+#[test]
+fn the_first_runs_are_longer_by_one(rt: HostRuntime) -> Result<(), Fault> {
+    let alloc = rt.alloc();
+    let list = five(alloc)?;
+    let runs = list.share_out_evenly(alloc, 2)?;
+    assert_eq!(rt; runs.len(), 2);
+    assert!(rt; is_run(&runs[0], &[1, 2, 3]) && is_run(&runs[1], &[4, 5]));
+    let runs = list.share_out_evenly(alloc, 9)?;
+    assert_eq!(rt; runs.len(), 5);
+    assert!(rt; is_run(&runs[0], &[1]) && is_run(&runs[4], &[5]));
+    let none = SharedList::from_vec(alloc, Vec::<u32>::new(alloc))?;
+    assert!(rt; none.share_out_evenly(alloc, 0)?.is_empty());
+    Ok(())
+}
+
+#[test]
+fn chunks_have_what_stands_around_them(rt: HostRuntime) -> Result<(), Fault> {
+    let alloc = rt.alloc();
+    let list = five(alloc)?;
+    let chunks = list.share_out_overlapping(alloc, 2, 1)?;
+    assert_eq!(rt; chunks.len(), 3);
+    assert!(rt; is_chunk(&chunks[0], &[1, 2, 3], 0, 2));
+    assert!(rt; is_chunk(&chunks[1], &[2, 3, 4, 5], 1, 3));
+    assert!(rt; is_chunk(&chunks[2], &[4, 5], 1, 2));
+    assert!(rt; chunks[1].clone()? == chunks[1] && chunks[0] != chunks[1]);
+    let wide = list.share_out_overlapping(alloc, 3, 9)?;
+    assert_eq!(rt; wide.len(), 2);
+    assert!(rt; is_chunk(&wide[0], &[1, 2, 3, 4, 5], 0, 3));
+    assert!(rt; is_chunk(&wide[1], &[1, 2, 3, 4, 5], 3, 5) && wide[0] != wide[1]);
+    Ok(())
+}
+
+#[test]
+fn the_first_failure_is_the_answer(rt: HostRuntime) -> Result<(), Fault> {
+    let alloc = rt.alloc();
+    let mut answers = Vec::<Result<Vec<u32>, u8>>::new(alloc);
+    answers.push(Ok(vec![in alloc; 1, 2]?))?;
+    answers.push(Ok(Vec::new(alloc)))?;
+    answers.push(Ok(vec![in alloc; 3]?))?;
+    let Ok(all) = gathered(alloc, answers)? else {
+        panic!(rt; "nothing failed");
+    };
+    are(&rt, &all, &[1, 2, 3]);
+    let mut answers = Vec::<Result<Vec<u32>, u8>>::new(alloc);
+    answers.push(Ok(vec![in alloc; 1, 2]?))?;
+    answers.push(Err(7))?;
+    answers.push(Err(8))?;
+    assert!(rt; matches!(gathered(alloc, answers)?, Err(7)));
+    Ok(())
+}
