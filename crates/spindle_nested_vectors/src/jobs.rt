@@ -3,8 +3,10 @@ ghost use Rattle.std.specs.Prelude.{◌≡◌, ◌*◌};
 ghost use Rattle.std.proofs.Common.{rules};
 ghost use denote.Param.Send.{IsSync};
 
-use spindle::Fault;
-use spindle::lock::{End, Job, JobCx, Under};
+use spindle_parts::fault::Fault;
+use spindle_trays::job::Job;
+use spindle_trays::job::context::JobCx;
+use spindle_trays::job::nest::{End, Under};
 use std::alloc::Global;
 use std::hint::spin_loop;
 use std::sync::Wait;

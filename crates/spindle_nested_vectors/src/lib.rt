@@ -11,5 +11,3 @@ mod refusals;
 mod rounds;
 #[cfg(test)]
 mod rows;
-#[cfg(test)]
-mod squares;

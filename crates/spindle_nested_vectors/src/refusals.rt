@@ -7,10 +7,20 @@ ghost use Rattle.std.proofs.Common.{rules};
 ghost use denote.Param.Send.{IsSync};
 
 use crate::checks::are;
-use crate::squares::{Square, are_seven_squares, seven_items};
-use spindle::lock::{Job, JobCx, Leader, Limits, NoGate, Opens, Pool, Under};
-use spindle::{Fault, with_lock};
+use spindle_parts::fault::Fault;
+use spindle_trays::crew::limits::Limits;
+use spindle_trays::job::Job;
+use spindle_trays::job::context::JobCx;
+use spindle_trays::job::gate::NoGate;
+use spindle_trays::job::nest::Under;
+use spindle_trays::lock::leader::Leader;
+use spindle_trays::lock::pool::Pool;
+use spindle_trays::lock::root::with_lock;
+use spindle_trays::lock::workspace::Opens;
+use spindle_trays_vectors::jobs::Square;
+use spindle_trays_vectors::sevens::{are_seven_squares, seven_items};
 use std::alloc::Global;
+use std::process::Abort;
 use std::sync::Wait;
 use std::thread::Threads;
 
@@ -25,11 +35,22 @@ pub enum Sight {
     Wrong,
 }
 
-/// Opens a lock of two threads and squares seven items there, in so many jobs; asks again where it was refused.
-pub struct OpensTwice;
+/// What a job calls, in which it may be refused.
+#[derive(Clone, Copy, Debug, PartialEq, Eq)]
+pub enum Call {
+    /// A lock of two threads, in which it squares seven items.
+    Lock,
+    /// A round of its own, in which it squares seven items.
+    Round,
+    /// Rounds of its own over nothing.
+    Nothing,
+}
 
-impl Job for OpensTwice {
-    type In = usize;
+/// Makes a call in so many jobs, again where it was refused, and answers what it saw.
+pub struct Asking;
+
+impl Job for Asking {
+    type In = (Call, usize);
 
     type Out = Sight;
 
@@ -40,35 +61,50 @@ impl Job for OpensTwice {
     fn run<H: Threads + Wait + Sync>(
         rt: &H,
         alloc: Global,
-        jobs: &usize,
+        input: &(Call, usize),
         cx: &mut JobCx<Under<Square>>,
     ) -> Sight {
-        let jobs = (*jobs).max(1);
-        for _ in 0..2 {
-            let mut is_run = false;
-            let answer = cx.with_lock(
-                rt,
-                alloc,
-                2,
-                |leader| -> bool
-                    requires sync { IsSync H.row }
-                    requires jobs { 0 < jobs }
-                {
-                    is_run = true;
-                    squares_seven(rt, alloc, leader, jobs)
-                },
-            );
-            match answer {
-                Ok(true) => return Sight::Right,
-                Ok(false) => return Sight::Wrong,
-                Err(_) if is_run => return Sight::RunAnyway,
-                Err(_) => {}
-            }
+        match input.0 {
+            Call::Lock => opens_twice(rt, alloc, input.1.max(1), cx),
+            Call::Round => squares_twice(rt, alloc, input.1.max(1), cx),
+            Call::Nothing => runs_nothing(rt, alloc, input.1, cx),
         }
-        Sight::Wrong
     }
 
     ghost equal_is_same = { Prim.search rules };
+}
+
+// Opens a lock of two threads and squares seven items there; asks again where it was refused.
+fn opens_twice<H: Threads + Wait + Sync>(
+    rt: &H,
+    alloc: Global,
+    jobs: usize,
+    cx: &mut JobCx<Under<Square>>,
+) -> Sight
+    requires { 0 < jobs }
+{
+    for _ in 0..2 {
+        let mut is_run = false;
+        let answer = cx.with_lock(
+            rt,
+            alloc,
+            2,
+            |leader| -> bool
+                requires sync { IsSync H.row }
+                requires jobs { 0 < jobs }
+            {
+                is_run = true;
+                squares_seven(rt, alloc, leader, jobs)
+            },
+        );
+        match answer {
+            Ok(true) => return Sight::Right,
+            Ok(false) => return Sight::Wrong,
+            Err(_) if is_run => return Sight::RunAnyway,
+            Err(_) => {}
+        }
+    }
+    Sight::Wrong
 }
 
 // Squares seven items in so many jobs; where that is refused, the same lock answers when asked again.
@@ -93,139 +129,108 @@ where
     false
 }
 
-/// Squares seven items in so many jobs by a round of its own; asks again where it was refused.
-pub struct SquaresTwice;
-
-impl Job for SquaresTwice {
-    type In = usize;
-
-    type Out = Sight;
-
-    type Inner = Under<Square>;
-
-    ghost meets = { λ _ _. Unit {0} };
-
-    fn run<H: Threads + Wait + Sync>(
-        rt: &H,
-        alloc: Global,
-        jobs: &usize,
-        cx: &mut JobCx<Under<Square>>,
-    ) -> Sight {
-        for _ in 0..2 {
-            let Ok(items) = seven_items(alloc) else {
-                return Sight::Wrong;
-            };
-            if let Ok(squares) = cx.for_each(rt, alloc, (*jobs).max(1), items) {
-                return if are_seven_squares(squares.as_slice()) {
-                    Sight::Right
-                } else {
-                    Sight::Wrong
-                };
-            }
-        }
-        Sight::Wrong
-    }
-
-    ghost equal_is_same = { Prim.search rules };
-}
-
-/// Plays empty rounds of its own. One that took memory would be refused it once.
-pub struct Empty;
-
-impl Job for Empty {
-    type In = usize;
-
-    type Out = Sight;
-
-    type Inner = Under<Square>;
-
-    ghost meets = { λ _ _. Unit {0} };
-
-    fn run<H: Threads + Wait + Sync>(
-        rt: &H,
-        alloc: Global,
-        jobs: &usize,
-        cx: &mut JobCx<Under<Square>>,
-    ) -> Sight {
-        let Ok(listed) = cx.for_each(rt, alloc, *jobs, Vec::new(alloc)) else {
+// Squares seven items by a round of its own; asks again where it was refused.
+fn squares_twice<H: Threads + Wait + Sync>(
+    rt: &H,
+    alloc: Global,
+    jobs: usize,
+    cx: &mut JobCx<Under<Square>>,
+) -> Sight
+    requires { 0 < jobs }
+{
+    for _ in 0..2 {
+        let Ok(items) = seven_items(alloc) else {
             return Sight::Wrong;
         };
-        let Ok(counted) = cx.for_each_raw(rt, alloc, 0) else {
-            return Sight::Wrong;
-        };
-        if listed.capacity() == 0 && counted.capacity() == 0 {
-            Sight::Right
-        } else {
-            Sight::Wrong
+        if let Ok(squares) = cx.for_each(rt, alloc, jobs, items) {
+            return seen(are_seven_squares(squares.as_slice()));
         }
     }
-
-    ghost equal_is_same = { Prim.search rules };
+    Sight::Wrong
 }
 
-// Each of these asks again for its lock and its round, and its jobs ask again for what they need. One function for all kinds
-// of job isn't covered by the checker: its callers would have to know of `Under` as a bound.
+// Plays empty rounds of its own. One that took memory would be refused it once.
+fn runs_nothing<H: Threads + Wait + Sync>(
+    rt: &H,
+    alloc: Global,
+    jobs: usize,
+    cx: &mut JobCx<Under<Square>>,
+) -> Sight {
+    let Ok(listed) = cx.for_each(rt, alloc, jobs, Vec::new(alloc)) else {
+        return Sight::Wrong;
+    };
+    let Ok(counted) = cx.for_each_raw(rt, alloc, 0) else {
+        return Sight::Wrong;
+    };
+    seen(listed.capacity() == 0 && counted.capacity() == 0)
+}
+
+fn seen(is_right: bool) -> Sight {
+    if is_right { Sight::Right } else { Sight::Wrong }
+}
+
+// What seven such calls saw, by one round in a lock of two threads: the first in no jobs, the last in six.
+fn sights<H: Threads + Wait + Sync>(
+    rt: &H,
+    alloc: Global,
+    jobs: usize,
+    call: Call,
+) -> Result<Vec<Sight>, Fault>
+    requires { 0 < jobs }
+{
+    let pool = Pool::new(2, Limits::new(), NoGate);
+    with_lock::<Asking, _, _, _, _, _>(
+        rt,
+        alloc,
+        &pool,
+        2,
+        |leader|
+            requires { 0 < jobs }
+        { leader.for_each(rt, alloc, jobs, seven_calls(alloc, call)?) },
+    )?
+}
+
+fn seven_calls(alloc: Global, call: Call) -> Result<Vec<(Call, usize)>, Fault> {
+    let mut calls = Vec::with_capacity(alloc, 7)?;
+    for jobs in 0..7 {
+        calls.push((call, jobs))?;
+    }
+    Ok(calls)
+}
+
+// Asks again for the lock and its round; its jobs ask again for what they need.
+fn all_are_right<H: Threads + Wait + Abort + Sync>(
+    rt: &H,
+    alloc: Global,
+    jobs: usize,
+    call: Call,
+) -> Result<(), Fault>
+    requires { 0 < jobs }
+{
+    let seen = match sights(rt, alloc, jobs, call) {
+        Ok(seen) => seen,
+        Err(_) => sights(rt, alloc, jobs, call)?,
+    };
+    are(rt, &seen, &[Sight::Right; 7]);
+    Ok(())
+}
 
 #[test]
 fn refused_lock_in_a_job_opens_when_asked_again(rt: HostRuntime) -> Result<(), Fault> {
-    let alloc = rt.alloc();
-    let pool = Pool::new(2, Limits::new(), NoGate);
-    for _ in 0..2 {
-        let answer = with_lock::<OpensTwice, _, _, _, _, _>(&rt, alloc, &pool, 2, |leader| {
-            leader.for_each(&rt, alloc, 2, seven_items(alloc)?)
-        });
-        if let Ok(Ok(seen)) = answer {
-            are(&rt, &seen, &[Sight::Right; 7]);
-            return Ok(());
-        }
-    }
-    Err(Fault::Memory)
+    all_are_right(&rt, rt.alloc(), 2, Call::Lock)
 }
 
 #[test]
 fn refused_lock_in_a_direct_job_opens_when_asked_again(rt: HostRuntime) -> Result<(), Fault> {
-    let alloc = rt.alloc();
-    let pool = Pool::new(2, Limits::new(), NoGate);
-    for _ in 0..2 {
-        let answer = with_lock::<OpensTwice, _, _, _, _, _>(&rt, alloc, &pool, 2, |leader| {
-            leader.for_each(&rt, alloc, 1, seven_items(alloc)?)
-        });
-        if let Ok(Ok(seen)) = answer {
-            are(&rt, &seen, &[Sight::Right; 7]);
-            return Ok(());
-        }
-    }
-    Err(Fault::Memory)
+    all_are_right(&rt, rt.alloc(), 1, Call::Lock)
 }
 
 #[test]
 fn refused_round_in_a_job_answers_when_asked_again(rt: HostRuntime) -> Result<(), Fault> {
-    let alloc = rt.alloc();
-    let pool = Pool::new(2, Limits::new(), NoGate);
-    for _ in 0..2 {
-        let answer = with_lock::<SquaresTwice, _, _, _, _, _>(&rt, alloc, &pool, 2, |leader| {
-            leader.for_each(&rt, alloc, 2, seven_items(alloc)?)
-        });
-        if let Ok(Ok(seen)) = answer {
-            are(&rt, &seen, &[Sight::Right; 7]);
-            return Ok(());
-        }
-    }
-    Err(Fault::Memory)
+    all_are_right(&rt, rt.alloc(), 2, Call::Round)
 }
 
 #[test]
 fn refused_nothing_in_a_job_where_nothing_is_run(rt: HostRuntime) -> Result<(), Fault> {
-    let alloc = rt.alloc();
-    let pool = Pool::new(2, Limits::new(), NoGate);
-    for _ in 0..2 {
-        let answer = with_lock::<Empty, _, _, _, _, _>(&rt, alloc, &pool, 2, |leader| {
-            leader.for_each(&rt, alloc, 2, seven_items(alloc)?)
-        });
-        if let Ok(Ok(seen)) = answer {
-            are(&rt, &seen, &[Sight::Right; 7]);
-            return Ok(());
-        }
-    }
-    Err(Fault::Memory)
+    all_are_right(&rt, rt.alloc(), 2, Call::Nothing)
 }

@@ -1,12 +1,23 @@
 //! Rows of jobs that play many rounds in locks of their own: over chunks of a list, over numbers, and in turn.
+ghost use Rattle.std.specs.Prelude.{◌<◌};
 ghost use Rattle.std.proofs.Common.{rules};
 ghost use denote.Param.Send.{IsSync};
 
 use crate::checks::{are, is};
-use crate::squares::Square;
-use spindle::lock::{End, Job, JobCx, Leader, Limits, NoGate, Opens, Pool, Under};
-use spindle::{Fault, ListRun, SharedList, gathered, with_lock};
+use spindle_lists::{ListRun, SharedList, gathered};
+use spindle_parts::fault::Fault;
+use spindle_trays::crew::limits::Limits;
+use spindle_trays::job::Job;
+use spindle_trays::job::context::JobCx;
+use spindle_trays::job::gate::NoGate;
+use spindle_trays::job::nest::{End, Under};
+use spindle_trays::lock::leader::Leader;
+use spindle_trays::lock::pool::Pool;
+use spindle_trays::lock::root::with_lock;
+use spindle_trays::lock::workspace::Opens;
+use spindle_trays_vectors::jobs::Square;
 use std::alloc::Global;
+use std::process::Abort;
 use std::sync::Wait;
 use std::thread::Threads;
 
@@ -114,18 +125,51 @@ impl Job for FirstSquares {
     ghost equal_is_same = { Prim.search rules };
 }
 
-#[test]
-fn two_lists_grow_in_sixteen_rounds_of_two_inner_locks(rt: HostRuntime) -> Result<(), Fault> {
-    let alloc = rt.alloc();
-    let pool = Pool::new(16, Limits::new(), NoGate);
-    let lists = with_lock::<SixteenRounds, _, _, _, _, _>(&rt, alloc, &pool, 16, |leader| {
-        leader.for_each(&rt, alloc, 2, vec![in alloc; 8, 8]?)
-    })??;
-    is(&rt, lists.len(), 2);
+// So many rounds of one lock: for each of these numbers of threads a job adds one to zeros, sixteen times.
+fn grow_often<H: Threads + Wait + Abort + Sync>(
+    rt: &H,
+    alloc: Global,
+    pool: &Pool<NoGate>,
+    rounds: usize,
+    jobs: usize,
+    threads: &[usize],
+) -> Result<(), Fault>
+    requires { 0 < jobs }
+{
+    with_lock::<SixteenRounds, _, _, _, _, _>(
+        rt,
+        alloc,
+        pool,
+        pool.max_num_threads(),
+        |leader|
+            requires { 0 < jobs }
+        {
+            for _ in 0..rounds {
+                let lists = leader.for_each(rt, alloc, jobs, threads.to_vec(alloc)?)?;
+                are_sixteens(rt, lists, threads.len())?;
+            }
+            Ok::<(), Fault>(())
+        },
+    )?
+}
+
+// So many lists came out, each of 256 times 16.
+fn are_sixteens<H: Abort>(
+    rt: &H,
+    lists: Vec<Result<Vec<u64>, Fault>>,
+    count: usize,
+) -> Result<(), Fault> {
+    is(rt, lists.len(), count);
     for list in lists {
-        are(&rt, &list?, &[16u64; 256]);
+        are(rt, &list?, &[16u64; 256]);
     }
     Ok(())
+}
+
+#[test]
+fn two_lists_grow_in_sixteen_rounds_of_two_inner_locks(rt: HostRuntime) -> Result<(), Fault> {
+    let pool = Pool::new(16, Limits::new(), NoGate);
+    grow_often(&rt, rt.alloc(), &pool, 1, 2, &[8, 8])
 }
 
 // Nine jobs for four slots, and no thread makes a turn before it sleeps.
@@ -133,50 +177,67 @@ fn two_lists_grow_in_sixteen_rounds_of_two_inner_locks(rt: HostRuntime) -> Resul
 fn more_jobs_than_slots_open_locks_in_which_all_sleep_at_once(
     rt: HostRuntime,
 ) -> Result<(), Fault> {
-    let alloc = rt.alloc();
     let pool = Pool::new(4, Limits { spin: 0, pause: 0 }, NoGate);
-    with_lock::<SixteenRounds, _, _, _, _, _>(&rt, alloc, &pool, 4, |leader| {
-        for _ in 0..100 {
-            let threads = vec![in alloc; 1, 2, 3, 4, 5, 4, 3, 2, 4]?;
-            let lists = leader.for_each(&rt, alloc, 9, threads)?;
-            is(&rt, lists.len(), 9);
-            for list in lists {
-                are(&rt, &list?, &[16u64; 256]);
+    let threads = [1, 2, 3, 4, 5, 4, 3, 2, 4];
+    grow_often(&rt, rt.alloc(), &pool, 100, 9, threads.as_slice())
+}
+
+// So many rounds of one lock: for each of these counts a job squares so many numbers, by a round of its own.
+fn square_often<H: Threads + Wait + Abort + Sync>(
+    rt: &H,
+    alloc: Global,
+    pool: &Pool<NoGate>,
+    rounds: usize,
+    jobs: usize,
+    counts: &[usize],
+) -> Result<(), Fault>
+    requires { 0 < jobs }
+{
+    with_lock::<FirstSquares, _, _, _, _, _>(
+        rt,
+        alloc,
+        pool,
+        pool.max_num_threads(),
+        |leader|
+            requires { 0 < jobs }
+        {
+            for _ in 0..rounds {
+                let lists = leader.for_each(rt, alloc, jobs, counts.to_vec(alloc)?)?;
+                are_first_squares(rt, lists, counts)?;
             }
-        }
-        Ok::<(), Fault>(())
-    })?
+            Ok::<(), Fault>(())
+        },
+    )?
+}
+
+// Each list has the squares of so many first numbers, of four at most.
+fn are_first_squares<H: Abort>(
+    rt: &H,
+    lists: Vec<Result<Vec<u128>, Fault>>,
+    counts: &[usize],
+) -> Result<(), Fault> {
+    is(rt, lists.len(), counts.len());
+    let mut place = 0usize;
+    for list in lists {
+        let list = list?;
+        is(rt, Some(list.len()), counts.get(place).copied());
+        assert!(rt; [0, 1, 4, 9].as_slice().starts_with(&list));
+        place = place.wrapping_add(1);
+    }
+    Ok(())
 }
 
 #[test]
 fn numbers_squared_by_rounds_of_jobs(rt: HostRuntime) -> Result<(), Fault> {
     let alloc = rt.alloc();
     let pool = Pool::new(2, Limits::new(), NoGate);
-    with_lock::<FirstSquares, _, _, _, _, _>(&rt, alloc, &pool, 2, |leader| {
-        for list in leader.for_each(&rt, alloc, 1, vec![in alloc; 4]?)? {
-            are(&rt, &list?, &[0, 1, 4, 9]);
-        }
-        for list in leader.for_each(&rt, alloc, 4, vec![in alloc; 4, 4, 4, 4]?)? {
-            are(&rt, &list?, &[0, 1, 4, 9]);
-        }
-        for list in leader.for_each(&rt, alloc, 2, vec![in alloc; 0, 0]?)? {
-            assert!(rt; list?.is_empty());
-        }
-        Ok::<(), Fault>(())
-    })?
+    square_often(&rt, alloc, &pool, 1, 1, &[4])?;
+    square_often(&rt, alloc, &pool, 1, 4, &[4, 4, 4, 4])?;
+    square_often(&rt, alloc, &pool, 1, 2, &[0, 0])
 }
 
 #[test]
 fn ten_thousand_inner_locks_in_one_lock(rt: HostRuntime) -> Result<(), Fault> {
-    let alloc = rt.alloc();
     let pool = Pool::new(3, Limits::new(), NoGate);
-    with_lock::<FirstSquares, _, _, _, _, _>(&rt, alloc, &pool, 3, |leader| {
-        for _ in 0..2500 {
-            let lists = leader.for_each(&rt, alloc, 3, vec![in alloc; 2, 3, 2, 3]?)?;
-            for list in lists {
-                assert!(rt; list?.starts_with(&[0, 1]));
-            }
-        }
-        Ok::<(), Fault>(())
-    })?
+    square_often(&rt, rt.alloc(), &pool, 2500, 3, &[2, 3, 2, 3])
 }

@@ -2,8 +2,11 @@
 
 use crate::checks::are;
 use crate::jobs::{DoubleBoth, FourUnits, Opener, Rounds, Where};
-use spindle::lock::{Limits, NoGate, Pool};
-use spindle::{Fault, with_lock};
+use spindle_parts::fault::Fault;
+use spindle_trays::crew::limits::Limits;
+use spindle_trays::job::gate::NoGate;
+use spindle_trays::lock::pool::Pool;
+use spindle_trays::lock::root::with_lock;
 
 #[test]
 fn a_helper_comes_to_a_lock_that_a_job_opens(rt: HostRuntime) -> Result<(), Fault> {
