@@ -62,6 +62,38 @@ impl Job for Stir {
     ghost equal_is_same = { Prim.search rules };
 }
 
+/// A number, and what it is stirred to.
+#[derive(Drop)]
+pub struct Stirring {
+    /// The number.
+    pub number: u64,
+    /// What came out of it, once it was stirred.
+    pub stirred: u64,
+}
+
+/// Stirs a number, and writes down beside it what comes out.
+pub struct StirInPlace;
+
+impl Remake for StirInPlace {
+    type Item = Stirring;
+
+    type Inner = End;
+
+    ghost remade = { λ _ _. Unit {0} };
+
+    fn run<H: Threads + Wait + Sync>(
+        _rt: &H,
+        _alloc: Global,
+        item: Stirring,
+        _cx: &mut JobCx<End>,
+    ) -> Stirring {
+        Stirring {
+            number: item.number,
+            stirred: stirred(item.number),
+        }
+    }
+}
+
 /// A part of the list of `nested`.
 pub type Part = [u64; NESTED_LEN / NESTED_PARTS];
 
@@ -234,6 +266,44 @@ impl Job for Squares {
     }
 
     ghost equal_is_same = { Prim.search rules };
+}
+
+/// Numbers, and room for the square of each.
+#[derive(Drop)]
+pub struct Squaring {
+    /// The numbers.
+    pub numbers: SharedList<u64>,
+    /// As many others, which become the squares.
+    pub squares: Vec<u64>,
+}
+
+/// Squares the numbers of a list, each into its place of another.
+pub struct SquareInPlace;
+
+impl Remake for SquareInPlace {
+    type Item = Squaring;
+
+    type Inner = End;
+
+    ghost remade = { λ _ _. Unit {0} };
+
+    fn run<H: Threads + Wait + Sync>(
+        _rt: &H,
+        _alloc: Global,
+        mut item: Squaring,
+        _cx: &mut JobCx<End>,
+    ) -> Squaring {
+        square_each(item.numbers.as_slice(), item.squares.as_mut_slice());
+        item
+    }
+}
+
+// Puts the square of each number into its place; the product wraps.
+fn square_each(numbers: &[u64], squares: &mut [u64]) {
+    let count = numbers.len().min(squares.len());
+    for at in 0..count {
+        squares[at] = numbers[at].wrapping_mul(numbers[at]);
+    }
 }
 
 /// The square of each number; the product wraps.

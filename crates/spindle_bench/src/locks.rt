@@ -2,7 +2,9 @@
 ghost use Rattle.std.specs.Prelude.{◌≡◌, ◌*◌, ◌<◌, ◌≤◌};
 ghost use denote.Param.Send.{IsSync};
 
-use crate::jobs::{AddOneInPlace, SmoothInPlace};
+use crate::jobs::{AddOneInPlace, SmoothInPlace, SquareInPlace, StirInPlace};
+use crate::rounds::maps::MapPlaceRounds;
+use crate::rounds::small::TinyPlaceRounds;
 use crate::rounds::smooth::SmoothPlaceRounds;
 use crate::rounds::stencils::StencilPlaceRounds;
 use crate::rounds::{PlaceRounds, Rounds, SlotRounds, TrayRounds};
@@ -157,6 +159,44 @@ pub fn smooth_in_place<H: Threads + Wait + Sync + Clock + Print + Alloc<A = Glob
     rounds: SmoothPlaceRounds,
 ) -> Result<(), Stop> {
     with_slots_in_place::<InPlace<SmoothInPlace>, NoGate, Result<(), Stop>, _, _, H>(
+        rt,
+        rt.alloc(),
+        &pool(settings),
+        settings.threads,
+        shape.jobs(settings.threads),
+        |leader| -> Result<(), Stop>
+            requires { IsSync H.row }
+        { led_in_place(rt, settings, shape, leader, rounds) },
+    )?
+}
+
+/// Runs the rounds of small jobs in a lock with a slot for each of their jobs, in place.
+pub fn stir_in_place<H: Threads + Wait + Sync + Clock + Print + Alloc<A = Global>>(
+    rt: &H,
+    settings: &Settings,
+    shape: Shape,
+    rounds: TinyPlaceRounds,
+) -> Result<(), Stop> {
+    with_slots_in_place::<InPlace<StirInPlace>, NoGate, Result<(), Stop>, _, _, H>(
+        rt,
+        rt.alloc(),
+        &pool(settings),
+        settings.threads,
+        shape.jobs(settings.threads),
+        |leader| -> Result<(), Stop>
+            requires { IsSync H.row }
+        { led_in_place(rt, settings, shape, leader, rounds) },
+    )?
+}
+
+/// Runs the rounds that square numbers in a lock with a slot for each of their jobs, in place.
+pub fn square_in_place<H: Threads + Wait + Sync + Clock + Print + Alloc<A = Global>>(
+    rt: &H,
+    settings: &Settings,
+    shape: Shape,
+    rounds: MapPlaceRounds,
+) -> Result<(), Stop> {
+    with_slots_in_place::<InPlace<SquareInPlace>, NoGate, Result<(), Stop>, _, _, H>(
         rt,
         rt.alloc(),
         &pool(settings),

@@ -4,11 +4,12 @@
 //! there, runs rounds in it, checks what came out, and prints a line `NAME SHAPE THREADS best median p10 p90`, as
 //! `spindle_timing` says. NAME is `zuflanto` for a lock that `with_slots` opens, with a slot for each job of the round,
 //! `zuflanto-trays` for one that `with_lock` opens, and `zuflanto-place` for one that `with_slots_in_place` opens, whose rounds are
-//! `remake_each`: the stencils alone have such a line. `try8`, `nested` and the products run with trays alone.
+//! `remake_each`: `tiny8`, the stencils and `map` have such a line. `try8`, `nested` and the products run with trays alone.
 //!
 //! - `empty`: as many numbers as threads; a job does nothing. With trays by `for_each_raw`, with slots by `for_each` over a list
 //!   that is made as `for_each_raw` makes it.
-//! - `tiny8`: the same for eight numbers a thread; a job is about 50 ns of dependent arithmetic.
+//! - `tiny8`: the same for eight numbers a thread; a job is about 50 ns of dependent arithmetic. In place an item is a number with
+//!   what comes out of it, which a job writes down there.
 //! - `try8`: `tiny8` by `try_for_each`: the same list of numbers, no job fails, and what comes out is the report.
 //! - `nested`: `for_each` over two shared lists of 256 numbers in four parts; a job opens a lock with trays for half of the threads and
 //!   runs sixteen rounds there, each of which adds one to each number, a part a job. An item of an inner round is a part itself, and
@@ -21,7 +22,7 @@
 //!   the answers. In place the numbers are copied once a round into one strip a thread; a pass tells each strip its neighbours' ends,
 //!   and a job changes its numbers where they stand.
 //! - `map`: `for_each` over 4096 numbers, in four shared lists a thread that were made before the clock started; a job
-//!   answers the squares.
+//!   answers the squares. In place an item is such a list with another of that length, into which a job writes the squares.
 //! - `product64`, `product256`: the product of two matrices of 64 or 256 rows and columns: `for_each` over blocks of the left
 //!   one's rows, four a thread, each with one shared list of all columns; the rows of the product are joined into one list.
 //!

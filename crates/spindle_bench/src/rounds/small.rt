@@ -2,9 +2,9 @@
 ghost use Rattle.std.specs.Prelude.{◌≡◌};
 ghost use denote.Param.Send.{IsSync};
 
-use crate::jobs::{Nothing, Stir};
-use crate::rounds::{Rounds, SlotRounds, TrayRounds};
-use spindle::lock::{Leader, NoGate, Report, SlotLeader};
+use crate::jobs::{Nothing, Stir, StirInPlace, Stirring};
+use crate::rounds::{PlaceRounds, Rounds, SlotRounds, TrayRounds};
+use spindle::lock::{InPlace, Leader, NoGate, PlacePost, Report, SlotLeader};
 use spindle_timing::kernels::stirred;
 use spindle_timing::stop::Stop;
 use std::alloc::{AllocError, Global};
@@ -126,6 +126,54 @@ impl TrayRounds for TinyRounds {
         leader: &mut Leader<Stir, NoGate>,
     ) -> Result<(), Stop> {
         self.outputs = leader.for_each_raw(rt, alloc, self.jobs)?;
+        Ok(())
+    }
+}
+
+/// Rounds of small jobs, each of which writes down what comes out beside its number.
+#[derive(Drop)]
+pub struct TinyPlaceRounds {
+    items: Vec<Stirring>,
+}
+
+impl TinyPlaceRounds {
+    /// Rounds of so many jobs.
+    pub fn new(alloc: Global, jobs: usize) -> Result<TinyPlaceRounds, Stop> {
+        let mut items = Vec::with_capacity(alloc, jobs)?;
+        for number in 0..jobs {
+            items.push(Stirring {
+                number: number as u64,
+                stirred: 0,
+            })?;
+        }
+        Ok(TinyPlaceRounds { items })
+    }
+}
+
+impl Rounds for TinyPlaceRounds {
+    fn is_right(&self, _rounds: u64) -> bool {
+        let mut number = 0u64;
+        for item in &self.items {
+            if item.number != number || item.stirred != stirred(number) {
+                return false;
+            }
+            number = number.saturating_add(1);
+        }
+        true
+    }
+}
+
+impl PlaceRounds for TinyPlaceRounds {
+    type Kind = StirInPlace;
+
+    fn in_place<H: Threads + Wait + Sync>(
+        &mut self,
+        rt: &H,
+        alloc: Global,
+        leader: &mut SlotLeader<InPlace<StirInPlace>, NoGate, PlacePost<InPlace<StirInPlace>>>,
+    ) -> Result<(), Stop> {
+        let jobs = self.items.len();
+        leader.remake_each(rt, alloc, jobs, &mut self.items)?;
         Ok(())
     }
 }

@@ -1,5 +1,5 @@
 -- One number more; at the end all are.
-use Rattle.std.proofs.Common.{◌≡◌, ℕ, List, ◌+◌, ◌<◌, ◌%◌, ◌^◌, ◌++◌, length, drop, get_or, ap, arith, ◌∙◌}
+use Rattle.std.proofs.Common.{ℕ, List, ◌+◌, ◌<◌, ◌%◌, ◌^◌, ◌++◌, length, drop, get_or, ap, arith, ◌∙◌}
 use Rattle.std.proofs.lemmas.List.{get_or_default, take_all, drop_all, append-nil}
 use Rattle.std.proofs.lemmas.List.Edits.{map_over_more}
 use Rattle.spindle_bench.specs.Kernels.{one_more_of}
