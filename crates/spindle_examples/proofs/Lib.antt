@@ -7,3 +7,4 @@ mod Passes
 mod Evaluations
 mod Reports
 pub mod Stencils
+mod Counts

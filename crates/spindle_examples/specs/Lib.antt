@@ -8,3 +8,4 @@ pub mod Checked
 pub mod Stencil
 pub mod Strips
 pub mod Chomp
+pub mod Ranks

@@ -1,6 +1,7 @@
 //! Programs of the users' fields, each a few dozen lines over the public calls of `spindle`, with its contract in its own
 //! terms: a batch that loses nothing, one that a failure stops, prefix sums in two rounds, a matrix product in blocks that stand
-//! in place, a stencil of many passes, the same in place, and a game evaluated by rounds in rounds.
+//! in place, a stencil of many passes, the same in place, keys looked up in a table that all jobs are lent, and a game evaluated
+//! by rounds in rounds.
 //!
 //! The program runs each once over fixed numbers, and prints what comes out. The tests compute the same plainly. Where the
 //! variable TRACE is set, it also prints who ran which job of a recorded round when, which differs from run to run.
@@ -14,6 +15,7 @@ mod chomp;
 mod evaluator;
 mod prefix;
 mod product;
+mod ranks;
 mod stencil;
 mod stop;
 mod strips;
@@ -49,6 +51,10 @@ fn main(rt: HostRuntime) -> Result<(), Stop> {
     let heat = vec![in alloc; 1024u32, 0, 0, 0, 0, 512, 0]?;
     let smooth = strips::smoothed(&rt, alloc, &pool, 3, heat, 4)?;
     println!(rt; "strips {smooth:?}")?;
+    let limits = vec![in alloc; 50u32, 20, 90, 20]?;
+    let keys = vec![in alloc; 21u32, 20, 90, 100]?;
+    let ranks = ranks::ranks(&rt, alloc, &pool, 2, limits, keys)?;
+    println!(rt; "ranks {ranks:?}")?;
     let board = Board {
         top: 4,
         middle: 3,

@@ -1,7 +1,7 @@
 //! The examples against the same computed plainly, over random inputs, with one thread and with several.
 
 use crate::chomp::Board;
-use crate::{evaluator, prefix, product, stencil, strips};
+use crate::{evaluator, prefix, product, ranks, stencil, strips};
 use spindle::Fault;
 use spindle::lock::{Limits, NoGate, Pool};
 use std::alloc::Global;
@@ -226,6 +226,27 @@ fn a_game_by_nested_rounds_is_the_one_by_a_table(rt: HostRuntime) -> Result<(), 
                 plain.clone()?,
                 "{top}, {middle} and {bottom} squares"
             );
+        }
+    }
+    Ok(())
+}
+
+#[test]
+fn ranks_in_a_lent_table_are_counts(rt: HostRuntime) -> Result<(), Fault> {
+    let alloc = rt.alloc();
+    let mut state = 17;
+    for (count, asked) in [(0, 3), (1, 2), (10, 0), (257, 40)] {
+        let table = numbers(alloc, &mut state, count)?;
+        let mut keys = numbers(alloc, &mut state, asked)?;
+        keys.append(&mut table.clone()?)?;
+        let mut plain = Vec::new(alloc);
+        for key in keys.as_slice() {
+            plain.push(table.iter().filter(|number| **number < *key).count())?;
+        }
+        for (threads, jobs) in [(1, 1), (1, 3), (4, 2), (4, 300)] {
+            let pool = Pool::new(threads, Limits::new(), NoGate);
+            let ranks = ranks::ranks(&rt, alloc, &pool, jobs, table.clone()?, keys.clone()?)?;
+            assert_eq!(rt; ranks, plain.clone()?, "{count} numbers, {jobs} jobs");
         }
     }
     Ok(())
