@@ -1,5 +1,5 @@
 //! A game evaluated by nested rounds: a job is given a board of Chomp, and has the boards that bites leave of it evaluated by a round
-//! of its own, whose jobs go on in plain recursion.
+//! of its own, whose jobs go on in plain recursion. So games of any length have locks at their first two bites alone.
 ghost use Rattle.std.specs.Prelude.{◌≡◌, IfOk, vec_len};
 ghost use Rattle.std.specs.List.{AllZip};
 ghost use Rattle.std.proofs.Common.{rules};
