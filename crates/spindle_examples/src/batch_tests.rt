@@ -61,7 +61,7 @@ fn is_checked(
             assert_eq!(rt; bills.as_slice(), plain);
         }
         Checked::Stopped(stopped, ran) => {
-            let pieces = cut(alloc, &mut plain.to_vec(alloc)?, jobs)?;
+            let pieces = cut(alloc, &mut plain.to_vec(alloc)?, jobs.max(1))?;
             let mut first: Option<usize> = None;
             for (number, bills) in ran {
                 let wanted = pieces.get(number).map(|piece| piece.items.as_slice());
