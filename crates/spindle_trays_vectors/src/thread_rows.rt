@@ -163,8 +163,8 @@ fn a_thousand_locks_in_turn(rt: HostRuntime) -> Result<(), Fault> {
 fn sixty_four_threads_on_few_processors(rt: HostRuntime) -> Result<(), Fault> {
     let alloc = rt.alloc();
     let mut squares = Vec::with_capacity(alloc, 100)?;
-    for number in 0..100u128 {
-        squares.push(number.wrapping_mul(number))?;
+    for number in 0..100u64 {
+        squares.push(number.wrapping_mul(number) as u128)?;
     }
     for limits in [
         Limits::new(),
