@@ -5,7 +5,7 @@
 ghost use Rattle.std.specs.Prelude.{◌<◌};
 
 use crate::crew::limits::Limits;
-use crossbeam_utils::Backoff;
+use crossbeam_utils::{Backoff, CachePadded};
 use std::hint::spin_loop;
 use std::sync::{Condvar, Mutex, MutexGuard, Wait};
 use std::thread;
@@ -17,6 +17,12 @@ const QUIET_TURNS: u32 = 64;
 #[derive(Drop)]
 pub struct Sleep {
     limits: Limits,
+    bed: CachePadded<Bed>,
+}
+
+// Whoever wakes the sleepers writes here, so it shares no cache line with what waiting threads read.
+#[derive(Drop)]
+struct Bed {
     mutex: Mutex<()>,
     changed: Condvar,
 }
@@ -24,10 +30,13 @@ pub struct Sleep {
 impl Sleep {
     /// A place to sleep for threads with these limits.
     pub fn new(limits: Limits) -> Sleep {
-        Sleep {
-            limits,
+        let bed = Bed {
             mutex: Mutex::new(()),
             changed: Condvar::new(),
+        };
+        Sleep {
+            limits,
+            bed: CachePadded::new(bed),
         }
     }
 
@@ -38,14 +47,15 @@ impl Sleep {
 
     /// Wakes all who sleep. A word was changed before.
     pub fn wake<H: Wait>(&self, rt: &H) {
-        drop(self.mutex.lock(rt));
-        self.changed.notify_all();
+        drop(self.bed.mutex.lock(rt));
+        self.bed.changed.notify_all();
     }
 
     /// The pauses of a thread that begins to wait.
     pub fn idle(&self) -> Idle<'_> {
         Idle {
-            sleep: self,
+            bed: &self.bed,
+            pauses: self.limits.pause,
             turns: self.limits.spin / self.limits.pause.max(1),
             turn: 0,
             backoff: Backoff::new(),
@@ -57,7 +67,8 @@ impl Sleep {
 /// The pauses of one thread, from its first look on.
 #[derive(Drop)]
 pub struct Idle<'a> {
-    sleep: &'a Sleep,
+    bed: &'a Bed,
+    pauses: u32,
     turns: u32,
     turn: u32,
     backoff: Backoff,
@@ -68,10 +79,10 @@ impl<'a> Idle<'a> {
     /// Passes the time between two looks. A thread that is told to rest makes no turn.
     pub fn pass<H: Wait>(&mut self, rt: &H, rest: bool) {
         match self.guard.take() {
-            Some(guard) => self.guard = Some(self.sleep.changed.wait(rt, guard)),
+            Some(guard) => self.guard = Some(self.bed.changed.wait(rt, guard)),
             None => {
                 if rest || self.turn >= self.turns {
-                    self.guard = Some(self.sleep.mutex.lock(rt));
+                    self.guard = Some(self.bed.mutex.lock(rt));
                 } else {
                     self.take_turn();
                 }
@@ -93,7 +104,7 @@ impl<'a> Idle<'a> {
         requires { self.old.turn < self.old.turns }
     {
         self.turn += 1;
-        for _ in 0..self.sleep.limits.pause {
+        for _ in 0..self.pauses {
             spin_loop();
         }
         if self.turn > QUIET_TURNS {
