@@ -16,6 +16,7 @@ pub mod jobs;
 mod leader_rows;
 #[cfg(test)]
 mod list_rows;
+pub mod lists;
 #[cfg(test)]
 mod marks;
 #[cfg(test)]

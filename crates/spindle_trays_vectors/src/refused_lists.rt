@@ -4,17 +4,13 @@
 //! Each of these tests ends well whichever one of its allocations is refused. With memory for all, they show that a round
 //! that answers keeps no item either.
 
-ghost use Rattle.std.specs.Prelude.{◌≡◌, ◌<◌};
-ghost use Rattle.std.proofs.Common.{rules};
+ghost use Rattle.std.specs.Prelude.{◌<◌};
 
 use crate::checks::are;
-use spindle_lists::SharedList;
+use crate::lists::{Length, are_three_numbers, seven_clones, three_numbers};
 use spindle_parts::fault::Fault;
 use spindle_trays::crew::limits::Limits;
-use spindle_trays::job::Job;
-use spindle_trays::job::context::JobCx;
 use spindle_trays::job::gate::NoGate;
-use spindle_trays::job::nest::End;
 use spindle_trays::lock::leader::Leader;
 use spindle_trays::lock::pool::Pool;
 use spindle_trays::lock::root::with_lock;
@@ -22,50 +18,6 @@ use std::alloc::Global;
 use std::process::Abort;
 use std::sync::Wait;
 use std::thread::Threads;
-
-/// Answers how long a list is.
-pub struct Length;
-
-impl Job for Length {
-    type In = SharedList<usize>;
-
-    type Out = usize;
-
-    type Inner = End;
-
-    ghost use Rattle.std.specs.Prelude.{length};
-
-    ghost meets = { λ list n. n ≡ length list };
-
-    fn run<H: Threads + Wait + Sync>(
-        _rt: &H,
-        _alloc: Global,
-        input: &SharedList<usize>,
-        _cx: &mut JobCx<End>,
-    ) -> usize {
-        input.len()
-    }
-
-    ghost equal_is_same = { Prim.search rules };
-}
-
-/// A list of three numbers.
-pub fn three_numbers(alloc: Global) -> Result<SharedList<usize>, Fault> {
-    let numbers = vec![in alloc; 5, 6, 7]?;
-    Ok(SharedList::from_vec(alloc, numbers)?)
-}
-
-/// Seven clones of a list.
-pub fn seven_clones(
-    alloc: Global,
-    list: &SharedList<usize>,
-) -> Result<Vec<SharedList<usize>>, Fault> {
-    let mut items = Vec::with_capacity(alloc, 7)?;
-    for _ in 0..7 {
-        items.push(list.clone()?)?;
-    }
-    Ok(items)
-}
 
 // One round over seven clones of a list; whatever it answers, no clone is left.
 fn list_comes_out_again<H: Threads + Wait + Abort + Sync>(
@@ -77,20 +29,10 @@ fn list_comes_out_again<H: Threads + Wait + Abort + Sync>(
     requires { 0 < jobs }
 {
     let list = three_numbers(alloc)?;
-    match leader.for_each(rt, alloc, jobs, seven_clones(alloc, &list)?) {
-        Ok(lengths) => are(rt, lengths.as_slice(), &[3; 7]),
-        Err(fault) => assert!(rt; matches!(fault, Fault::Memory)),
-    }
-    comes_out_again(rt, list);
+    let lengths = leader.for_each(rt, alloc, jobs, seven_clones(alloc, &list)?);
+    assert!(rt; are_three_numbers(list), "a clone of the list is kept");
+    are(rt, lengths?.as_slice(), &[3; 7]);
     Ok(())
-}
-
-/// The three numbers come out of their list, of which no clone is left.
-pub fn comes_out_again<H: Abort>(rt: &H, list: SharedList<usize>) {
-    match list.try_into_vec() {
-        Ok(numbers) => are(rt, numbers.as_slice(), &[5, 6, 7]),
-        Err(_) => assert!(rt; false, "a clone of the list is kept"),
-    }
 }
 
 // Three rounds in a lock of the pool, of which one at most is refused.

@@ -7,7 +7,7 @@ ghost use Rattle.std.specs.Prelude.{◌<◌};
 
 use crate::checks::is;
 use crate::jobs::{Calls, Counting};
-use crate::refused_lists::{Length, comes_out_again, seven_clones, three_numbers};
+use crate::lists::{Length, are_three_numbers, seven_clones, three_numbers};
 use crate::sevens::unopened_or;
 use crate::trying_rows::{Trying, is_report, items};
 use spindle_parts::fault::Fault;
@@ -138,11 +138,10 @@ fn list_comes_out_again<H: Threads + Wait + Abort + Sync>(
     requires { 0 < jobs }
 {
     let list = three_numbers(alloc)?;
-    match leader.try_for_each(rt, alloc, jobs, seven_clones(alloc, &list)?) {
-        Ok(report) => is(rt, (report.ran.len(), report.skipped.len()), (jobs, 0)),
-        Err(fault) => assert!(rt; matches!(fault, Fault::Memory)),
-    }
-    comes_out_again(rt, list);
+    let report = leader.try_for_each(rt, alloc, jobs, seven_clones(alloc, &list)?);
+    assert!(rt; are_three_numbers(list), "a clone of the list is kept");
+    let report = report?;
+    is(rt, (report.ran.len(), report.skipped.len()), (jobs, 0));
     Ok(())
 }
 

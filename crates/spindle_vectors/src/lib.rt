@@ -22,4 +22,4 @@ mod refused_slots;
 mod slot_rows;
 
 #[cfg(test)]
-use spindle_trays_vectors::{gates, jobs, sevens};
+use spindle_trays_vectors::{gates, jobs, lists, sevens};

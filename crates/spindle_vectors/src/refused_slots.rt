@@ -1,15 +1,20 @@
 //! What a refused allocation leaves of a lock with slots: no job was run, and the same call with memory answers in full.
 //!
 //! Each of these tests ends well whichever one of its allocations is refused. With memory for all, they show the full answers.
-ghost use Rattle.std.specs.Prelude.{◌≡◌};
+ghost use Rattle.std.specs.Prelude.{◌≡◌, ◌<◌};
 ghost use Rattle.spindle.specs.SlotLeaders.{lock_slots};
 
-use crate::checks::is;
+use crate::checks::{are, is};
 use crate::jobs::{Calls, Counting, Square};
+use crate::lists::{Length, are_three_numbers, seven_clones, three_numbers};
 use crate::sevens::{are_seven_squares, unopened_or};
-use spindle::lock::{Limits, Pool};
+use spindle::lock::{Limits, NoGate, Pool, SlotLeader};
 use spindle::{Fault, with_slots};
+use std::alloc::Global;
+use std::process::Abort;
+use std::sync::Wait;
 use std::sync::atomic::{AtomicUsize, Ordering};
+use std::thread::Threads;
 
 // One allocation at most is refused, so one of the two locks opens.
 #[test]
@@ -83,4 +88,41 @@ fn refused_nothing_in_slots_where_nothing_is_run(rt: HostRuntime) -> Result<(), 
         Ok::<(), Fault>(())
     });
     unopened_or(&opened, answer)
+}
+
+// One round over seven clones of a list; whatever it answers, no clone is left.
+fn list_comes_out_again<H: Threads + Wait + Abort + Sync>(
+    rt: &H,
+    alloc: Global,
+    leader: &mut SlotLeader<Length, NoGate>,
+    jobs: usize,
+) -> Result<(), Fault>
+    requires { 0 < jobs }
+{
+    let list = three_numbers(alloc)?;
+    let lengths = leader.for_each(rt, alloc, jobs, seven_clones(alloc, &list)?);
+    assert!(rt; are_three_numbers(list), "a clone of the list is kept");
+    are(rt, lengths?.as_slice(), &[3; 7]);
+    Ok(())
+}
+
+#[test]
+fn refused_items_are_kept_by_no_slot(rt: HostRuntime) -> Result<(), Fault> {
+    let alloc = rt.alloc();
+    let pool = Pool::new(4, Limits::new(), NoGate);
+    let rounds = with_slots::<Length, _, _, _, _, _>(&rt, alloc, &pool, 4, 4, |leader| {
+        let mut refused = 0usize;
+        for jobs in [3, 4, 7] {
+            if let Err(fault) = list_comes_out_again(&rt, alloc, leader, jobs) {
+                assert!(rt; matches!(fault, Fault::Memory));
+                refused = refused.wrapping_add(1);
+            }
+        }
+        refused
+    });
+    match rounds {
+        Ok(refused) => assert!(rt; refused <= 1),
+        Err(fault) => assert!(rt; matches!(fault, Fault::Memory)),
+    }
+    Ok(())
 }
