@@ -25,7 +25,6 @@ pub use self::place_root::with_slots_in_place;
 pub use self::slot_leader::SlotLeader;
 pub use self::slot_root::with_slots;
 pub use self::slot_workspace::{MakesSlots, OpensSlots, SlotWorkspace};
-pub use crate::crew::slot_post::SlotPost;
 pub use crate::job::remake::{InPlace, Remake, Remakes};
 pub use crate::pieces::of_kind::{ChunkOf, PieceOf};
 pub use spindle_trays::crew::limits::Limits;
