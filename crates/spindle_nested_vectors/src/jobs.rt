@@ -10,10 +10,14 @@ use spindle_trays::job::nest::{End, Under};
 use std::alloc::Global;
 use std::hint::spin_loop;
 use std::sync::Wait;
+use std::thread;
 use std::thread::Threads;
 
 /// A thread waits for the others for at most so many turns.
 const MOST_TURNS: usize = 10000000;
+
+/// After so many of them it gives its core to the others.
+const TURNS_BEFORE_A_YIELD: usize = 1000;
 
 /// How often a job tries to have both threads at its rounds.
 const MOST_ROUNDS: usize = 100;
@@ -41,10 +45,13 @@ impl Job for Opener {
     ) -> usize {
         let met = cx.with_lock(rt, alloc, 2, |leader| {
             let mut last = 0;
-            for _ in 0..MOST_TURNS {
+            for turn in 0..MOST_TURNS {
                 last = leader.current_num_threads();
                 if last == 2 {
                     break;
+                }
+                if turn % TURNS_BEFORE_A_YIELD == 0 {
+                    thread::yield_now();
                 }
                 spin_loop();
             }

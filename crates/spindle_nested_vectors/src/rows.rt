@@ -7,16 +7,35 @@ use spindle_trays::crew::limits::Limits;
 use spindle_trays::job::gate::NoGate;
 use spindle_trays::lock::pool::Pool;
 use spindle_trays::lock::root::with_lock;
+use spindle_trays_vectors::gates::Meetings;
 
+// More locks one after the other than there are slots for them.
 #[test]
-fn a_helper_comes_to_a_lock_that_a_job_opens(rt: HostRuntime) -> Result<(), Fault> {
+fn a_helper_comes_to_each_lock_that_a_job_opens(rt: HostRuntime) -> Result<(), Fault> {
     let alloc = rt.alloc();
     let pool = Pool::new(2, Limits::new(), NoGate);
-    let seen = with_lock::<Opener, _, _, _, _, _>(&rt, alloc, &pool, 2, |leader| {
-        leader.for_each(&rt, alloc, 1, vec![in alloc; ()]?)
-    })??;
-    are(&rt, &seen, &[2]);
-    Ok(())
+    with_lock::<Opener, _, _, _, _, _>(&rt, alloc, &pool, 2, |leader| {
+        for _ in 0..8 {
+            let seen = leader.for_each(&rt, alloc, 1, vec![in alloc; ()]?)?;
+            are(&rt, &seen, &[2]);
+        }
+        Ok::<(), Fault>(())
+    })?
+}
+
+// Two jobs that have met each open a lock, so both locks stand at once, each in a slot of its own.
+#[test]
+fn a_helper_comes_to_each_of_two_locks_at_once(rt: HostRuntime) -> Result<(), Fault> {
+    let alloc = rt.alloc();
+    let meetings = Meetings::new();
+    let pool = Pool::new(4, Limits::new(), meetings.of_jobs(2));
+    with_lock::<Opener, _, _, _, _, _>(&rt, alloc, &pool, 4, |leader| {
+        for _ in 0..8 {
+            let seen = leader.for_each(&rt, alloc, 2, vec![in alloc; (); 2]?)?;
+            are(&rt, &seen, &[2, 2]);
+        }
+        Ok::<(), Fault>(())
+    })?
 }
 
 #[test]
