@@ -14,7 +14,7 @@ use std::thread;
 use std::thread::Threads;
 
 /// A thread waits for the others for at most so many turns.
-const MOST_TURNS: usize = 10000000;
+const MOST_TURNS: usize = 200000000;
 
 /// After so many of them it gives its core to the others.
 const TURNS_BEFORE_A_YIELD: usize = 1000;
