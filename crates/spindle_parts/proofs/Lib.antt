@@ -1,3 +1,4 @@
+-- The lemmas of this crate.
 pub mod Lists
 pub mod Deals
 pub mod Parties

@@ -31,13 +31,6 @@ known_waiting r p w = known_by r.sense (get nat_cmp r.entries p) (λ e. let a = 
 pub known_inside : (r : Registers) (p : ℕ) → is_inside (status (shown r) p) ≡ true → IsKnown r.entries p
 known_inside r p w = known_by r.sense (get nat_cmp r.entries p) (λ e. let a = ap is_inside e in cc)
 
-pub known_running : (entries : BTreeMap ℕ Entry) (p : ℕ) → running_of (get nat_cmp entries p) ≢ None → IsKnown entries p
-known_running entries p n = go (get nat_cmp entries p) refl
-  where
-    go : (o : Option Entry) → get nat_cmp entries p ≡ o → IsKnown entries p
-    go None e = absurd (n (ap running_of e))
-    go (Some e) is = (e, is)
-
 module _ (old new : BTreeMap ℕ Entry) (saw : List ℕ) (room p : ℕ) (m : IsMarked old saw room) (k : IsKnown old p) where
   -- an entry that keeps its mark
   marks_kept : (e' : Entry) → e'.mark ≡ k.0.mark → Writes old new p e' → IsMarked new saw room

@@ -1,11 +1,10 @@
 -- The bits of thread numbers, in words.
-use Rattle.std.proofs.Common.{◌≡◌, ◌≢◌, ℕ, ◌+◌, ◌-◌, ◌*◌, ◌/◌, ◌%◌, ◌^◌, ◌<◌, List, length, get_or, set, get_or-set_same, get_or-set_other, sym, ap, ◌∙◌, arith}
+use Rattle.std.proofs.Common.{◌≡◌, ◌≢◌, ℕ, ◌+◌, ◌*◌, ◌/◌, ◌%◌, ◌^◌, ◌<◌, List, length, get_or, set, get_or-set_same, get_or-set_other, sym, ap, ◌∙◌, arith}
 use Rattle.std.proofs.Common.{bit_and, bit_or}
 use mathlib.Core.Logic.{dite}
 use native.Mathlib.Decide.{ℕ_discrete, dec_le}
-use mir.Syntax.{w64}
-use Rattle.std.specs.Int.{bit_at, bit_not}
-use Rattle.std.proofs.lemmas.Nat.{pow_below, one_shl, or_disjoint, and-not, and_comm}
+use Rattle.std.specs.Int.{bit_at}
+use Rattle.std.proofs.lemmas.Nat.{pow_below, one_shl, or_disjoint}
 use Rattle.std.proofs.lemmas.Nat.Bits.{and_pow}
 use Rattle.spindle_parts.specs.ThreadNumbers.{place_of}
 
@@ -50,13 +49,6 @@ module _ (x b : ℕ) (low : b < 64) where
   or_adds e =
       let apart : bit_and x (2 ^ b) ≡ 0 = and_pow x b ∙ ap (λ (d : ℕ). d * 2 ^ b) e ∙ omega arith in
       ap (bit_or x) (one_shl b 64 low) ∙ or_disjoint x (2 ^ b) apart
-
-  pub and_takes : x < 2 ^ 64 → bit_at x b ≡ 1 → bit_and x (bit_not w64 (1 * 2 ^ b % 2 ^ 64)) ≡ x - 2 ^ b
-  and_takes fits e =
-      let mask : bit_and (2 ^ b) x ≡ 2 ^ b = and_comm (2 ^ b) x ∙ and_pow x b ∙ ap (λ (d : ℕ). d * 2 ^ b) e ∙ omega arith in
-      let split = and-not 64 (2 ^ b) x (pow_below b 64 low) fits in
-      let turn = and_comm x (2 ^ 64 - 1 - 2 ^ b) in
-      ap (λ (m : ℕ). bit_and x (bit_not w64 m)) (one_shl b 64 low) ∙ omega arith
 
 same_power : (a b : ℕ) → 2 ^ a ≡ 2 ^ b → a ≡ b
 same_power a b e = dite (dec_le a b)

@@ -1,3 +1,4 @@
+-- The definitions that contracts of this crate cite.
 pub mod Words
 pub mod Pieces
 pub mod State

@@ -3,7 +3,8 @@
 //! Runs of items move as blocks, from the back of the list: no item is moved or looked at by
 //! itself. Every growth that a call needs comes before what it hands out, and where one is refused
 //! the list is put together again.
-ghost use Rattle.std.specs.Prelude.{◌≡◌, ◌+◌, ◌<◌, ◌≤◌, ◌++◌, [], length, map, min, reverse, replicate, take, drop, IfOk, OnOk, OnErr, IsOk, IsErrOf, vec_len, vec_capacity};
+ghost use Rattle.std.specs.Prelude.{◌≡◌, ◌+◌, ◌<◌, ◌≤◌, ◌++◌, [], length, map, min, reverse, replicate, take, drop, IfOk, OnOk, OnErr, IsOk, IsErrOf, vec_len};
+ghost use Rattle.std.specs.Prelude.{vec_capacity};
 ghost use Rattle.std.specs.List.Sorted.{IsPermutation};
 ghost use Rattle.spindle_parts.specs.Pieces.{cut_lengths, joined, counted, dealt, lengths_of};
 

@@ -4,7 +4,8 @@
 //! Bit 0 of word 0 is set from the start and is the leader's.
 ghost use Rattle.std.specs.Prelude.{◌≡◌, ℕ, ◌%◌, ◌<◌, ◌≤◌, IfOk, OnErr, IsErrOf, []};
 ghost use Rattle.atomic_table.specs.Table.{State};
-ghost use Rattle.spindle_parts.specs.ThreadNumbers.{IsNumbering, NumbersDiffer, IsSeatOf, IsTake, IsExchange, IsSameSeat, leader_view, outsider_view, holding_after, bit_of, giving};
+ghost use Rattle.spindle_parts.specs.ThreadNumbers.{IsNumbering, NumbersDiffer, IsSeatOf, IsTake, IsExchange, IsSameSeat, leader_view, outsider_view};
+ghost use Rattle.spindle_parts.specs.ThreadNumbers.{holding_after, bit_of, giving};
 ghost use Rattle.spindle_parts.specs.declared.numbers.plays.Holding.TheVariants.{Nothing, Has};
 ghost use Rattle.std.specs.Int.{bit_at};
 ghost use Rattle.spindle_parts.specs.declared.fault.Fault.TheVariants.{Memory};
@@ -46,6 +47,7 @@ impl Model for Numbers {
 /// What came of one try for a number.
 #[derive(Clone, Copy, PartialEq, Eq, Debug)]
 pub enum Take {
+    /// The number: no other seat has it until it is given back.
     Taken(usize),
     /// Each number below the lock's threads was read as used.
     AllInUse,

@@ -26,26 +26,42 @@ use registers::Registers;
 /// A step of one party, which comes first; a job count or a counter's number follows it. Party 0 is the leader.
 #[derive(Clone, Copy, Debug, PartialEq, Eq)]
 pub enum Step {
+    /// The party becomes a member, and is in the round.
     Join(u32),
+    /// It publishes a round of so many jobs.
     Publish(u32, u32),
+    /// It publishes a round of so many jobs, which may stop.
     PublishTry(u32, u32),
+    /// It begins a job of this counter.
     Claim(u32, u32),
+    /// It begins a job of the remainder.
     Rest(u32),
+    /// It has finished its job.
     Finish(u32),
+    /// It stops the round, since its job has failed.
     Stop(u32),
+    /// It sees that the round was stopped.
     See(u32),
+    /// It has done its part of the round.
     Arrive(u32),
+    /// It has arrived, and is no member any more.
     Leave(u32),
+    /// It hasn't arrived, and is no member any more.
     Exit(u32),
+    /// The closer takes the published number back.
     Clear(u32),
+    /// The closer ends the round.
     End(u32),
 }
 
 /// What a step answers: the barrier word after it, with the job's number for a claim, or why it is refused.
 #[derive(Clone, Copy, Debug, PartialEq, Eq)]
 pub enum Reply {
+    /// The barrier word after the step.
     Word(u32),
+    /// The barrier word after a claim, and the number of the job that begins.
     Job(u32, u32),
+    /// Nothing has changed.
     Refused(Why),
 }
 

@@ -9,7 +9,7 @@ use crate::checks::is;
 use spindle_parts::cut::{Piece, cut, deal, piece_lengths};
 use spindle_parts::fault::Fault;
 use std::alloc::{AllocError, Global};
-use std::test::Fail;
+use std::process::Abort;
 
 /// The numbers from 0 to `count`, the end not included.
 fn numbers(alloc: Global, count: u64) -> Result<Vec<u64>, AllocError> {
@@ -32,8 +32,26 @@ fn holds(hand: &Vec<Piece<u64>>, want: &[u64]) -> bool {
             && piece.items.as_slice() == [*number].as_slice())
 }
 
+/// Whether it is refused for want of memory.
+fn is_refused<T: Drop>(answer: Result<T, Fault>) -> bool {
+    matches!(answer, Err(Fault::Memory))
+}
+
+/// Fails where so many items in so many jobs don't make pieces of these lengths.
+fn have_lengths(
+    rt: &impl Abort,
+    alloc: Global,
+    len: usize,
+    jobs: usize,
+    want: &[usize],
+) -> Result<(), Fault> {
+    assert!(rt; len == 0 || jobs > 0);
+    is(rt, piece_lengths(alloc, len, jobs)?.as_slice(), want);
+    Ok(())
+}
+
 #[test]
-fn the_longer_pieces_come_first(rt: HostRuntime) -> Result<(), Fail> {
+fn the_longer_pieces_come_first(rt: HostRuntime) -> Result<(), Fault> {
     let rows: [(usize, usize, &[usize]); 7] = [
         (10, 4, &[3, 3, 2, 2]),
         (3, 8, &[1, 1, 1]),
@@ -44,32 +62,31 @@ fn the_longer_pieces_come_first(rt: HostRuntime) -> Result<(), Fail> {
         (usize::MAX, 2, &[usize::MAX / 2 + 1, usize::MAX / 2]),
     ];
     for (len, jobs, want) in rows {
-        assert!(rt; len == 0 || jobs > 0);
-        assert_eq!(rt;
-            piece_lengths(rt.alloc(), len, jobs)?.as_slice(),
-            want,
-            "{len} in {jobs}"
-        );
+        have_lengths(&rt, rt.alloc(), len, jobs, want)?;
     }
     Ok(())
 }
 
+/// Fails where a piece has another number or other items than wanted.
+fn holds_run(rt: &impl Abort, piece: &Piece<u64>, number: usize, items: &[u64]) {
+    is(rt, piece.number, number);
+    is(rt, piece.items.as_slice(), items);
+}
+
 #[test]
-fn pieces_hold_the_items_in_order(rt: HostRuntime) -> Result<(), Fail> {
+fn pieces_hold_the_items_in_order(rt: HostRuntime) -> Result<(), Fault> {
+    let rows: [(usize, &[u64]); 4] = [(0, &[0, 1, 2]), (1, &[3, 4, 5]), (2, &[6, 7]), (3, &[8, 9])];
     let mut items = numbers(rt.alloc(), 10)?;
     let pieces = cut(rt.alloc(), &mut items, 4)?;
-    assert!(rt; items.is_empty());
-    let want: [&[u64]; 4] = [&[0, 1, 2], &[3, 4, 5], &[6, 7], &[8, 9]];
-    is(&rt, pieces.len(), want.len());
-    for (number, (piece, run)) in pieces.iter().zip(want).enumerate() {
-        is(&rt, piece.number, number);
-        is(&rt, piece.items.as_slice(), run);
+    is(&rt, (items.len(), pieces.len()), (0, 4));
+    for (piece, (number, run)) in pieces.iter().zip(rows) {
+        holds_run(&rt, piece, number, run);
     }
     Ok(())
 }
 
 #[test]
-fn more_jobs_than_items_make_no_empty_piece(rt: HostRuntime) -> Result<(), Fail> {
+fn more_jobs_than_items_make_no_empty_piece(rt: HostRuntime) -> Result<(), Fault> {
     let pieces = singles(rt.alloc(), 3)?;
     assert!(rt; holds(&pieces, &[0, 1, 2]));
     let mut none = Vec::<u64>::new(rt.alloc());
@@ -77,8 +94,20 @@ fn more_jobs_than_items_make_no_empty_piece(rt: HostRuntime) -> Result<(), Fail>
     Ok(())
 }
 
+/// Fails where so many pieces aren't dealt into hands of these numbers.
+fn have_hands(rt: &impl Abort, alloc: Global, count: u64, want: &[&[u64]]) -> Result<(), Fault> {
+    let mut pieces = singles(alloc, count)?;
+    assert!(rt; want.len() > 0);
+    let hands = deal(alloc, &mut pieces, want.len())?;
+    is(rt, (pieces.len(), hands.len()), (0, want.len()));
+    for (hand, numbers) in hands.iter().zip(want) {
+        assert!(rt; holds(hand, numbers), "{count} pieces");
+    }
+    Ok(())
+}
+
 #[test]
-fn each_thread_gets_a_run_and_one_of_the_rest(rt: HostRuntime) -> Result<(), Fail> {
+fn each_thread_gets_a_run_and_one_of_the_rest(rt: HostRuntime) -> Result<(), Fault> {
     let rows: [(u64, &[&[u64]]); 4] = [
         (10, &[&[0, 1, 8], &[2, 3, 9], &[4, 5], &[6, 7]]),
         (3, &[&[0], &[1], &[2], &[]]),
@@ -86,53 +115,42 @@ fn each_thread_gets_a_run_and_one_of_the_rest(rt: HostRuntime) -> Result<(), Fai
         (5, &[&[0, 1, 2, 3, 4]]),
     ];
     for (count, want) in rows {
-        let mut pieces = singles(rt.alloc(), count)?;
-        assert!(rt; want.len() > 0);
-        let hands = deal(rt.alloc(), &mut pieces, want.len())?;
-        assert!(rt; pieces.is_empty());
-        is(&rt, hands.len(), want.len());
-        for (hand, numbers) in hands.iter().zip(want) {
-            assert!(rt; holds(hand, numbers), "{count} pieces");
-        }
+        have_hands(&rt, rt.alloc(), count, want)?;
     }
     Ok(())
 }
 
+/// Whether these are half a million times the one length, and then as often the other one.
+fn are_two_halves(lengths: &[usize], first: usize, second: usize) -> bool {
+    lengths.len() == 1_000_000
+        && lengths.iter().take(500_000).all(|length| *length == first)
+        && lengths.iter().skip(500_000).all(|length| *length == second)
+}
+
 /// There are as many pieces as items, however many.
 #[test]
-fn a_million_items_make_a_million_pieces(rt: HostRuntime) -> Result<(), Fail> {
+fn a_million_items_make_a_million_pieces(rt: HostRuntime) -> Result<(), Fault> {
     let lengths = piece_lengths(rt.alloc(), 2_500_000, 1_000_000)?;
-    is(&rt, lengths.len(), 1_000_000);
-    assert!(rt; lengths.iter().take(500_000).all(|length| *length == 3));
-    assert!(rt; lengths.iter().skip(500_000).all(|length| *length == 2));
+    assert!(rt; are_two_halves(&lengths, 3, 2));
     let mut pieces = singles(rt.alloc(), 1_000_000)?;
     is(&rt, pieces.len(), 1_000_000);
     let hands = deal(rt.alloc(), &mut pieces, 3)?;
-    is(&rt, hands.len(), 3);
-    assert!(rt;
-        hands
-            .iter()
-            .all(|hand| hand.len() == 333_333 || hand.len() == 333_334)
-    );
-    assert!(rt; pieces.is_empty());
+    is(&rt, (pieces.len(), hands.len()), (0, 3));
+    for hand in &hands {
+        assert!(rt; hand.len() == 333_333 || hand.len() == 333_334);
+    }
     Ok(())
 }
 
 #[test]
-fn refused_lists_too_long_for_memory(rt: HostRuntime) -> Result<(), Fail> {
+fn refused_lists_too_long_for_memory(rt: HostRuntime) {
     let lengths = piece_lengths(rt.alloc(), usize::MAX, usize::MAX);
-    assert!(rt; matches!(lengths, Err(Fault::Memory)));
+    assert!(rt; is_refused(lengths));
     let Ok(mut pieces) = singles(rt.alloc(), 3) else {
-        return Ok(());
+        return;
     };
-    assert!(rt;
-        matches!(
-            deal(rt.alloc(), &mut pieces, usize::MAX),
-            Err(Fault::Memory)
-        )
-    );
-    assert!(rt; holds(&pieces, &[0, 1, 2]));
-    Ok(())
+    let hands = deal(rt.alloc(), &mut pieces, usize::MAX);
+    assert!(rt; is_refused(hands) && holds(&pieces, &[0, 1, 2]));
 }
 
 #[test]
@@ -144,7 +162,7 @@ fn refused_lengths_are_answered(rt: HostRuntime) {
 }
 
 #[test]
-fn refused_cut_leaves_the_list(rt: HostRuntime) -> Result<(), Fail> {
+fn refused_cut_leaves_the_list(rt: HostRuntime) -> Result<(), Fault> {
     let Ok(mut items) = numbers(rt.alloc(), 10) else {
         return Ok(());
     };
@@ -164,7 +182,7 @@ fn refused_cut_leaves_the_list(rt: HostRuntime) -> Result<(), Fail> {
 }
 
 #[test]
-fn refused_deal_leaves_the_pieces(rt: HostRuntime) -> Result<(), Fail> {
+fn refused_deal_leaves_the_pieces(rt: HostRuntime) -> Result<(), Fault> {
     let Ok(mut pieces) = singles(rt.alloc(), 5) else {
         return Ok(());
     };
@@ -180,10 +198,10 @@ fn refused_deal_leaves_the_pieces(rt: HostRuntime) -> Result<(), Fail> {
 }
 
 #[test]
-fn refused_nothing_where_nothing_is_needed(rt: HostRuntime) -> Result<(), Fail> {
+fn refused_nothing_where_nothing_is_needed(rt: HostRuntime) -> Result<(), Fault> {
     let mut none = Vec::<u64>::new(rt.alloc());
-    assert!(rt; cut(rt.alloc(), &mut none, 0)?.is_empty());
-    assert!(rt; cut(rt.alloc(), &mut none, 5)?.is_empty());
-    assert!(rt; piece_lengths(rt.alloc(), 0, 5)?.is_empty());
+    is(&rt, cut(rt.alloc(), &mut none, 0)?.len(), 0);
+    is(&rt, cut(rt.alloc(), &mut none, 5)?.len(), 0);
+    is(&rt, piece_lengths(rt.alloc(), 0, 5)?.len(), 0);
     Ok(())
 }

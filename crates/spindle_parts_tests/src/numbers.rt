@@ -4,12 +4,12 @@ ghost use Rattle.std.specs.Thread.{IsSync};
 ghost use Rattle.spindle_parts.specs.ThreadNumbers.{IsSeatOf};
 ghost use Rattle.spindle_parts.specs.declared.numbers.plays.Holding.TheVariants.{Nothing};
 
+use crate::checks::is;
 use spindle_parts::fault::Fault;
 use spindle_parts::numbers::{Numbers, Seat, Take};
 use std::alloc::Global;
 use std::process::Abort;
 use std::sync::atomic::{AtomicU64, Ordering};
-use std::test::Fail;
 use std::thread;
 use std::thread::Threads;
 
@@ -18,18 +18,18 @@ const WORKERS: usize = 8;
 const TURNS: usize = 20000;
 
 #[test]
-fn the_least_unused_number_is_taken(rt: HostRuntime) -> Result<(), Fail> {
+fn the_least_unused_number_is_taken(rt: HostRuntime) -> Result<(), Fault> {
     let (numbers, mut leader) = Numbers::new(rt.alloc(), 3)?;
     let mut first = numbers.new_seat(&mut leader);
     let mut second = numbers.new_seat(&mut leader);
     let mut third = numbers.new_seat(&mut leader);
     let taken = numbers.try_take(&mut first);
-    assert!(rt; taken == Take::Taken(1));
-    assert!(rt; numbers.try_take(&mut second) == Take::Taken(2));
-    assert!(rt; numbers.try_take(&mut third) == Take::AllInUse);
+    is(&rt, taken, Take::Taken(1));
+    is(&rt, numbers.try_take(&mut second), Take::Taken(2));
+    is(&rt, numbers.try_take(&mut third), Take::AllInUse);
     if let Take::Taken(number) = taken {
         numbers.give(&mut first, number);
-        assert!(rt; numbers.try_take(&mut first) == Take::Taken(1));
+        is(&rt, numbers.try_take(&mut first), Take::Taken(1));
     }
     Ok(())
 }
@@ -63,11 +63,7 @@ impl<'a> Desk<'a> {
     /// Takes the numbers below `end`, in order, each by a new seat.
     fn take_all(&mut self, rt: &impl Abort, end: usize) {
         for number in 1..end {
-            let mut seat = self.new_seat();
-            assert!(rt;
-                self.numbers.try_take(&mut seat) == Take::Taken(number),
-                "at {number}"
-            );
+            is(rt, self.try_once(), Take::Taken(number));
         }
     }
 
@@ -80,7 +76,7 @@ impl<'a> Desk<'a> {
 }
 
 #[test]
-fn numbers_end_where_the_threads_do(rt: HostRuntime) -> Result<(), Fail> {
+fn numbers_end_where_the_threads_do(rt: HostRuntime) -> Result<(), Fault> {
     for threads in [1, 2, 31, 32, 33, 63, 64, 65] {
         let (numbers, leader) = Numbers::new(rt.alloc(), threads)?;
         let mut desk = Desk {
@@ -88,7 +84,7 @@ fn numbers_end_where_the_threads_do(rt: HostRuntime) -> Result<(), Fail> {
             leader,
         };
         desk.take_all(&rt, threads);
-        assert!(rt; desk.try_once() == Take::AllInUse, "of {threads}");
+        is(&rt, desk.try_once(), Take::AllInUse);
     }
     Ok(())
 }
@@ -169,7 +165,7 @@ fn taken_at_once<R: Threads + Sync>(rt: &R, alloc: Global, threads: usize) -> Re
 }
 
 #[test]
-fn no_number_is_held_twice(rt: HostRuntime) -> Result<(), Fail> {
+fn no_number_is_held_twice(rt: HostRuntime) -> Result<(), Fault> {
     for threads in [2, 6, 9, 35] {
         let done = taken_at_once(&rt, rt.alloc(), threads)?;
         assert!(rt; done.taken > 0 && done.twice == 0, "of {threads}");
@@ -178,7 +174,7 @@ fn no_number_is_held_twice(rt: HostRuntime) -> Result<(), Fail> {
 }
 
 #[test]
-fn the_most_threads_have_a_number_each(rt: HostRuntime) -> Result<(), Fail> {
+fn the_most_threads_have_a_number_each(rt: HostRuntime) -> Result<(), Fault> {
     let (numbers, leader) = Numbers::new(rt.alloc(), 32767)?;
     let mut desk = Desk {
         numbers: &numbers,
@@ -187,11 +183,11 @@ fn the_most_threads_have_a_number_each(rt: HostRuntime) -> Result<(), Fail> {
     desk.take_all(&rt, 32766);
     let mut last = desk.new_seat();
     let taken = desk.numbers.try_take(&mut last);
-    assert!(rt; taken == Take::Taken(32766));
-    assert!(rt; desk.try_once() == Take::AllInUse);
+    is(&rt, taken, Take::Taken(32766));
+    is(&rt, desk.try_once(), Take::AllInUse);
     if let Take::Taken(number) = taken {
         desk.numbers.give(&mut last, number);
-        assert!(rt; desk.try_once() == Take::Taken(32766));
+        is(&rt, desk.try_once(), Take::Taken(32766));
     }
     Ok(())
 }
@@ -207,7 +203,7 @@ fn refused_numbers_are_answered(rt: HostRuntime) {
                 } else {
                     Take::Taken(1)
                 };
-                assert!(rt; numbers.try_take(&mut seat) == want, "of {threads}");
+                is(&rt, numbers.try_take(&mut seat), want);
             }
             Err(fault) => assert!(rt; matches!(fault, Fault::Memory)),
         }

@@ -12,9 +12,17 @@ use std::test::Fail;
 
 type Script<'a> = &'a [(Step, Reply)];
 
+type Rows<'a> = &'a [(Step, Option<Why>)];
+
 /// A fresh machine of four counters.
 fn fresh(alloc: Global) -> Result<Machine, Fault> {
     Machine::new(alloc, 4)
+}
+
+/// Plays the script on a fresh machine, and compares each answer.
+fn play_afresh(rt: &impl Abort, alloc: Global, script: Script) -> Result<(), Fault> {
+    play(rt, &mut fresh(alloc)?, script);
+    Ok(())
 }
 
 /// Plays the script, and compares each answer.
@@ -38,6 +46,22 @@ fn accept(rt: &impl Abort, machine: &mut Machine, steps: &[Step]) {
 /// Makes the step, which must be refused for that reason.
 fn refuse(rt: &impl Abort, machine: &mut Machine, step: Step, why: Why) {
     assert_eq!(rt; machine.step(step), Reply::Refused(why), "at {step:?}");
+}
+
+/// Makes the steps: each is accepted, or refused for the reason beside it.
+fn follow(rt: &impl Abort, machine: &mut Machine, rows: Rows) {
+    for (step, why) in rows {
+        match why {
+            Some(why) => refuse(rt, machine, *step, *why),
+            None => accept(rt, machine, &[*step]),
+        }
+    }
+}
+
+/// Makes them on a fresh machine.
+fn follow_afresh(rt: &impl Abort, alloc: Global, rows: Rows) -> Result<(), Fault> {
+    follow(rt, &mut fresh(alloc)?, rows);
+    Ok(())
 }
 
 fn word(word: u32) -> Reply {

@@ -2,6 +2,7 @@
 ghost use Rattle.std.specs.Prelude.{◌≡◌, ◌<◌};
 
 use super::{Child, LOOKS, wait_for};
+use crate::checks::is;
 use spindle_parts::aarc_imp::AtomicArc;
 use std::alloc::{AllocError, Global};
 use std::sync::Wait;
@@ -146,8 +147,11 @@ fn share_a_slot<R: Threads + Wait + Sync>(
 #[test]
 fn one_owner_is_handed_each_child_that_it_puts_in(rt: HostRuntime) -> Result<(), Fail> {
     let (all, once) = share_a_slot(&rt, rt.alloc(), 1)?;
-    assert_eq!(rt; all.put_in, TURNS as u64);
-    assert_eq!(rt; all.handed_out, TURNS as u64);
+    is(
+        &rt,
+        (all.put_in, all.handed_out),
+        (TURNS as u64, TURNS as u64),
+    );
     assert!(rt; once && all.faults == 0);
     Ok(())
 }
@@ -155,9 +159,8 @@ fn one_owner_is_handed_each_child_that_it_puts_in(rt: HostRuntime) -> Result<(),
 #[test]
 fn owners_are_handed_as_many_children_as_they_put_in(rt: HostRuntime) -> Result<(), Fail> {
     let (all, once) = share_a_slot(&rt, rt.alloc(), OWNERS)?;
-    assert!(rt; all.put_in > 0);
-    assert_eq!(rt; all.handed_out, all.put_in);
-    assert!(rt; once && all.faults == 0);
+    is(&rt, all.handed_out, all.put_in);
+    assert!(rt; all.put_in > 0 && once && all.faults == 0);
     Ok(())
 }
 

@@ -5,6 +5,8 @@ ghost use Rattle.spindle_parts.specs.LedgerSeats.{slot_count, IsSeatOf};
 use super::SLOTS;
 use crate::checks::is;
 use spindle_parts::requests::{Requests, Seat, TakePlace};
+use std::alloc::{AllocError, Global};
+use std::process::Abort;
 use std::test::Fail;
 use std::thread;
 
@@ -176,14 +178,27 @@ impl<'a> Clerk<'a> {
     }
 }
 
+/// Fails where requests were lost or made, or nobody took or closed a place.
+fn balance(rt: &impl Abort, all: &Tally) {
+    assert!(rt; all.taken > 0 && all.closed > 0);
+    is(rt, all.asked, all.subtracted);
+    is(rt, all.installed, all.taken.wrapping_add(all.closed));
+}
+
+/// A clerk for each thread.
+fn hired<'a>(alloc: Global, leader: &mut Clerk<'a>) -> Result<Vec<Clerk<'a>>, AllocError> {
+    let mut clerks = Vec::new(alloc);
+    for number in 1..=THREADS {
+        clerks.push(leader.hire(number))?;
+    }
+    Ok(clerks)
+}
+
 #[test]
 fn the_books_balance_after_eight_threads(rt: HostRuntime) -> Result<(), Fail> {
     let (books, seat) = Requests::new(rt.alloc(), SLOTS)?;
     let mut leader = Clerk::new(&books, seat, 0);
-    let mut clerks = Vec::new(rt.alloc());
-    for number in 1..=THREADS {
-        clerks.push(leader.hire(number))?;
-    }
+    let clerks = hired(rt.alloc(), &mut leader)?;
     let tallies = thread::map_vec(&rt, clerks, &|clerk: Clerk| clerk.work())?;
     let standing = leader.requests();
     for slot in 0..SLOTS {
@@ -196,8 +211,6 @@ fn the_books_balance_after_eight_threads(rt: HostRuntime) -> Result<(), Fail> {
     for tally in &tallies {
         all.add(tally);
     }
-    assert!(rt; all.taken > 0 && all.closed > 0);
-    is(&rt, all.asked, all.subtracted);
-    is(&rt, all.installed, all.taken.wrapping_add(all.closed));
+    balance(&rt, &all);
     Ok(())
 }

@@ -2,10 +2,10 @@
 
 use crate::checks::is;
 use crate::steps::{accept, fresh, word};
+use spindle_parts::fault::Fault;
 use spindle_parts::steps::Step::{Arrive, Exit, Join, Leave, PublishTry, Rest, See, Stop};
 use spindle_parts::steps::{Machine, Reply, Why};
 use std::process::Abort;
-use std::test::Fail;
 
 /// The word after the party's join, which is tried again where its growth was refused.
 fn join_at_last(rt: &impl Abort, machine: &mut Machine, party: u32) -> Reply {
@@ -17,7 +17,7 @@ fn join_at_last(rt: &impl Abort, machine: &mut Machine, party: u32) -> Reply {
 
 /// Holds with ample memory, and with each allocation refused in turn.
 #[test]
-fn refused_growth_changes_nothing(rt: HostRuntime) -> Result<(), Fail> {
+fn refused_growth_changes_nothing(rt: HostRuntime) -> Result<(), Fault> {
     let mut machine = match fresh(rt.alloc()) {
         Ok(machine) => machine,
         Err(_) => fresh(rt.alloc())?,
@@ -25,11 +25,7 @@ fn refused_growth_changes_nothing(rt: HostRuntime) -> Result<(), Fail> {
     for party in 0..200u32 {
         let members = party.wrapping_add(1);
         let reply = join_at_last(&rt, &mut machine, party);
-        assert_eq!(rt;
-            reply,
-            word(members.wrapping_mul(0x0001_0001)),
-            "at {party}"
-        );
+        is(&rt, reply, word(members.wrapping_mul(0x0001_0001)));
     }
     accept(&rt, &mut machine, &[PublishTry(0, 9), Rest(0), Stop(0)]);
     for party in 1..200u32 {
@@ -50,7 +46,7 @@ fn refused_growth_changes_nothing(rt: HostRuntime) -> Result<(), Fail> {
 
 /// Parties from all over their numbers: 0, the powers of two, and what lies just below these.
 #[test]
-fn every_number_may_be_a_party(rt: HostRuntime) -> Result<(), Fail> {
+fn every_number_may_be_a_party(rt: HostRuntime) -> Result<(), Fault> {
     let mut machine = fresh(rt.alloc())?;
     accept(&rt, &mut machine, &[Join(0), Join(40000)]);
     for bit in 0..32u32 {
@@ -65,7 +61,7 @@ fn every_number_may_be_a_party(rt: HostRuntime) -> Result<(), Fail> {
 
 /// A hundred thousand of them, one after another, each with a number far from the last one's.
 #[test]
-fn as_many_parties_as_come(rt: HostRuntime) -> Result<(), Fail> {
+fn as_many_parties_as_come(rt: HostRuntime) -> Result<(), Fault> {
     let mut machine = fresh(rt.alloc())?;
     accept(&rt, &mut machine, &[Join(0)]);
     for count in 1..100_000u32 {

@@ -1,15 +1,27 @@
 //! Each refusal at least once, where several tests are true by the first of the step table.
 
 use crate::checks::is;
-use crate::steps::{accept, fresh, refuse, word};
+use crate::steps::{Rows, accept, follow, follow_afresh, fresh, refuse, word};
+use spindle_parts::fault::Fault;
 use spindle_parts::steps::Step::{
     Arrive, Claim, Clear, End, Exit, Finish, Join, Leave, Publish, PublishTry, Rest, See, Stop,
 };
 use spindle_parts::steps::{Step, Why};
-use std::test::Fail;
+
+const FULL: Rows = &[
+    (Join(7), Some(Why::Member)),
+    (Join(u32::MAX), Some(Why::Full)),
+];
+
+const ONE_GOES: Rows = &[
+    (End(32766), None),
+    (Exit(7), None),
+    (Join(u32::MAX), None),
+    (Exit(9), None),
+];
 
 #[test]
-fn a_join_is_refused(rt: HostRuntime) -> Result<(), Fail> {
+fn a_join_is_refused(rt: HostRuntime) -> Result<(), Fault> {
     let mut machine = fresh(rt.alloc())?;
     for party in 0..32767 {
         let members = party + 1;
@@ -19,18 +31,12 @@ fn a_join_is_refused(rt: HostRuntime) -> Result<(), Fail> {
             word(members.wrapping_mul(0x0001_0001)),
         );
     }
-    refuse(&rt, &mut machine, Join(7), Why::Member);
-    refuse(&rt, &mut machine, Join(u32::MAX), Why::Full);
+    follow(&rt, &mut machine, FULL);
     for party in 0..32767 {
         accept(&rt, &mut machine, &[Arrive(party)]);
     }
-    refuse(&rt, &mut machine, Join(7), Why::Member);
-    refuse(&rt, &mut machine, Join(u32::MAX), Why::Full);
-    accept(
-        &rt,
-        &mut machine,
-        &[End(32766), Exit(7), Join(u32::MAX), Exit(9)],
-    );
+    follow(&rt, &mut machine, FULL);
+    follow(&rt, &mut machine, ONE_GOES);
     for party in 0..32767 {
         if party != 7 && party != 9 {
             accept(&rt, &mut machine, &[Arrive(party)]);
@@ -50,7 +56,7 @@ fn publish(stoppable: bool, party: u32, count: u32) -> Step {
 }
 
 #[test]
-fn a_publish_is_refused(rt: HostRuntime) -> Result<(), Fail> {
+fn a_publish_is_refused(rt: HostRuntime) -> Result<(), Fault> {
     for stoppable in [false, true] {
         let mut machine = fresh(rt.alloc())?;
         refuse(&rt, &mut machine, publish(stoppable, 1, 0), Why::NotLeader);
@@ -65,99 +71,116 @@ fn a_publish_is_refused(rt: HostRuntime) -> Result<(), Fail> {
     Ok(())
 }
 
-#[test]
-fn a_claim_is_refused(rt: HostRuntime) -> Result<(), Fail> {
-    let mut machine = fresh(rt.alloc())?;
-    refuse(&rt, &mut machine, Claim(0, 4), Why::NotIn);
-    refuse(&rt, &mut machine, Rest(0), Why::NotIn);
-    accept(&rt, &mut machine, &[Join(0), Join(1)]);
-    refuse(&rt, &mut machine, Claim(0, 4), Why::NotPublished);
-    refuse(&rt, &mut machine, Rest(0), Why::NotPublished);
-    accept(&rt, &mut machine, &[PublishTry(0, 3), Rest(0)]);
-    refuse(&rt, &mut machine, Claim(1, 4), Why::Range);
-    refuse(&rt, &mut machine, Claim(1, 0), Why::Empty);
-    refuse(&rt, &mut machine, Claim(0, 4), Why::Holding);
-    accept(&rt, &mut machine, &[Stop(0)]);
-    refuse(&rt, &mut machine, Claim(0, 4), Why::Holding);
-    refuse(&rt, &mut machine, Rest(0), Why::Holding);
-    accept(
-        &rt,
-        &mut machine,
-        &[Finish(0), Rest(1), Finish(1), Rest(1), Finish(1)],
-    );
-    refuse(&rt, &mut machine, Claim(0, 4), Why::Stopped);
-    refuse(&rt, &mut machine, Rest(0), Why::Stopped);
-    refuse(&rt, &mut machine, Rest(1), Why::Empty);
-    Ok(())
-}
+const CLAIMS: Rows = &[
+    (Claim(0, 4), Some(Why::NotIn)),
+    (Rest(0), Some(Why::NotIn)),
+    (Join(0), None),
+    (Join(1), None),
+    (Claim(0, 4), Some(Why::NotPublished)),
+    (Rest(0), Some(Why::NotPublished)),
+    (PublishTry(0, 3), None),
+    (Rest(0), None),
+    (Claim(1, 4), Some(Why::Range)),
+    (Claim(1, 0), Some(Why::Empty)),
+    (Claim(0, 4), Some(Why::Holding)),
+    (Stop(0), None),
+    (Claim(0, 4), Some(Why::Holding)),
+    (Rest(0), Some(Why::Holding)),
+    (Finish(0), None),
+    (Rest(1), None),
+    (Finish(1), None),
+    (Rest(1), None),
+    (Finish(1), None),
+    (Claim(0, 4), Some(Why::Stopped)),
+    (Rest(0), Some(Why::Stopped)),
+    (Rest(1), Some(Why::Empty)),
+];
 
 #[test]
-fn a_finish_a_stop_and_a_look_are_refused(rt: HostRuntime) -> Result<(), Fail> {
-    let mut machine = fresh(rt.alloc())?;
-    refuse(&rt, &mut machine, Finish(0), Why::Idle);
-    refuse(&rt, &mut machine, Stop(0), Why::Idle);
-    refuse(&rt, &mut machine, See(0), Why::NotIn);
-    accept(&rt, &mut machine, &[Join(0)]);
-    refuse(&rt, &mut machine, See(0), Why::NotPublished);
-    accept(&rt, &mut machine, &[Publish(0, 2)]);
-    refuse(&rt, &mut machine, Stop(0), Why::Idle);
-    refuse(&rt, &mut machine, See(0), Why::Going);
-    accept(&rt, &mut machine, &[Rest(0)]);
-    refuse(&rt, &mut machine, Stop(0), Why::Fixed);
-    Ok(())
+fn a_claim_is_refused(rt: HostRuntime) -> Result<(), Fault> {
+    follow_afresh(&rt, rt.alloc(), CLAIMS)
 }
 
-#[test]
-fn an_arrival_is_refused(rt: HostRuntime) -> Result<(), Fail> {
-    let mut machine = fresh(rt.alloc())?;
-    refuse(&rt, &mut machine, Arrive(0), Why::NotIn);
-    accept(
-        &rt,
-        &mut machine,
-        &[Join(0), Join(1), Publish(0, 2), Rest(0)],
-    );
-    refuse(&rt, &mut machine, Arrive(0), Why::Holding);
-    refuse(&rt, &mut machine, Arrive(1), Why::Left);
-    accept(&rt, &mut machine, &[Rest(1), Finish(1), Arrive(1)]);
-    refuse(&rt, &mut machine, Arrive(1), Why::NotIn);
-    Ok(())
-}
+const FINISHES_STOPS_AND_LOOKS: Rows = &[
+    (Finish(0), Some(Why::Idle)),
+    (Stop(0), Some(Why::Idle)),
+    (See(0), Some(Why::NotIn)),
+    (Join(0), None),
+    (See(0), Some(Why::NotPublished)),
+    (Publish(0, 2), None),
+    (Stop(0), Some(Why::Idle)),
+    (See(0), Some(Why::Going)),
+    (Rest(0), None),
+    (Stop(0), Some(Why::Fixed)),
+];
 
 #[test]
-fn who_goes_is_refused(rt: HostRuntime) -> Result<(), Fail> {
-    let mut machine = fresh(rt.alloc())?;
-    refuse(&rt, &mut machine, Leave(0), Why::NotWaiting);
-    refuse(&rt, &mut machine, Exit(0), Why::NotIn);
-    accept(
-        &rt,
-        &mut machine,
-        &[Join(0), Join(1), Publish(0, 2), Rest(0)],
-    );
-    refuse(&rt, &mut machine, Leave(0), Why::NotWaiting);
-    refuse(&rt, &mut machine, Exit(0), Why::Holding);
-    accept(&rt, &mut machine, &[Finish(0), Rest(0), Finish(0)]);
-    refuse(&rt, &mut machine, Exit(0), Why::Leader);
-    accept(&rt, &mut machine, &[Arrive(0)]);
-    refuse(&rt, &mut machine, Leave(0), Why::Leader);
-    accept(&rt, &mut machine, &[Arrive(1)]);
-    refuse(&rt, &mut machine, Leave(0), Why::Closing);
-    refuse(&rt, &mut machine, Exit(0), Why::NotIn);
-    Ok(())
+fn a_finish_a_stop_and_a_look_are_refused(rt: HostRuntime) -> Result<(), Fault> {
+    follow_afresh(&rt, rt.alloc(), FINISHES_STOPS_AND_LOOKS)
 }
 
+const ARRIVALS: Rows = &[
+    (Arrive(0), Some(Why::NotIn)),
+    (Join(0), None),
+    (Join(1), None),
+    (Publish(0, 2), None),
+    (Rest(0), None),
+    (Arrive(0), Some(Why::Holding)),
+    (Arrive(1), Some(Why::Left)),
+    (Rest(1), None),
+    (Finish(1), None),
+    (Arrive(1), None),
+    (Arrive(1), Some(Why::NotIn)),
+];
+
 #[test]
-fn a_clear_and_an_end_are_refused(rt: HostRuntime) -> Result<(), Fail> {
-    let mut machine = fresh(rt.alloc())?;
-    accept(&rt, &mut machine, &[Join(0), Join(1), Publish(0, 2)]);
-    refuse(&rt, &mut machine, Clear(0), Why::NotCloser);
-    refuse(&rt, &mut machine, End(0), Why::NotCloser);
-    accept(
-        &rt,
-        &mut machine,
-        &[Rest(0), Finish(0), Rest(0), Finish(0), Arrive(1), Arrive(0)],
-    );
-    refuse(&rt, &mut machine, Clear(1), Why::NotCloser);
-    refuse(&rt, &mut machine, End(1), Why::NotCloser);
-    refuse(&rt, &mut machine, End(0), Why::Published);
-    Ok(())
+fn an_arrival_is_refused(rt: HostRuntime) -> Result<(), Fault> {
+    follow_afresh(&rt, rt.alloc(), ARRIVALS)
+}
+
+const LEAVES_AND_EXITS: Rows = &[
+    (Leave(0), Some(Why::NotWaiting)),
+    (Exit(0), Some(Why::NotIn)),
+    (Join(0), None),
+    (Join(1), None),
+    (Publish(0, 2), None),
+    (Rest(0), None),
+    (Leave(0), Some(Why::NotWaiting)),
+    (Exit(0), Some(Why::Holding)),
+    (Finish(0), None),
+    (Rest(0), None),
+    (Finish(0), None),
+    (Exit(0), Some(Why::Leader)),
+    (Arrive(0), None),
+    (Leave(0), Some(Why::Leader)),
+    (Arrive(1), None),
+    (Leave(0), Some(Why::Closing)),
+    (Exit(0), Some(Why::NotIn)),
+];
+
+#[test]
+fn who_goes_is_refused(rt: HostRuntime) -> Result<(), Fault> {
+    follow_afresh(&rt, rt.alloc(), LEAVES_AND_EXITS)
+}
+
+const CLEARS_AND_ENDS: Rows = &[
+    (Join(0), None),
+    (Join(1), None),
+    (Publish(0, 2), None),
+    (Clear(0), Some(Why::NotCloser)),
+    (End(0), Some(Why::NotCloser)),
+    (Rest(0), None),
+    (Finish(0), None),
+    (Rest(0), None),
+    (Finish(0), None),
+    (Arrive(1), None),
+    (Arrive(0), None),
+    (Clear(1), Some(Why::NotCloser)),
+    (End(1), Some(Why::NotCloser)),
+    (End(0), Some(Why::Published)),
+];
+
+#[test]
+fn a_clear_and_an_end_are_refused(rt: HostRuntime) -> Result<(), Fault> {
+    follow_afresh(&rt, rt.alloc(), CLEARS_AND_ENDS)
 }

@@ -1,3 +1,4 @@
+-- A seat more has no number.
 use Rattle.std.proofs.Common.{rules, arith}
 use Rattle.spindle_parts.proofs.NumbersKept.{splits}
 use Rattle.spindle_parts.proofs.numbers.Numbers.new_seat.Goals as goal

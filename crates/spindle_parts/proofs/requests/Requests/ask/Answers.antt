@@ -1,3 +1,4 @@
+-- The step asks for helpers.
 use Rattle.std.proofs.Common.{rules, arith}
 use Rattle.spindle_parts.proofs.LedgerMoves.{asks}
 use Rattle.spindle_parts.proofs.requests.Requests.ask.Goals as goal

@@ -1,3 +1,4 @@
+-- The swap closes the slot.
 use Rattle.std.proofs.Common.{rules, arith}
 use Rattle.spindle_parts.proofs.LedgerMoves.{closes}
 use Rattle.spindle_parts.proofs.requests.Requests.close.Goals as goal

@@ -1,3 +1,4 @@
+-- The exchange takes a place of the slot.
 use Rattle.std.proofs.Common.{rules, arith}
 use Rattle.spindle_parts.proofs.LedgerMoves.{takes}
 use Rattle.spindle_parts.proofs.requests.Requests.exchange_place.Goals as goal

@@ -1,3 +1,4 @@
+-- The step opens places in a slot, at most the seat's credit.
 use Rattle.std.proofs.Common.{rules, arith}
 use Rattle.spindle_parts.proofs.LedgerMoves.{installs}
 use Rattle.spindle_parts.proofs.requests.Requests.install.Goals as goal

@@ -1,3 +1,4 @@
+-- A load leaves the books as they are.
 use Rattle.std.proofs.Common.{rules, arith}
 use Rattle.spindle_parts.proofs.LedgerMoves.{loads}
 use Rattle.spindle_parts.proofs.requests.Requests.load.Goals as goal

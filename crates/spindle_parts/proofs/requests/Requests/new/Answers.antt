@@ -1,3 +1,4 @@
+-- The words of a fresh ledger are 0, but that rest is announced.
 use Rattle.std.proofs.Common.{ap, ◌≡◌, ◌∙◌, arith, get_or, get_or-set_same, get_or-set_other, ℕ, zero, suc, List, [], replicate, refl}
 use Rattle.spindle_parts.proofs.LedgerMoves.{opens}
 use Rattle.spindle_parts.proofs.requests.Requests.new.Goals as goal

@@ -1,3 +1,4 @@
+-- A seat more is one of a thread that has made no step.
 use Rattle.std.proofs.Common.{rules, arith}
 use Rattle.spindle_parts.proofs.LedgerMoves.{splits}
 use Rattle.spindle_parts.proofs.requests.Requests.new_seat.Goals as goal

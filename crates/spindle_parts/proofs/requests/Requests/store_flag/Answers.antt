@@ -1,3 +1,4 @@
+-- The store announces by one of the two flags.
 use Rattle.std.proofs.Common.{rules, arith, ⊎_elim}
 use Rattle.spindle_parts.proofs.LedgerMoves.{announces, one_or_none}
 use Rattle.spindle_parts.proofs.requests.Requests.store_flag.Goals as goal

@@ -1,3 +1,4 @@
+-- The step takes requests back, at most the seat's credit.
 use Rattle.std.proofs.Common.{rules, arith}
 use Rattle.spindle_parts.proofs.LedgerMoves.{subtracts}
 use Rattle.spindle_parts.proofs.requests.Requests.subtract.Goals as goal
