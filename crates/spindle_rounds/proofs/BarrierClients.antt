@@ -20,7 +20,7 @@ use Rattle.spindle_rounds.specs.Seating.{IsSameSeat}
 use Rattle.spindle_rounds.specs.Words.{barrier_at, sense_bit, high_half, count_of, most_of, sense_of}
 use Rattle.spindle_rounds.specs.RoundSteps.{round_of, unknown, noted, standing, outside, loading, missing, looking, leaving, exit_word, with_word, with_clear}
 use Rattle.spindle_rounds.specs.RoundSteps.{clearing, turned_word, after_end}
-use Rattle.spindle_rounds.specs.RoundConditions.{HasSense, IsWaiting, MayLeave, MayExit}
+use Rattle.spindle_rounds.specs.RoundConditions.{HasSense, IsWaiting, MayLeave}
 use Rattle.spindle_rounds.specs.Working.{IsIdle}
 use Rattle.spindle_rounds.specs.RoundAnswers.{JoinedBy, JoinRefusedBy, ArrivedBy, LookedBy, LeftBy, ExitedBy, EndedBy}
 use Rattle.spindle_rounds.specs.declared.barrier.Barrier.{Barrier}
@@ -330,37 +330,5 @@ module _ {S N : Type 0} where
 
 -- A party with no claim and no share, from step to step.
 module _ {S N : Type 0} (m w : Me S (View N)) where
-  pub inside_free : (q : ℕ) (seen : Bool) → Moved (Inside q) (unknown m.0.leader seen) m w → IsIdle m.0 → MayExit w.0
-  inside_free q seen a idle = let c = moved_claim (Inside q) (unknown m.0.leader seen) m w a in
-      let k = moved_known (Inside q) (unknown m.0.leader seen) m w a in let l = moved_leader (Inside q) (unknown m.0.leader seen) m w a in (
-        (
-          q,
-          moved_standing (Inside q) (unknown m.0.leader seen) m w a,
-          c.0 ∙ idle.0,
-          (let e = idle.1 in let f = c.1 in let g = c.2 in
-              omega arith),
-        ),
-        led m.0.leader (l.0) (ap (λ (z : Known). z.unpublished) k),
-      )
-    where
-      led : (b : Bool) → w.0.leader ≡ b → w.0.known.unpublished ≡ b → (w.0.leader ≡ false) ⊎ (w.0.known.unpublished ≡ true)
-      led true e f = inr f
-      led false e f = inl e
-
-  pub next_free : InNext m w → IsIdle m.0 → MayExit w.0
-  next_free a idle = inside_free (round_of m.0.standing + 1) false a idle
-
-  pub joined_free : (sense : ℕ) → JoinedBy (join.Joined sense) m w → IsIdle m.0 → MayExit w.0
-  joined_free sense a idle = inside_free a.1 a.2 (join_joined m w sense a) idle
-
   pub moved_idle : (st : Standing) (k : Known) → Moved st k m w → IsIdle m.0 → IsIdle w.0
   moved_idle st k a idle = let c = moved_claim st k m w a in (c.0 ∙ idle.0, (let e = idle.1 in let f = c.1 in let g = c.2 in omega arith))
-
-  pub arrived_leaves : ArrivedBy arrival.Arrived m w → MayExit m.0 → MayLeave w.0
-  arrived_leaves a may = let b = arrived_waits m w a in let st : Standing = Waiting (round_of m.0.standing) m.0.known.unpublished in (
-    round_of m.0.standing,
-    m.0.known.unpublished,
-    moved_standing st (unknown false false) m w b,
-    subst
-        (λ (z : Bool). (z ≡ false) ⊎ (m.0.known.unpublished ≡ true)) (sym (moved_leader st (unknown false false) m w b).0) may.1,
-  )

@@ -25,7 +25,7 @@ use Rattle.spindle_rounds.specs.Words.{barrier_at, finished_at, remainder_at, ra
 use Rattle.spindle_rounds.specs.RoundSteps.{noted, missing}
 use Rattle.spindle_rounds.specs.RoundTells.{Turns, Exchanges, Begun}
 use Rattle.spindle_rounds.specs.RoundSlots.{Discipline, Lawful, SameSlots}
-use Rattle.spindle_rounds.specs.RoundRule.{deed, deeds, deeds_of, Stands, Knows, Shows, IsShare, InRange, InRemainder, IsLeft, Words, ShownBy, Shown, home_of}
+use Rattle.spindle_rounds.specs.RoundRule.{deed, deeds, deeds_of, Stands, Knows, Shows, InRange, InRemainder, IsLeft, Words, ShownBy, Shown, home_of}
 use Rattle.spindle_rounds.specs.RoundRule.{Laid, StandsFor, stored_at}
 use Rattle.spindle_rounds.specs.RoundRuns.{Adds, Exchange}
 use Rattle.spindle_rounds.proofs.RoundQuiet.{AllQuiet, quiet_run}
@@ -41,10 +41,6 @@ some_of (Some k) n = (k, refl)
 module _ {N : Type 0} (s s' : State) (q : ℕ) (v : View N) (w : Shows s q v) (alone : s.closer ≡ Some q → ⊥) where
   inside_in : (r : ℕ) → v.standing ≡ Inside r → (party s q).status ≡ In
   inside_in r e = (subst (Stands s q) e w.stands).0
-
-  same_share : (y : Party) (t : Status) → y ≡ with_status t (party s q) → IsShare y.taken v.from v.to
-  same_share y t e k = subst (λ (x : Party). ((x.taken k ≡ true) → (v.from ≤ k) × (k < v.to)) × ((v.from ≤ k) × (k < v.to) → x.taken k ≡ true)) (sym e)
-      (w.share k)
 
   -- what it knows stays, while the round goes on
   still_knows : Steady s s' q → (party s q).status ≡ In → Knows v.threads s q v.known → Knows v.threads s' q v.known

@@ -30,10 +30,6 @@ remainder_at = 32
 abbrev pub range_at : ℕ → ℕ
 range_at i = 40 + 8 * i
 
--- the share of the thread i of a table of t threads: the shares follow the ranges
-abbrev pub share_at : ℕ → ℕ → ℕ
-share_at t i = range_at (t + i)
-
 -- the j-th word that `fill` stores: finished, stopped, the remainder, and then the ranges
 abbrev pub filled_at : ℕ → ℕ
 filled_at j = 16 + 8 * j

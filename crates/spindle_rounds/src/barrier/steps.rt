@@ -16,14 +16,18 @@ use crate::round_table::{BARRIER, Seat};
 pub enum JoinStep {
     /// With the sense of the word.
     Joined(u64),
+    /// As many parties as there may be.
     Full,
+    /// All have arrived, and the closer is about to end the round.
     Closing,
+    /// Another step came between.
     Again,
 }
 
 /// How a party arrived.
 #[derive(Clone, Copy, Debug, PartialEq, Eq)]
 pub enum Arrival {
+    /// Others haven't yet.
     Arrived,
     /// It was the last, and closes the round.
     Closer,
@@ -42,17 +46,23 @@ pub enum Look {
 
 /// What came of one attempt to leave.
 pub enum LeaveStep {
+    /// The party is no member any more.
     Left,
+    /// Its round has ended: it is inside the next.
     Ended,
+    /// All have arrived, and the closer is about to end the round.
     Closing,
+    /// Another step came between.
     Again,
 }
 
 /// What came of one attempt to exit.
 pub enum ExitStep {
+    /// The party is no member any more.
     Gone,
     /// The others have arrived, so the party is the closer, though no member.
     Closer,
+    /// Another step came between.
     Again,
 }
 

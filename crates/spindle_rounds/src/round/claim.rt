@@ -37,6 +37,7 @@ impl Claimed {
 
 /// What came of a claim.
 pub enum Claim {
+    /// The number that begins.
     Job(Claimed),
     /// The words that were asked were read as empty in this call.
     Nothing,
@@ -110,6 +111,7 @@ impl Share {
 
 /// What came of a steal: the first number of the last half of the longest range, and the rest of that half.
 pub enum Steal {
+    /// The number that begins, and the numbers after it, which may be none.
     Job(Claimed, Share),
     /// Every range was read as empty in this call.
     Nothing,

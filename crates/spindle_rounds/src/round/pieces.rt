@@ -71,6 +71,42 @@ impl<A: Answers> Round<Pieces<A>> {
         self.count_finished(seat, claimed);
     }
 
+    /// Finishes as `finish` does a claim whose piece was taken: nothing stands in its slot, so nothing is dropped.
+    pub fn finish_taken(&self, seat: &mut Seat<Pieces<A>>, claimed: Claimed, finished: A::Answer)
+        requires seated { IsSeatAt self.now.init seat.old }
+        requires own { MayFinish claimed seat.old.me.0 }
+        requires taken { IsAtHand claimed Empty seat.old.me.1 }
+        requires answers { AnswersNote A.answers seat.old.me.0.note finished }
+        ensures seat { IsSameSeat seat.old seat.new }
+        ensures step { (found : ℕ)
+            × (seat.new.me ≡ (finishing found seat.old.me.0, rest seat.old.me.1)) }
+    {
+        let slot = claimed.number() as usize;
+        let done = Stand::Done(finished);
+        match self.init.table.shared.exchange(seat, slot, done) {
+            Stand::Empty => {}
+            Stand::Waits(_) => unreachable!(),
+            Stand::Done(_) => unreachable!(),
+        }
+        self.count_finished(seat, claimed);
+    }
+
+    /// Puts a piece into the slot at the leader's hand, in which nothing stands, and which then goes behind the others that it
+    /// holds.
+    pub fn put_piece(&self, seat: &mut Seat<Pieces<A>>, slot: usize, piece: A::Piece)
+        requires seated { IsSeatAt self.now.init seat.old }
+        requires head { IsAtHand slot Empty seat.old.me.1 }
+        ensures seat { IsSameSeat seat.old seat.new }
+        ensures behind { seat.new.me
+            ≡ (seat.old.me.0, rest seat.old.me.1 ++ (slot, Waits piece) ∷ []) }
+    {
+        match self.swap_slot(seat, slot, Stand::Waits(piece)) {
+            Stand::Empty => {}
+            Stand::Waits(_) => unreachable!(),
+            Stand::Done(_) => unreachable!(),
+        }
+    }
+
     /// Changes what stands in the slot at the leader's hand, which then goes behind the others that it holds.
     pub fn swap_slot(
         &self,

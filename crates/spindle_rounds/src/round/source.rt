@@ -22,6 +22,7 @@ pub enum Source {
 
 /// What came of a claim from a source: a number that has begun, and after a steal the rest of what was stolen.
 pub enum Taken {
+    /// The number that begins, and the rest of what was stolen; none after a claim from elsewhere.
     Job(Claimed, Option<Share>),
     /// The source was read as empty in this call.
     Nothing,

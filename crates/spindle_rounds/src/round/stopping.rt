@@ -15,6 +15,7 @@ use crate::round_table::{APART, HIGH, RANGES, REMAINDER, STOPPED, Seat};
 /// What came of putting a share back into the range of a thread.
 #[derive(Clone, Copy, Debug, PartialEq, Eq)]
 pub enum PutBack {
+    /// The range holds the share's numbers.
     Put,
     /// That range isn't empty.
     Occupied,

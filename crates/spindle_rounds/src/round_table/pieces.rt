@@ -11,8 +11,10 @@ use std::marker::PhantomData;
 
 /// What a piece is, what answers it, and which answers are right.
 pub trait Answers {
+    /// What the party of a number is given.
     type Piece: Drop;
 
+    /// What it brings back.
     type Answer: Drop;
 
     ghost answers: { Self.Piece → Self.Answer → Type 0 };

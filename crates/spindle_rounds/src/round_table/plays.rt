@@ -1,6 +1,8 @@
 //! The kinds of step of the round table: what each tells its seat.
 ghost use Rattle.spindle_rounds.specs.RoundSteps.{same_view, new_view};
-ghost use Rattle.spindle_rounds.specs.RoundTells.{LoadTells, JoinTells, ArrivalTells, LookTells, LeaveTells, ExitTells, CloserReadTells, ClearTells, EndTells, LearnTells, FillTells, PublishTells, PublishTryTells, SearchTells, RemainderReadTells, RecallTells, ClaimTells, StealTells, RemainderClaimTells, ShareTells, FinishTells, StopTells, SeeTells, PutBackTells};
+ghost use Rattle.spindle_rounds.specs.RoundTells.{LoadTells, JoinTells, ArrivalTells, LookTells, LeaveTells, ExitTells, CloserReadTells, ClearTells, EndTells};
+ghost use Rattle.spindle_rounds.specs.RoundTells.{LearnTells, FillTells, PublishTells, PublishTryTells, SearchTells, RemainderReadTells, RecallTells};
+ghost use Rattle.spindle_rounds.specs.RoundTells.{ClaimTells, StealTells, RemainderClaimTells, ShareTells, FinishTells, StopTells, SeeTells, PutBackTells};
 ghost use Rattle.spindle_rounds.specs.SlotSteps.{TakeOutTells, GiveBackTells};
 ghost use Rattle.spindle_rounds.specs.Leftovers.{FindTells, FindRestTells};
 

@@ -9,8 +9,10 @@ use std::alloc::{AllocError, Global};
 /// The discipline says what holds of the slots beside the state of the round and what the seats know: which slot a
 /// number gives when it begins, what its end gives back, and what may be published.
 pub trait Slots {
+    /// What stands in one slot.
     type Slot: Drop;
 
+    /// What a seat notes of the slot of its claim.
     type Note;
 
     ghost discipline: { Discipline Self.Slot Self.Note };

@@ -17,6 +17,7 @@ pub struct Counts {
 }
 
 impl Counts {
+    /// No number was counted, and no round was played.
     pub fn new(alloc: Global) -> Result<Counts, AllocError> {
         let mut of = Vec::new(alloc);
         for _ in 0..NUMBERS {
@@ -30,12 +31,14 @@ impl Counts {
         })
     }
 
+    /// Counts a number once; one that is too high isn't counted.
     pub fn count(&self, number: u64) {
         if let Some(count) = self.of.get(number as usize) {
             count.fetch_add(1, Ordering::SeqCst);
         }
     }
 
+    /// Counts each number from the first up to the second, which isn't counted.
     pub fn count_all(&self, from: u64, to: u64) {
         for number in from..to {
             self.count(number);
@@ -70,6 +73,7 @@ impl Counts {
         }
     }
 
+    /// A round was played, and was right or not.
     pub fn end_round(&self, right: bool) {
         self.played.fetch_add(1, Ordering::SeqCst);
         if !right {
@@ -90,6 +94,7 @@ impl Counts {
         self.over.store(1, Ordering::SeqCst);
     }
 
+    /// Whether no round comes any more.
     pub fn are_over(&self) -> bool {
         self.over.load(Ordering::SeqCst) == 1
     }

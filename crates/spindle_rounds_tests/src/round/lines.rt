@@ -22,7 +22,9 @@ use std::process::Abort;
 /// The machine, and whether a guest joins and exits after each line.
 #[derive(Drop)]
 pub struct Beside {
+    /// It makes each step that the table makes.
     pub machine: Machine,
+    /// Whether a guest comes after each line.
     pub visits: bool,
 }
 

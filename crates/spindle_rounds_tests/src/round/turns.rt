@@ -21,9 +21,13 @@ use std::thread::Threads;
 /// A thread at a table, with its number, and how many threads the table is for.
 #[derive(Drop)]
 pub struct Player<'a> {
+    /// The table.
     pub round: &'a Round<Bare>,
+    /// Where it counts the numbers that it begins.
     pub counts: &'a Counts,
+    /// Its number, from 0 on.
     pub thread: usize,
+    /// The table's threads.
     pub threads: usize,
     ghost counted: { thread < round.now.init.threads },
     ghost sized: { threads ≡ round.now.init.threads },
