@@ -1,6 +1,8 @@
 -- The pieces of a list as runs of it, one behind the other.
 use Rattle.std.proofs.Common.{◌≡◌, ℕ, ◌+◌, ◌-◌, ◌<◌, ◌≤◌, List, [], ◌++◌, length, take, ap, ◌∙◌, arith, length-append}
-use Rattle.std.proofs.lemmas.List.{length-take}
+use Rattle.std.proofs.lemmas.List.{length-take, take_all}
+use Rattle.std.proofs.lemmas.Nat.{div-add-mod'}
+use Rattle.std.proofs.Math.Nat.{mod-lt}
 use Rattle.std.proofs.Math.Seq.{take-add}
 use Rattle.std.proofs.lemmas.Slice.Zip.{AllZip-long}
 use Rattle.std.specs.List.{AllZip}
@@ -9,6 +11,12 @@ use Rattle.spindle_trays.specs.PieceRuns.{piece_start, items_before, piece_at}
 -- nothing stands before the first piece
 pub before_first : {A : Type 0} (items : List A) (pieces : ℕ) → items_before items pieces 0 ≡ []
 before_first items pieces = let zero : piece_start (length items) pieces 0 ≡ 0 = omega arith in ap (λ (n : ℕ). take n items) zero
+
+-- all items stand before the end of the last piece
+pub before_end : {A : Type 0} (items : List A) (pieces : ℕ) → 0 < pieces → items_before items pieces pieces ≡ items
+before_end items pieces some =
+    let len = length items in
+    take_all (piece_start len pieces pieces) items (omega (arith, div-add-mod' len pieces, mod-lt len some))
 
 -- a piece begins where the one before it ends
 start_next : (len pieces number : ℕ) → piece_start len pieces number ≤ piece_start len pieces (number + 1)

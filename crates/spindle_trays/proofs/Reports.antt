@@ -1,5 +1,7 @@
 -- Tallies of pieces, one more at a time, and the report that a whole tally makes.
-use Rattle.std.proofs.Common.{◌≡◌, ◌⊎◌, ◌↔◌, ℕ, ◌+◌, ◌<◌, ◌≤◌, Bool, true, false, not, cond, List, [], ◌∷◌, ◌++◌, Option, None, Some, IfSome, unwrap_or, Vec, vec_len, vec_capacity, Global, length-append, ◌||◌, zero, suc, length, get_or, map, filter, All, Any, Contains, inl, inr, ⊎_elim, refl, ap, sym, ◌∙◌, subst, arith, zero-add, add-zero, append-nil, append_assoc, mod-lt, div-add-mod'}
+use Rattle.std.proofs.Common.{◌≡◌, ◌⊎◌, ◌↔◌, ℕ, ◌+◌, ◌<◌, ◌≤◌, Bool, true, false, not, cond, List, [], ◌∷◌, ◌++◌, Option, None, Some, IfSome, Vec, vec_len}
+use Rattle.std.proofs.Common.{vec_capacity, Global, length-append, ◌||◌, zero, suc, length, get_or, map, filter, All, Any, Contains, inl, inr, ⊎_elim, refl, ap}
+use Rattle.std.proofs.Common.{sym, ◌∙◌, subst, arith, zero-add, add-zero, append-nil, append_assoc, mod-lt, div-add-mod'}
 use Rattle.std.specs.List.{AllZip}
 use Rattle.std.specs.List.Sorted.{IsStrictlyIncreasing}
 use Rattle.std.proofs.lemmas.Bool.{cases_lt, false≢true}
@@ -118,12 +120,9 @@ below_more : (k : ℕ) (o : Option ℕ) → IfSome o (λ j. j < k) → IfSome o 
 below_more k None h = h
 below_more k (Some j) h = omega (arith, h)
 
-marked_more : (k : ℕ) (left : List Bool) (xs : List ℕ) → All (λ j. (j < k) × (is_marked left j ≡ true)) xs → All (λ j. (j < k + 1) × (is_marked left j ≡ true)) xs
+marked_more : (k : ℕ) (left : List Bool) (xs : List ℕ) → All (λ j. (j < k) × (is_marked left j ≡ true)) xs
+    → All (λ j. (j < k + 1) × (is_marked left j ≡ true)) xs
 marked_more k left xs h i d lt = let e = h i d lt in let b = e.0 in (omega arith, e.1)
-
-lost_first : (k : ℕ) (o : Option ℕ) → IfSome o (λ j. j < k) → unwrap_or o k < k + 1
-lost_first k None h = omega arith
-lost_first k (Some j) h = omega (arith, h)
 
 either : (a b : Bool) → (a || b) ≡ true → (a ≡ true) ⊎ (b ≡ true)
 either true b e = inl refl
@@ -163,28 +162,10 @@ module _ {A B : Type 0} (Meets : A → B → Type 0) (Fails : B → Type 0) (ite
         told = λ none. told_skipped Meets items n left k old new marked (ap (λ v. v.items) ran) skipped (noted.told (sym lost ∙ none));
         failed = λ t. subst (λ v. Any (HasFailed Fails) v.items) (sym ran) (noted.failed (sym failed ∙ t));
         marked = subst (All (λ j. (j < k + 1) × (is_marked left j ≡ true))) (sym skipped)
-            (All-push (λ j. (j < k + 1) × (is_marked left j ≡ true)) old.skipped.items k (marked_more k left old.skipped.items noted.marked) (omega arith, marked));
+            (All-push (λ j. (j < k + 1) × (is_marked left j ≡ true)) old.skipped.items k
+            (marked_more k left old.skipped.items noted.marked) (omega arith, marked));
         lost = subst (λ o. IfSome o (λ j. j < k + 1)) (sym lost) (below_more k old.lost noted.lost);
       }
-
-  -- with one that is lost
-  pub noted_lost : (old new : Tally B) → new.ran ≡ old.ran → new.skipped ≡ old.skipped → new.failed ≡ old.failed → new.lost ≡ Some (unwrap_or old.lost k)
-      → IsNoted Meets Fails items n left k old → IsNoted Meets Fails items n left (k + 1) new
-  noted_lost old new ran skipped failed lost noted =
-      let a = noted.ran_room in let b = noted.skipped_room in let c = ap vec_len ran in let d = ap vec_capacity ran in let e = noted.ran_most in
-      let f = noted.skipped_most in let g = ap vec_len skipped in let h = ap vec_capacity skipped in record {
-        ran_room = omega arith;
-        skipped_room = omega arith;
-        ran_most = omega arith;
-        skipped_most = omega arith;
-        told = λ none. absurd (none_is (sym none ∙ lost));
-        failed = λ t. subst (λ v. Any (HasFailed Fails) v.items) (sym ran) (noted.failed (sym failed ∙ t));
-        marked = subst (λ v. All (λ j. (j < k + 1) × (is_marked left j ≡ true)) v.items) (sym skipped) (marked_more k left old.skipped.items noted.marked);
-        lost = subst (λ o. IfSome o (λ j. j < k + 1)) (sym lost) (lost_first k old.lost noted.lost);
-      }
-    where
-      none_is : {x : ℕ} → None ≡ Some x → ⊥
-      none_is e = absurd cc
 
 -- the items before the last piece's end are all items
 before_last : {A : Type 0} (items : List A) (n : ℕ) → (0 < length items → 0 < n) → items_before items n n ≡ items
@@ -215,7 +196,8 @@ answered_from Meets items n from (suc count) (p ∷ ran) before e answers z =
 pub all_answered : {A B : Type 0} (Meets : A → B → Type 0) (Fails : B → Type 0) (items : List A) (n : ℕ) (report : Report B) → (0 < length items → 0 < n)
     → report.skipped.items ≡ [] → IsReport Meets Fails items n report → AllZip Meets items (outputs_of report.ran.items)
 all_answered Meets Fails items n report some none r =
-    let all = answered_from Meets items n 0 n report.ran.items [] (r.whole none) r.answers (subst (λ xs. AllZip Meets xs []) (sym (before_first items n)) (tt {0})) in
+    let all = answered_from Meets items n 0 n report.ran.items [] (r.whole none) r.answers
+    (subst (λ xs. AllZip Meets xs []) (sym (before_first items n)) (tt {0})) in
     subst (λ xs. AllZip Meets xs (outputs_of report.ran.items)) (before_last items n some)
     (subst (λ (k : ℕ). AllZip Meets (items_before items n k) (outputs_of report.ran.items)) (zero-add n) all)
 
@@ -234,10 +216,12 @@ pub first_is_least : {B : Type 0} (Fails : B → Type 0) (ran : List (ℕ × Vec
     → IsFirstFailed Fails ran number → All (λ piece. HasFailed Fails piece → number ≤ piece.0) ran
 first_is_least {B} Fails ran number up first k d lt failed =
     let before = first.0 in let after = first.1 in let piece = first.2 in let split = first.3 in let i = length before in
-    let f : ℕ × Vec B Global → ℕ = λ p. p.0 in let long = length-append before (piece ∷ after) in let all = ap length split in let inside : i < length ran = omega arith in
+    let f : ℕ × Vec B Global → ℕ = λ p. p.0 in let long = length-append before (piece ∷ after) in let all = ap length split in
+    let inside : i < length ran = omega arith in
     let there : get_or ran i d ≡ piece = ap (λ ps. get_or ps i d) split ∙ get_or_at before piece after d i refl in
     let mine : get_or (numbers_of ran) i 0 ≡ number = get_or-map f ran i d 0 inside ∙ ap f there ∙ first.4 in
     let its : get_or (numbers_of ran) k 0 ≡ (get_or ran k d).0 = get_or-map f ran k d 0 lt in ⊎_elim
-    (λ (early : k < i). absurd (first.6 k d early (subst (HasFailed Fails) (ap (λ ps. get_or ps k d) split ∙ get_or_append_left before (piece ∷ after) d k early) failed)))
+    (λ (early : k < i). absurd (first.6 k d early
+    (subst (HasFailed Fails) (ap (λ ps. get_or ps k d) split ∙ get_or_append_left before (piece ∷ after) d k early) failed)))
     (λ (late : i ≤ k). let many = length-map ran f in let above = later_above (numbers_of ran) i k up late (omega arith) in omega (arith, mine, its, above))
     (cases_lt k i)

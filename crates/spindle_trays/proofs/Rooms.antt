@@ -1,5 +1,6 @@
 -- Rooms for the outputs of pieces: one that is filled, one more that is made, and those that are left.
-use Rattle.std.proofs.Common.{◌≡◌, ◌≢◌, ◌⊎◌, ℕ, ◌+◌, ◌<◌, ◌≤◌, List, [], ◌∷◌, ◌++◌, Vec, vec_len, vec_capacity, length, get_or, set, inl, inr, ⊎_elim, refl, ap, sym, ◌∙◌, subst, arith, length-append}
+use Rattle.std.proofs.Common.{◌≡◌, ◌≢◌, ℕ, ◌+◌, ◌<◌, ◌≤◌, List, [], ◌∷◌, ◌++◌, Vec, vec_len, vec_capacity, length, get_or, set, inr, ⊎_elim, ap, sym, ◌∙◌}
+use Rattle.std.proofs.Common.{subst, arith}
 use Rattle.std.specs.List.{AllZip}
 use Rattle.std.proofs.lemmas.Bool.{cases_eq}
 use Rattle.std.proofs.lemmas.List.{get_or-set_same, get_or-set_other, get_or_append_left, get_or_push, length-set}
@@ -15,7 +16,8 @@ room_fits Meets items room h short none =
     ⊎_elim (λ fresh. let c = fresh.1 in omega arith) (λ done. let long = AllZip-long Meets items room.items done in omega arith) h
 
 -- what ran in an empty room answers the items
-pub room_answers : {A B : Type 0} (Meets : A → B → Type 0) (items : List A) (old new : List B) → old ≡ [] → AddsAnswers Meets items old new → AllZip Meets items new
+pub room_answers : {A B : Type 0} (Meets : A → B → Type 0) (items : List A) (old new : List B) → old ≡ [] → AddsAnswers Meets items old new
+    → AllZip Meets items new
 room_answers Meets items old new e adds = subst (AllZip Meets items) (sym (adds.2 ∙ ap (λ xs. xs ++ adds.0) e)) adds.1
 
 -- and a room that isn't empty holds them
@@ -45,12 +47,9 @@ module _ {A B Z : Type 0} (Meets : A → B → Type 0) (items : List A) (n : ℕ
   pub rooms_taken : (rooms : List (Vec B Z)) (k : ℕ) (room : Vec B Z) → AreRooms Meets items n k rooms → AreRooms Meets items n (k + 1) (set rooms k room)
   rooms_taken rooms k room h = (
     length-set rooms k room ∙ h.0,
-    λ j d le below. subst (IsRoomFor Meets (piece_at items n j)) (sym (get_or-set_other rooms k j room d (λ e. omega (arith, le, e)))) (h.1 j d (omega (arith, le)) below),
+    λ j d le below. subst (IsRoomFor Meets (piece_at items n j)) (sym (get_or-set_other rooms k j room d (λ e. omega (arith, le, e))))
+        (h.1 j d (omega (arith, le)) below),
   )
-
-  -- one room is left alone
-  pub rooms_kept : (rooms : List (Vec B Z)) (k : ℕ) → AreRooms Meets items n k rooms → AreRooms Meets items n (k + 1) rooms
-  rooms_kept rooms k h = (h.0, λ j d le below. h.1 j d (omega (arith, le)) below)
 
   -- one room more is made
   pub rooms_more : (rooms : List (Vec B Z)) (k : ℕ) (room : Vec B Z) → length rooms ≡ k → IsRoomFor Meets (piece_at items n k) room

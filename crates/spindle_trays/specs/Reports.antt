@@ -1,5 +1,6 @@
 -- What came of a round that may stop: which pieces ran, with their outputs, and which were skipped.
-use Rattle.std.specs.Prelude.{◌≡◌, ◌⊎◌, ℕ, ◌<◌, ◌≤◌, Bool, true, false, not, List, [], ◌∷◌, ◌++◌, None, IfSome, Vec, length, map, filter, slice_index_or, vec_len, vec_capacity, IsPermutation}
+use Rattle.std.specs.Prelude.{◌≡◌, ◌⊎◌, ℕ, ◌<◌, ◌≤◌, Bool, true, false, not, List, [], ◌∷◌, ◌++◌, None, IfSome, Vec, length, map, filter, slice_index_or}
+use Rattle.std.specs.Prelude.{vec_len, vec_capacity, IsPermutation}
 use Rattle.std.specs.List.Sorted.{IsStrictlyIncreasing}
 use Rattle.std.specs.List.{All, AllZip, Any}
 use Rattle.spindle_parts.specs.Pieces.{counted, joined}
@@ -35,6 +36,12 @@ NoneFailed Fails pieces = All (λ piece. HasFailed Fails piece → ⊥) pieces
 abbrev pub IsFirstFailed : {B Z : Type 0} → (B → Type 0) → List (ℕ × Vec B Z) → ℕ → Type 0
 IsFirstFailed {B} {Z} Fails pieces number = (before after : List (ℕ × Vec B Z)) × (piece : ℕ × Vec B Z) × (pieces ≡ before ++ piece ∷ after)
     × (piece.0 ≡ number) × HasFailed Fails piece × NoneFailed Fails before
+
+-- these are the numbers of those pieces that have failed, in their order
+unfoldable pub AreFailed : {B Z : Type 0} → (B → Type 0) → List (ℕ × Vec B Z) → List ℕ → Type 0
+AreFailed Fails [] numbers = numbers ≡ []
+AreFailed Fails (piece ∷ pieces) numbers = (HasFailed Fails piece × (others : List ℕ) × (numbers ≡ piece.0 ∷ others) × AreFailed Fails pieces others)
+    ⊎ ((HasFailed Fails piece → ⊥) × AreFailed Fails pieces numbers)
 
 -- what a report promises of a round over these items in n pieces
 pub record IsReport {A B : Type 0} (Meets : A → B → Type 0) (Fails : B → Type 0) (items : List A) (n : ℕ) (report : Report B) : Type 0 where
@@ -81,9 +88,14 @@ pub record IsNoted {A B : Type 0} (Meets : A → B → Type 0) (Fails : B → Ty
 abbrev pub IsLostAt : {B : Type 0} → (n : ℕ) → List Bool → Tally B → ℕ → Type 0
 IsLostAt n left tally k = (k < n) × (tally.lost ≡ None → is_marked left k ≡ true)
 
+-- a fault that tells such a number, and no want of memory
 abbrev pub IsLostOf : {B : Type 0} → (n : ℕ) → List Bool → Tally B → Fault → Type 0
 IsLostOf n left tally Memory = ⊥
 IsLostOf n left tally (Lost k) = IsLostAt n left tally k
+
+-- a report of no pieces
+abbrev pub IsOfNone : {B : Type 0} → Report B → Type 0
+IsOfNone report = (report.ran.items ≡ []) × (report.skipped.items ≡ [])
 
 -- the room of a piece with these items is empty and large enough, or holds their answers
 abbrev pub IsRoomFor : {A B Z : Type 0} → (A → B → Type 0) → List A → Vec B Z → Type 0

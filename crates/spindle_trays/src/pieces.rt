@@ -7,5 +7,6 @@ pub mod gathering;
 pub mod place;
 pub mod ready;
 pub mod runs;
+pub mod spares;
 pub mod tray;
 pub mod trays;

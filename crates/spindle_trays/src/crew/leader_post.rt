@@ -12,6 +12,7 @@ use spindle_rounds::round_table::slots::{Bare, Slots};
 /// The post of a lock's leader, whose thread number is 0.
 #[derive(Drop)]
 pub struct LeaderPost<'a, D: Slots> {
+    /// Its post as a thread of the lock.
     pub post: Post<'a, D>,
     ghost leads: { (party_view post.barrier).leader ≡ true },
     ghost first: { post.thread ≡ 0 },

@@ -49,7 +49,7 @@ pub fn publish<'a, D: Slots, H: Wait>(
     tables.round.fill(&mut barrier.seat, task.jobs);
     notices.end_rest();
     publish_task(&tables.round, &mut barrier.seat, task);
-    tables.sleep.wake(rt);
+    tables.wake(rt);
 }
 
 // One store of the task's word: that of a plain round, or of one that may stop.
@@ -79,7 +79,7 @@ pub fn end_round<'a, D: Slots, H: Wait>(rt: &H, tables: &Tables<D>, barrier: &mu
     match barrier.arrive() {
         Arrival::Closer => {
             barrier.close();
-            tables.sleep.wake(rt);
+            tables.wake(rt);
         }
         Arrival::Arrived => await_end(rt, tables, barrier),
     }
@@ -119,7 +119,7 @@ pub fn end_or_leave<'a, D: Slots, H: Wait>(
     match barrier.arrive() {
         Arrival::Closer => {
             barrier.close();
-            tables.sleep.wake(rt);
+            tables.wake(rt);
             ExitStatus::Remain(barrier)
         }
         Arrival::Arrived => await_end_or_leave(rt, tables, barrier, notices),

@@ -17,8 +17,11 @@ use std::thread;
 /// A member of the barrier that takes part in no round at the moment.
 #[derive(Drop)]
 pub struct Post<'a, D: Slots> {
+    /// What it shares with the lock's other threads.
     pub tables: &'a Tables<D>,
+    /// Its membership, with its seat at the round table.
     pub barrier: Barrier<'a, D>,
+    /// Its number among the lock's threads, the leader's being 0.
     pub thread: usize,
     ghost seated: { IsSeatAt tables.now.round.init barrier.seat },
     ghost home: { IsSameTable tables.now.round.init barrier.init.now },
@@ -118,7 +121,7 @@ impl<'a, D: Slots> Post<'a, D> {
         } = self;
         let seat = barrier.exit(rt);
         tables.present.go();
-        tables.sleep.wake(rt);
+        tables.wake(rt);
         seat
     }
 }

@@ -21,8 +21,11 @@ use std::alloc::Global;
 /// A thread's seats at the tables of its lock.
 #[derive(Drop)]
 pub struct Seats<D: Slots> {
+    /// At the round table.
     pub round: round_table::Seat<D>,
+    /// At the table of thread numbers.
     pub numbers: numbers::Seat,
+    /// At the ledger of requests for helpers.
     pub ledger: requests::Seat,
 }
 

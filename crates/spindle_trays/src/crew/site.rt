@@ -9,9 +9,13 @@ use crate::crew::sleep::Sleep;
 /// What a job sees of its lock, and the number of the thread that runs it, if that has one.
 #[derive(Clone, Copy)]
 pub struct Site<'a> {
+    /// How many threads the lock and its pool have.
     pub crew: Crew,
+    /// Where the number of those that take part is read.
     pub members: Members<'a>,
+    /// Where the lock's idle threads sleep.
     pub sleep: &'a Sleep,
+    /// The number of the thread; none in a job that a leader runs directly.
     pub index: Option<usize>,
     ghost numbered: { ForSome index (λ i. i < crew.most) },
 }

@@ -9,8 +9,11 @@ use std::marker::Model;
 /// The context of a job whose kind has the inner nest N.
 #[derive(Drop)]
 pub struct JobCx<'a, N: Nest> {
+    /// The lock's child slots; none in a job that another job runs directly.
     pub slots: Option<&'a N::Slots>,
+    /// Its access to what the lock's threads announce.
     pub notices: Notices<'a>,
+    /// What it sees of its lock.
     pub site: Site<'a>,
 }
 

@@ -9,7 +9,7 @@ ghost use Rattle.spindle_trays.specs.Accounts.{IsSameThread};
 use crate::crew::notices::Notices;
 use crate::job::Job;
 use crate::job::sealed::IsNest;
-use crate::lock::nested::Child;
+use crate::lock::nested::{Child, Nested};
 use crossbeam_utils::CachePadded;
 use spindle_parts::aarc_imp::AtomicArc;
 use spindle_parts::fault::Fault;
@@ -68,20 +68,23 @@ impl Nest for End {
 }
 
 /// Nested locks over jobs of kind K.
-pub struct Under<K: Job> {
+pub struct Under<K> {
     kind: PhantomData<K>,
 }
 
 impl<K: Job> IsNest for Under<K> {}
 
 impl<K: Job> Nest for Under<K> {
-    type Slots = Vec<CachePadded<AtomicArc<Child<K>>>>;
+    type Slots = Vec<CachePadded<AtomicArc<Child<Nested<K>>>>>;
 
     fn slot_count(threads: usize) -> usize {
         threads
     }
 
-    fn make(alloc: Global, threads: usize) -> Result<Vec<CachePadded<AtomicArc<Child<K>>>>, Fault> {
+    fn make(
+        alloc: Global,
+        threads: usize,
+    ) -> Result<Vec<CachePadded<AtomicArc<Child<Nested<K>>>>>, Fault> {
         let mut slots = Vec::with_capacity(alloc, threads)?;
         for _ in 0..threads {
             slots.push_reserved(CachePadded::new(AtomicArc::null(&())));
@@ -92,7 +95,7 @@ impl<K: Job> Nest for Under<K> {
     fn serve<H: Threads + Wait + Sync>(
         rt: &H,
         alloc: Global,
-        slots: &Vec<CachePadded<AtomicArc<Child<K>>>>,
+        slots: &Vec<CachePadded<AtomicArc<Child<Nested<K>>>>>,
         notices: &mut Notices<'_>,
     ) {
         for number in 0..slots.len().min(notices.slots()) {
@@ -105,7 +108,7 @@ impl<K: Job> Nest for Under<K> {
 fn serve_slot<K: Job, H: Threads + Wait + Sync>(
     rt: &H,
     alloc: Global,
-    slot: &AtomicArc<Child<K>>,
+    slot: &AtomicArc<Child<Nested<K>>>,
     number: usize,
     notices: &mut Notices<'_>,
 )

@@ -1,7 +1,7 @@
 //! The leader of a lock: rounds over lists of items.
 //!
 //! A round goes one way: items, pieces, jobs, outputs. All memory that a round takes is taken before its first job.
-ghost use Rattle.std.specs.Prelude.{◌≡◌, ◌<◌, ◌≤◌, [], IfOk, IfErr, OnOk, OnErr, IsOk, IsNone, vec_len, vec_capacity};
+ghost use Rattle.std.specs.Prelude.{◌≡◌, ◌<◌, ◌≤◌, [], IfOk, IfErr, OnOk, OnErr, IsOk, IsNone, IsErrOf, vec_len, vec_capacity};
 ghost use Rattle.std.specs.List.{AllZip};
 ghost use Rattle.std.specs.Fn.{FnOnceReturnsAtMut};
 ghost use Rattle.spindle_parts.specs.Pieces.{counted};
@@ -14,11 +14,10 @@ use crate::job::Job;
 use crate::job::gate::Gate;
 use crate::lock::workspace::{Opens, Workspace};
 use crate::pieces::runs::Pieces;
+use crate::pieces::spares::Spares;
 use crate::work::runner::Runner;
 use spindle_lists::shared::SharedList;
-use spindle_parts::cut::cut;
 use spindle_parts::fault::Fault;
-use spindle_rounds::round::task::Task;
 use spindle_rounds::round_table::slots::Bare;
 use std::alloc::Global;
 use std::sync::Wait;
@@ -61,7 +60,7 @@ impl<'a, J: Opens<L>, G: Gate, L> Leader<'a, J, G, L> {
     /// Tells the helpers to end.
     pub(crate) fn dismiss<H: Wait>(&mut self, rt: &H) {
         self.runner.notices.announce_exit();
-        self.post.post.tables.sleep.wake(rt);
+        self.post.post.tables.wake(rt);
     }
 
     /// Runs the items in `n_jobs` jobs, or in as many as there are items where these are fewer, and at most in
@@ -101,7 +100,7 @@ impl<'a, J: Opens<L>, G: Gate, L> Leader<'a, J, G, L> {
         rt: &H,
         alloc: Global,
         n_jobs: usize,
-        mut items: Vec<J::In>,
+        items: Vec<J::In>,
         outputs: &mut Vec<J::Out>,
     ) -> Result<(), Fault>
         requires jobs { 0 < vec_len items → 0 < n_jobs }
@@ -128,14 +127,36 @@ impl<'a, J: Opens<L>, G: Gate, L> Leader<'a, J, G, L> {
         if jobs > 1 && self.post.post.tables.crew.threads() > 1 {
             return self.play(rt, alloc, jobs, items, outputs);
         }
+        self.play_here(rt, alloc, jobs, items, outputs)
+    }
+
+    // The leader alone: one job directly, more by a round of its own. No piece is lost here.
+    fn play_here<H: Threads + Wait + Sync>(
+        &mut self,
+        rt: &H,
+        alloc: Global,
+        jobs: usize,
+        items: Vec<J::In>,
+        outputs: &mut Vec<J::Out>,
+    ) -> Result<(), Fault>
+        requires jobs { (1 ≤ jobs) × (jobs ≤ 4294967295) × (jobs ≤ vec_len items) }
+        requires empty { outputs.old.items ≡ [] }
+        requires room { vec_len items ≤ vec_capacity outputs.old }
+        ensures answer { OnOk result (AllZip J.meets items.items outputs.new.items) }
+        ensures memory { OnErr result (IsErrOf result Fault.Memory × MadeNoStep self.old self.new) }
+        ensures given_up { OnErr result (outputs.new.items ≡ []) }
+        ensures played { OnOk result (2 ≤ jobs → PlayedOnce jobs self.old self.new) }
+        ensures direct { jobs ≤ 1 → MadeNoStep self.old self.new }
+        ensures lock { threads_of self.new ≡ threads_of self.old }
+        ensures hands { hands_of self.new ≡ hands_of self.old }
+    {
         if jobs == 1 {
             let inputs = items.as_slice();
             self.runner.run(rt, alloc, 0, None, inputs, outputs);
         } else {
-            let pieces = cut(alloc, &mut items, jobs)?;
-            let pieces = pieces.as_slice();
+            let pieces = Pieces::new(SharedList::from_vec(alloc, items)?, jobs);
             self.post
-                .play_alone(rt, alloc, &mut self.runner, pieces, outputs);
+                .play_alone(rt, alloc, &mut self.runner, &pieces, outputs);
         }
         Ok(())
     }
@@ -163,13 +184,11 @@ impl<'a, J: Opens<L>, G: Gate, L> Leader<'a, J, G, L> {
     {
         let pieces = Pieces::new(SharedList::from_vec(alloc, items)?, jobs);
         let trays = J::trays(self.workspace);
-        trays.hand_out(rt, alloc, &pieces)?;
-        let task = Task {
-            jobs: pieces.count() as u64,
-            may_stop: false,
-        };
-        self.post.play(rt, alloc, trays, &mut self.runner, task);
-        match trays.gather(rt, &pieces, outputs) {
+        trays.hand_out(rt, alloc, &pieces, &mut Spares::none(alloc))?;
+        let first = self
+            .post
+            .play_ahead(rt, alloc, trays, &mut self.runner, &pieces, outputs);
+        match trays.gather_rest(rt, &pieces, first, outputs) {
             Ok(()) => Ok(()),
             Err(number) => {
                 outputs.clear();

@@ -5,4 +5,4 @@ mod child;
 mod opening;
 mod rounds;
 
-pub use self::child::Child;
+pub use self::child::{Child, Nested};

@@ -73,10 +73,12 @@ impl<G: Gate> Pool<G> {
         None
     }
 
+    /// Whom its locks tell of each job before and after it.
     pub fn gate(&self) -> &G {
         &self.gate
     }
 
+    /// How long the threads of its locks pause before they sleep.
     pub fn limits(&self) -> Limits {
         self.limits
     }

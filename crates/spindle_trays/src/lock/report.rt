@@ -1,7 +1,7 @@
 //! What came of a round that may stop.
 ghost use Rattle.std.specs.Prelude.{◌≡◌, ◌↔◌, [], IfOk, IfSome, IsNone, IsTrue, OnErr, IsErrOf};
 ghost use Rattle.std.specs.List.{Any};
-ghost use Rattle.spindle_trays.specs.Reports.{IsFirstFailed, NoneFailed, outputs_of};
+ghost use Rattle.spindle_trays.specs.Reports.{AreFailed, IsFirstFailed, IsOfNone, NoneFailed, outputs_of};
 
 use crate::job::TellsFailures;
 use spindle_parts::fault::Fault;
@@ -20,6 +20,16 @@ pub struct Report<T> {
 }
 
 impl<T: Drop> Report<T> {
+    /// A report of no pieces, for `try_for_each_into`. Takes no memory.
+    pub fn new(alloc: Global) -> Report<T>
+        ensures { IsOfNone result }
+    {
+        Report {
+            ran: Vec::new(alloc),
+            skipped: Vec::new(alloc),
+        }
+    }
+
     /// Whether no piece was skipped.
     pub fn all_ran(&self) -> bool
         ensures { IsTrue result ↔ (self.now.skipped.items ≡ []) }
@@ -38,6 +48,20 @@ impl<T: Drop> Report<T> {
             }
         }
         None
+    }
+
+    /// The numbers of the pieces that have failed, in their order. The list grows only where there are such.
+    pub fn failed<J: TellsFailures<Out = T>>(&self, alloc: Global) -> Result<Vec<usize>, Fault>
+        ensures numbers { IfOk result (λ numbers. AreFailed J.fails self.now.ran.items numbers.items) }
+        ensures memory { OnErr result (IsErrOf result Fault.Memory) }
+    {
+        let mut numbers = Vec::new(alloc);
+        for piece in &self.ran {
+            if has_failed::<J>(piece.1.as_slice()) {
+                numbers.push(piece.0)?;
+            }
+        }
+        Ok(numbers)
     }
 
     /// The outputs of the pieces that ran, in order. Where none was skipped there is one for each item of the round.

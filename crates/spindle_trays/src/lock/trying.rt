@@ -3,7 +3,7 @@ ghost use Rattle.std.specs.Prelude.{◌≡◌, ◌↔◌, ℕ, ◌<◌, ◌≤�
 ghost use Rattle.std.specs.List.{Contains};
 ghost use Rattle.spindle_rounds.specs.Leftovers.{IsFoundLeft, IsMarked};
 ghost use Rattle.spindle_trays.specs.Leaders.{threads_of, hands_of, view_of, IsBetweenRounds, MadeNoStep, TriedOnce, TriedAndMarked, LeftByTryRefusal};
-ghost use Rattle.spindle_trays.specs.Reports.{IsNoted, IsReport, IsTryRefusal};
+ghost use Rattle.spindle_trays.specs.Reports.{IsNoted, IsOfNone, IsReport, IsTryRefusal};
 ghost use Rattle.spindle_trays.specs.Rounds.{job_count};
 
 use crate::job::gate::Gate;
@@ -11,12 +11,14 @@ use crate::lock::leader::{Leader, MOST_JOBS};
 use crate::lock::report::Report;
 use crate::lock::workspace::Opens;
 use crate::pieces::runs::Pieces;
+use crate::pieces::spares::Spares;
 use crate::work::rooms::make_rooms;
 use crate::work::tally::Tally;
 use spindle_lists::shared::SharedList;
 use spindle_parts::fault::Fault;
 use spindle_rounds::round::task::Task;
 use std::alloc::Global;
+use std::mem;
 use std::sync::Wait;
 use std::thread::Threads;
 
@@ -53,15 +55,48 @@ impl<'a, J: Opens<L>, G: Gate, L> Leader<'a, J, G, L> {
         ensures lock { threads_of self.new ≡ threads_of self.old }
         ensures hands { hands_of self.new ≡ hands_of self.old }
     {
+        let mut report = Report::new(alloc);
+        self.try_for_each_into(rt, alloc, n_jobs, items, &mut report)?;
+        Ok(report)
+    }
+
+    /// As `try_for_each`, with the report where the caller keeps it: what stood there goes, and the memory of its lists serves
+    /// again. After a refusal it is a report of no pieces.
+    pub fn try_for_each_into<H: Threads + Wait + Sync>(
+        &mut self,
+        rt: &H,
+        alloc: Global,
+        n_jobs: usize,
+        items: Vec<J::In>,
+        report: &mut Report<J::Out>,
+    ) -> Result<(), Fault>
+        requires jobs { 0 < vec_len items → 0 < n_jobs }
+        ensures report { let jobs = job_count (vec_len items) n_jobs in
+            OnOk result (IsReport J.meets J.fails items.items jobs report.new) }
+        ensures skipped { let jobs = job_count (vec_len items) n_jobs in
+            2 ≤ jobs → OnOk result ((k : ℕ) → Contains report.new.skipped.items k
+            ↔ IsFoundLeft (view_of self.new) (hands_of self.old) jobs k) }
+        ensures given_up { OnErr result (IsOfNone report.new) }
+        ensures refused { let jobs = job_count (vec_len items) n_jobs in
+            IfErr result (IsTryRefusal (hands_of self.old) jobs (view_of self.new)) }
+        ensures empty { vec_len items ≡ 0 → IsOk result }
+        ensures played { let jobs = job_count (vec_len items) n_jobs in
+            OnOk result (2 ≤ jobs → TriedOnce jobs self.old self.new) }
+        ensures direct { job_count (vec_len items) n_jobs ≤ 1 → MadeNoStep self.old self.new }
+        ensures left { let jobs = job_count (vec_len items) n_jobs in
+            IfErr result (LeftByTryRefusal jobs self.old self.new) }
+        ensures between { IsBetweenRounds self.new }
+        ensures lock { threads_of self.new ≡ threads_of self.old }
+        ensures hands { hands_of self.new ≡ hands_of self.old }
+    {
+        let Report { ran, skipped } = mem::replace(report, Report::new(alloc));
         if items.is_empty() {
-            return Ok(Report {
-                ran: Vec::new(alloc),
-                skipped: Vec::new(alloc),
-            });
+            return Ok(());
         }
         let jobs = items.len().min(n_jobs.min(MOST_JOBS));
         let pieces = Pieces::new(SharedList::from_vec(alloc, items)?, jobs);
-        self.try_pieces(rt, alloc, &pieces)
+        *report = self.try_pieces(rt, alloc, &pieces, Spares::new(ran), skipped)?;
+        Ok(())
     }
 
     // The round of the pieces, which are tallied, and the report of the tally.
@@ -70,6 +105,8 @@ impl<'a, J: Opens<L>, G: Gate, L> Leader<'a, J, G, L> {
         rt: &H,
         alloc: Global,
         pieces: &Pieces<J::In>,
+        mut spares: Spares<J::Out>,
+        skipped: Vec<usize>,
     ) -> Result<Report<J::Out>, Fault>
         requires most { pieces.now.count ≤ 4294967295 }
         ensures report { IfOk result (IsReport J.meets J.fails pieces.now.items pieces.now.count) }
@@ -86,8 +123,8 @@ impl<'a, J: Opens<L>, G: Gate, L> Leader<'a, J, G, L> {
         ensures hands { hands_of self.new ≡ hands_of self.old }
     {
         let mut left = vec![in alloc; false; pieces.count()]?;
-        let mut tally = Tally::new::<J>(alloc, pieces)?;
-        self.try_jobs(rt, alloc, pieces, &mut left, &mut tally)?;
+        let mut tally = Tally::new::<J>(alloc, pieces, skipped)?;
+        self.try_jobs(rt, alloc, pieces, &mut spares, &mut left, &mut tally)?;
         tally.finish::<J>(pieces, left.as_slice())
     }
 
@@ -97,6 +134,7 @@ impl<'a, J: Opens<L>, G: Gate, L> Leader<'a, J, G, L> {
         rt: &H,
         alloc: Global,
         pieces: &Pieces<J::In>,
+        spares: &mut Spares<J::Out>,
         left: &mut Vec<bool>,
         tally: &mut Tally<J::Out>,
     ) -> Result<(), Fault>
@@ -120,9 +158,9 @@ impl<'a, J: Opens<L>, G: Gate, L> Leader<'a, J, G, L> {
         ensures hands { hands_of self.new ≡ hands_of self.old }
     {
         if pieces.count() > 1 && self.post.post.tables.crew.threads() > 1 {
-            return self.try_in_trays(rt, alloc, pieces, left, tally);
+            return self.try_in_trays(rt, alloc, pieces, spares, left, tally);
         }
-        self.try_in_rooms(rt, alloc, pieces, left, tally)
+        self.try_in_rooms(rt, alloc, pieces, spares, left, tally)
     }
 
     // A round with the helpers: hand out, publish, work, wait, mark what is left, and note what came back.
@@ -131,6 +169,7 @@ impl<'a, J: Opens<L>, G: Gate, L> Leader<'a, J, G, L> {
         rt: &H,
         alloc: Global,
         pieces: &Pieces<J::In>,
+        spares: &mut Spares<J::Out>,
         left: &mut Vec<bool>,
         tally: &mut Tally<J::Out>,
     ) -> Result<(), Fault>
@@ -148,7 +187,7 @@ impl<'a, J: Opens<L>, G: Gate, L> Leader<'a, J, G, L> {
         ensures hands { hands_of self.new ≡ hands_of self.old }
     {
         let trays = J::trays(self.workspace);
-        trays.hand_out(rt, alloc, pieces)?;
+        trays.hand_out(rt, alloc, pieces, spares)?;
         let task = task_of(pieces);
         self.post.play(rt, alloc, trays, &mut self.runner, task);
         self.post.mark_left(left);
@@ -162,6 +201,7 @@ impl<'a, J: Opens<L>, G: Gate, L> Leader<'a, J, G, L> {
         rt: &H,
         alloc: Global,
         pieces: &Pieces<J::In>,
+        spares: &mut Spares<J::Out>,
         left: &mut Vec<bool>,
         tally: &mut Tally<J::Out>,
     ) -> Result<(), Fault>
@@ -183,7 +223,7 @@ impl<'a, J: Opens<L>, G: Gate, L> Leader<'a, J, G, L> {
         ensures lock { threads_of self.new ≡ threads_of self.old }
         ensures hands { hands_of self.new ≡ hands_of self.old }
     {
-        let mut rooms = make_rooms::<J>(alloc, pieces)?;
+        let mut rooms = make_rooms::<J>(alloc, pieces, spares)?;
         if pieces.count() == 1 {
             self.runner
                 .tally_rooms(rt, alloc, pieces, rooms, left.as_slice(), tally);

@@ -7,7 +7,7 @@ ghost use Rattle.std.specs.Prelude.{◌<◌, OnErr, IsErrOf};
 use crate::job::Job;
 use crate::job::nest::Nest;
 use crate::job::sealed::HasWorkspace;
-use crate::lock::nested::Child;
+use crate::lock::nested::{Child, Nested};
 use crate::pieces::trays::Trays;
 use spindle_parts::fault::Fault;
 use std::alloc::Global;
@@ -34,7 +34,7 @@ pub trait Opens<L>: Job + HasWorkspace<L> {
     fn trays(workspace: &L) -> &Trays<Self>;
 
     /// The workspace of a lock that a job opened.
-    fn inner(child: &Child<Self>) -> &L;
+    fn inner(child: &Child<Nested<Self>>) -> &L;
 }
 
 impl<J: Job> HasWorkspace<Workspace<J>> for J {}
@@ -54,7 +54,7 @@ impl<J: Job> Opens<Workspace<J>> for J {
         &workspace.trays
     }
 
-    fn inner(child: &Child<J>) -> &Workspace<J> {
+    fn inner(child: &Child<Nested<J>>) -> &Workspace<J> {
         child.workspace()
     }
 }

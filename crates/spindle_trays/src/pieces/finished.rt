@@ -4,6 +4,7 @@ ghost use Rattle.std.specs.List.{AllZip, Any};
 ghost use Rattle.spindle_trays.specs.Rounds.{AddsAnswers};
 
 use crate::job::Job;
+use crate::pieces::ready::Ready;
 use crate::work::tally::has_failure;
 use spindle_lists::run::ListRun;
 use spindle_lists::shared::are_equal;
@@ -60,6 +61,21 @@ impl<J: Job> Finished<J> {
         ensures outputs { result.outputs ≡ [] }
     {
         let outputs = Vec::new(alloc);
+        Finished {
+            number,
+            inputs: None,
+            outputs,
+        }
+    }
+
+    /// What is left of a piece that was run elsewhere: no inputs and no outputs, but the room for them.
+    pub(crate) fn run_elsewhere(piece: Ready<J>) -> Finished<J>
+        ensures number { result.number ≡ piece.number }
+        ensures inputs { result.inputs ≡ [] }
+        ensures outputs { result.outputs ≡ [] }
+    {
+        let number = piece.number();
+        let (_, outputs) = piece.into_parts();
         Finished {
             number,
             inputs: None,

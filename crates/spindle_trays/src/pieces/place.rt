@@ -8,6 +8,7 @@ ghost use Rattle.spindle_trays.specs.Trays.{Awaits};
 use crate::job::Job;
 use crate::pieces::finished::Finished;
 use crate::pieces::ready::Ready;
+use crate::pieces::spares::Spares;
 use spindle_lists::run::ListRun;
 use std::alloc::{AllocError, Global};
 use std::marker::Model;
@@ -46,23 +47,24 @@ impl<J: Job> Place<J> {
         }
     }
 
-    /// Puts a piece here, with the room of what stood here.
+    /// Puts a piece here, with the room of what stood here, or else a spare one.
     pub(crate) fn refill(
         &mut self,
         alloc: Global,
         number: usize,
         inputs: ListRun<J::In>,
+        spares: &mut Spares<J::Out>,
     ) -> Result<(), AllocError>
         ensures { OnOk result (Awaits inputs number self.new) }
     {
-        let room = self.take_room(alloc);
+        let room = self.take_room(alloc, spares);
         self.number = number;
         self.ready = Some(Ready::new(number, inputs, room)?);
         Ok(())
     }
 
-    // The room of what stands here, or a new vector.
-    fn take_room(&mut self, alloc: Global) -> Vec<J::Out>
+    // The room of what stands here, or a spare one.
+    fn take_room(&mut self, alloc: Global, spares: &mut Spares<J::Out>) -> Vec<J::Out>
         ensures { (self.new.ready ≡ None) × (self.new.finished ≡ None) }
     {
         if let Some(finished) = self.finished.take() {
@@ -74,7 +76,7 @@ impl<J: Job> Place<J> {
                 let (_, room) = ready.into_parts();
                 room
             }
-            None => Vec::new(alloc),
+            None => spares.take(alloc),
         }
     }
 

@@ -8,6 +8,7 @@ ghost use Rattle.spindle_parts.specs.Pieces.{counted, dealt};
 ghost use Rattle.spindle_trays.specs.PieceRuns.{items_before};
 ghost use Rattle.spindle_trays.specs.Rounds.{AddsAnswers};
 ghost use Rattle.spindle_trays.specs.Outputs.{IsDoneOf};
+ghost use Rattle.spindle_trays.specs.Reports.{IsNoted};
 ghost use Rattle.spindle_trays.specs.Trays.{ready_at, finished_at, number_at, AwaitsHand, HoldsDone, IsFirstMissing};
 
 use crate::job::Job;
@@ -16,6 +17,8 @@ use crate::pieces::finished::Finished;
 use crate::pieces::place::Place;
 use crate::pieces::ready::Ready;
 use crate::pieces::runs::Pieces;
+use crate::pieces::spares::Spares;
+use crate::work::tally::Tally;
 use std::alloc::{AllocError, Global};
 use std::mem;
 
@@ -46,7 +49,12 @@ impl<J: Job> Tray<J> {
     }
 
     /// Puts what the thread number is dealt of the pieces into its places. After a refusal there are none.
-    pub(crate) fn refill(&mut self, alloc: Global, pieces: &Pieces<J::In>) -> Result<(), AllocError>
+    pub(crate) fn refill(
+        &mut self,
+        alloc: Global,
+        pieces: &Pieces<J::In>,
+        spares: &mut Spares<J::Out>,
+    ) -> Result<(), AllocError>
         ensures waits { OnOk result (AwaitsHand pieces.now.items pieces.now.count
             self.old.threads self.old.thread self.new.places.items) }
     {
@@ -58,7 +66,7 @@ impl<J: Job> Tray<J> {
         grow(&mut places, length)?;
         for place in 0..length {
             let number = Address { thread, place }.number(count, self.threads);
-            places[place].refill(alloc, number, pieces.run(number)?)?;
+            places[place].refill(alloc, number, pieces.run(number)?, spares)?;
         }
         self.pieces = count;
         self.places = places;
@@ -105,14 +113,9 @@ impl<J: Job> Tray<J> {
         place.put(finished)
     }
 
-    /// Takes the outputs of what was brought back to a place, if it is the piece of a number with these items. Nothing stands
-    /// there then.
-    pub(crate) fn take_outputs(
-        &mut self,
-        at: usize,
-        number: usize,
-        items: &[J::In],
-    ) -> Option<Vec<J::Out>>
+    // Takes the outputs of what was brought back to a place, if it is the piece of a number with these items. Nothing stands
+    // there then.
+    fn take_outputs(&mut self, at: usize, number: usize, items: &[J::In]) -> Option<Vec<J::Out>>
         ensures answers { IfSome result (λ outputs. AllZip J.meets items.now outputs.items) }
         ensures held { IsSome result
             ↔ IsDoneOf number items.now (finished_at self.old.places.items at) }
@@ -157,6 +160,43 @@ impl<J: Job> Tray<J> {
             }
         }
         Ok(())
+    }
+
+    /// Lets go of so many pieces, whose places begin at `from` and which were run elsewhere. The room for their outputs stays.
+    pub(crate) fn let_go(&mut self, from: usize, count: usize)
+        requires places { from + count < 2 ^ 64 }
+    {
+        for at in from..from + count {
+            if let Some(piece) = self.take(at) {
+                drop(self.put(at, Finished::run_elsewhere(piece)));
+            }
+        }
+    }
+
+    /// Notes what came of so many pieces, of which some are marked as left and whose places begin at `from`. These places are
+    /// empty then.
+    pub(crate) fn tally(
+        &mut self,
+        from: usize,
+        pieces: &Pieces<J::In>,
+        left: &[bool],
+        number: usize,
+        count: usize,
+        tally: &mut Tally<J::Out>,
+    )
+        requires numbers { number + count ≤ pieces.now.count }
+        requires places { from + count < 2 ^ 64 }
+        requires marks { length left.now ≡ pieces.now.count }
+        requires noted { IsNoted J.meets J.fails
+            pieces.now.items pieces.now.count left.now number tally.old }
+        ensures noted { IsNoted J.meets J.fails
+            pieces.now.items pieces.now.count left.now (number + count) tally.new }
+    {
+        for at in 0..count {
+            let items = pieces.piece(number + at);
+            let outputs = self.take_outputs(from + at, number + at, items);
+            tally.note::<J>(pieces, left, number + at, outputs);
+        }
     }
 
     // Moves the outputs at a place to the end of the list, if the piece of a number with these items is there, run.

@@ -2,7 +2,7 @@
 //! they were dealt never wait for one another.
 ghost use Rattle.std.specs.Prelude.{◌≡◌, ◌<◌, ◌≤◌, [], IfOk, IfErr, IfSome, OnOk, OnErr, IsErrOf, length, vec_len, vec_capacity};
 ghost use Rattle.std.specs.List.{AllZip};
-ghost use Rattle.spindle_trays.specs.PieceRuns.{piece_at};
+ghost use Rattle.spindle_trays.specs.PieceRuns.{items_before};
 ghost use Rattle.spindle_trays.specs.Reports.{IsNoted};
 
 use crate::job::Job;
@@ -10,6 +10,7 @@ use crate::pieces::address::Address;
 use crate::pieces::finished::Finished;
 use crate::pieces::ready::Ready;
 use crate::pieces::runs::Pieces;
+use crate::pieces::spares::Spares;
 use crate::pieces::tray::Tray;
 use crate::work::tally::Tally;
 use crossbeam_utils::CachePadded;
@@ -40,7 +41,7 @@ impl<J: Job> Trays<J> {
     }
 
     /// Puts the pieces into the trays of those that they are dealt to. All that the pieces' runs need is made
-    /// here, and what earlier rounds made is used again.
+    /// here, and what earlier rounds made is used again, as the spare lists are.
     ///
     /// After a refusal the trays hold no piece.
     pub fn hand_out<H: Wait>(
@@ -48,10 +49,11 @@ impl<J: Job> Trays<J> {
         rt: &H,
         alloc: Global,
         pieces: &Pieces<J::In>,
+        spares: &mut Spares<J::Out>,
     ) -> Result<(), Fault>
         ensures { OnErr result (IsErrOf result Fault.Memory) }
     {
-        let handed_out = self.refill(rt, alloc, pieces);
+        let handed_out = self.refill(rt, alloc, pieces, spares);
         if handed_out.is_err() {
             self.empty(rt);
         }
@@ -59,11 +61,17 @@ impl<J: Job> Trays<J> {
     }
 
     // Fills one tray after the other, up to the first that is refused memory.
-    fn refill<H: Wait>(&self, rt: &H, alloc: Global, pieces: &Pieces<J::In>) -> Result<(), Fault>
+    fn refill<H: Wait>(
+        &self,
+        rt: &H,
+        alloc: Global,
+        pieces: &Pieces<J::In>,
+        spares: &mut Spares<J::Out>,
+    ) -> Result<(), Fault>
         ensures { OnErr result (IsErrOf result Fault.Memory) }
     {
         for tray in &self.trays {
-            tray.lock(rt).refill(alloc, pieces)?;
+            tray.lock(rt).refill(alloc, pieces, spares)?;
         }
         Ok(())
     }
@@ -148,7 +156,25 @@ impl<J: Job> Trays<J> {
         ensures answers { OnOk result (AllZip J.meets pieces.now.items outputs.new.items) }
         ensures lost { IfErr result (λ k. k < pieces.now.count) }
     {
-        let gathered = self.move_outputs(rt, pieces, outputs);
+        self.gather_rest(rt, pieces, 0, outputs)
+    }
+
+    /// The same of the pieces from a number on, where the outputs so far answer those before. Of these the trays hold nothing any more.
+    pub(crate) fn gather_rest<H: Wait>(
+        &self,
+        rt: &H,
+        pieces: &Pieces<J::In>,
+        first: usize,
+        outputs: &mut Vec<J::Out>,
+    ) -> Result<(), usize>
+        requires first { first ≤ pieces.now.count }
+        requires before { AllZip J.meets
+            (items_before pieces.now.items pieces.now.count first) outputs.old.items }
+        requires room { length pieces.now.items ≤ vec_capacity outputs.old }
+        ensures answers { OnOk result (AllZip J.meets pieces.now.items outputs.new.items) }
+        ensures lost { IfErr result (λ k. k < pieces.now.count) }
+    {
+        let gathered = self.move_outputs(rt, pieces, first, outputs);
         if gathered.is_err() {
             self.empty(rt);
         }
@@ -160,24 +186,36 @@ impl<J: Job> Trays<J> {
         &self,
         rt: &H,
         pieces: &Pieces<J::In>,
+        first: usize,
         outputs: &mut Vec<J::Out>,
     ) -> Result<(), usize>
-        requires empty { outputs.old.items ≡ [] }
+        requires first { first ≤ pieces.now.count }
+        requires before { AllZip J.meets
+            (items_before pieces.now.items pieces.now.count first) outputs.old.items }
         requires room { length pieces.now.items ≤ vec_capacity outputs.old }
         ensures answers { OnOk result (AllZip J.meets pieces.now.items outputs.new.items) }
         ensures lost { IfErr result (λ k. k < pieces.now.count) }
     {
         let threads = self.trays.len();
         let each = pieces.count() / threads;
+        let mut next = first;
         for thread in 0..threads {
-            self.trays[thread]
-                .lock(rt)
-                .gather(0, pieces, each * thread, each, outputs)?;
+            let done = (next - each * thread).min(each);
+            let mut tray = self.trays[thread].lock(rt);
+            tray.let_go(0, done);
+            if done < each {
+                tray.gather(done, pieces, next, each - done, outputs)?;
+                next = each * (thread + 1);
+            }
         }
         for thread in 0..pieces.count() % threads {
-            self.trays[thread]
-                .lock(rt)
-                .gather(each, pieces, each * threads + thread, 1, outputs)?;
+            let mut tray = self.trays[thread].lock(rt);
+            if each * threads + thread < next {
+                tray.let_go(each, 1);
+            } else {
+                tray.gather(each, pieces, next, 1, outputs)?;
+                next += 1;
+            }
         }
         Ok(())
     }
@@ -199,27 +237,19 @@ impl<J: Job> Trays<J> {
         ensures noted { IsNoted J.meets J.fails
             pieces.now.items pieces.now.count left.now pieces.now.count tally.new }
     {
-        for number in 0..pieces.count() {
-            let outputs = self.take_outputs(rt, pieces, number);
-            tally.note::<J>(pieces, left, number, outputs);
+        let threads = self.trays.len();
+        let each = pieces.count() / threads;
+        let rest = pieces.count() % threads;
+        for thread in 0..threads {
+            self.trays[thread]
+                .lock(rt)
+                .tally(0, pieces, left, each * thread, each, tally);
         }
-    }
-
-    // Takes the outputs of a piece, if it stands in its place, run.
-    fn take_outputs<H: Wait>(
-        &self,
-        rt: &H,
-        pieces: &Pieces<J::In>,
-        number: usize,
-    ) -> Option<Vec<J::Out>>
-        requires { number < pieces.now.count }
-        ensures { IfSome result (λ outputs.
-            AllZip J.meets (piece_at pieces.now.items pieces.now.count number) outputs.items) }
-    {
-        let address = Address::new(number, pieces.count(), self.trays.len());
-        self.trays[address.thread]
-            .lock(rt)
-            .take_outputs(address.place, number, pieces.piece(number))
+        for thread in 0..rest {
+            self.trays[thread]
+                .lock(rt)
+                .tally(each, pieces, left, each * threads + thread, 1, tally);
+        }
     }
 }
 

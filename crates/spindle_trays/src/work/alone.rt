@@ -2,11 +2,10 @@
 //!
 //! The pieces stay with the leader, and no tray is asked. With one thread the numbers come in order; a number out of
 //! order would be counted without a run, and its piece runs after the last claim.
-ghost use Rattle.std.specs.Prelude.{◌≡◌, ◌+◌, ◌<◌, ◌≤◌, length, vec_len, vec_capacity};
+ghost use Rattle.std.specs.Prelude.{◌≡◌, ◌+◌, ◌<◌, ◌≤◌, [], length, vec_capacity};
 ghost use Rattle.std.specs.List.{AllZip};
 ghost use Rattle.std.proofs.Common.{refl, ◌∙◌};
 ghost use Rattle.spindle_trays.specs.Alone.{HasAnswered};
-ghost use Rattle.spindle_trays.specs.Rounds.{items_of};
 ghost use Rattle.spindle_rounds.specs.Working.{PlayedRound};
 
 use crate::crew::leader_post::LeaderPost;
@@ -14,8 +13,8 @@ use crate::crew::phases::{end_round, publish};
 use crate::job::Job;
 use crate::job::gate::Gate;
 use crate::pieces::finished::Finished;
+use crate::pieces::runs::Pieces;
 use crate::work::runner::Runner;
-use spindle_parts::cut::Piece;
 use spindle_rounds::round::claim::Claimed;
 use spindle_rounds::round::party::{Party, Work};
 use spindle_rounds::round::task::Task;
@@ -28,12 +27,12 @@ use std::thread::Threads;
 
 /// What runs a round's pieces in their order, with the outputs of the first ones.
 #[derive(Drop)]
-struct LoneWork<'p, 'r, 'a, J: Job, G: Gate> {
-    pieces: &'p [Piece<J::In>],
-    runner: &'r mut Runner<'a, J, G>,
-    alloc: Global,
-    next: usize,
-    outputs: Vec<J::Out>,
+pub(crate) struct LoneWork<'p, 'r, 'a, J: Job, G: Gate> {
+    pub(crate) pieces: &'p Pieces<J::In>,
+    pub(crate) runner: &'r mut Runner<'a, J, G>,
+    pub(crate) alloc: Global,
+    pub(crate) next: usize,
+    pub(crate) outputs: Vec<J::Out>,
 }
 
 impl<'a> LeaderPost<'a, Bare> {
@@ -43,21 +42,21 @@ impl<'a> LeaderPost<'a, Bare> {
         rt: &H,
         alloc: Global,
         runner: &mut Runner<'a, J, G>,
-        pieces: &[Piece<J::In>],
+        pieces: &Pieces<J::In>,
         outputs: &mut Vec<J::Out>,
     )
-        requires counted { (2 ≤ length pieces.now) × (length pieces.now ≤ 4294967295) }
-        requires empty { vec_len outputs.old ≡ 0 }
-        requires room { length (items_of pieces.now) ≤ vec_capacity outputs.old }
-        ensures answered { AllZip J.meets (items_of pieces.now) outputs.new.items }
-        ensures played { PlayedRound (length pieces.now)
+        requires counted { (2 ≤ pieces.now.count) × (pieces.now.count ≤ 4294967295) }
+        requires empty { outputs.old.items ≡ [] }
+        requires room { length pieces.now.items ≤ vec_capacity outputs.old }
+        ensures answered { AllZip J.meets pieces.now.items outputs.new.items }
+        ensures played { PlayedRound pieces.now.count
             self.old.post.barrier.seat.me.0 self.new.post.barrier.seat.me.0 }
         ensures tables { self.new.post.tables ≡ self.old.post.tables }
     {
         let post = &mut self.post;
         let tables = post.tables;
         let task = Task {
-            jobs: pieces.len() as u64,
+            jobs: pieces.count() as u64,
             may_stop: false,
         };
         publish(rt, tables, &mut post.barrier, &mut runner.notices, task);
@@ -81,7 +80,7 @@ impl<'a> LeaderPost<'a, Bare> {
 }
 
 impl<'p, 'r, 'a, J: Job, G: Gate> Work<Bare> for LoneWork<'p, 'r, 'a, J, G> {
-    ghost holds = { λ w hands. HasAnswered J.meets w.pieces.now w.next w.outputs };
+    ghost holds = { λ w hands. HasAnswered J.meets w.pieces.now.items w.pieces.now.count w.next w.outputs };
 
     ghost keeps = { λ v w. w.pieces ≡ v.pieces };
 
@@ -94,7 +93,7 @@ impl<'p, 'r, 'a, J: Job, G: Gate> Work<Bare> for LoneWork<'p, 'r, 'a, J, G> {
         claimed: Claimed,
     ) {
         let number = claimed.number() as usize;
-        if number == self.next && number < self.pieces.len() {
+        if number == self.next && number < self.pieces.count() {
             self.run_next(rt);
         }
         let finished: Finished<J> = Finished::empty(self.alloc, number);
@@ -109,24 +108,27 @@ impl<'p, 'r, 'a, J: Job, G: Gate> Work<Bare> for LoneWork<'p, 'r, 'a, J, G> {
 impl<'p, 'r, 'a, J: Job, G: Gate> LoneWork<'p, 'r, 'a, J, G> {
     // The pieces that no claim gave in order.
     fn run_left<H: Threads + Wait + Sync>(&mut self, rt: &H)
-        requires { HasAnswered J.meets self.old.pieces.now self.old.next self.old.outputs }
-        ensures { AllZip J.meets (items_of self.old.pieces.now) self.new.outputs.items }
+        requires { HasAnswered J.meets
+            self.old.pieces.now.items self.old.pieces.now.count self.old.next self.old.outputs }
+        ensures { AllZip J.meets self.old.pieces.now.items self.new.outputs.items }
     {
-        for _ in self.next..self.pieces.len() {
+        for _ in self.next..self.pieces.count() {
             self.run_next(rt);
         }
     }
 
     // Runs the next piece.
-    fn run_next<H: Threads + Wait + Sync>(&mut self, rt: &H)
-        requires left { self.old.next < length self.old.pieces.now }
-        requires answered { HasAnswered J.meets self.old.pieces.now self.old.next self.old.outputs }
+    pub(crate) fn run_next<H: Threads + Wait + Sync>(&mut self, rt: &H)
+        requires left { self.old.next < self.old.pieces.now.count }
+        requires answered { HasAnswered J.meets
+            self.old.pieces.now.items self.old.pieces.now.count self.old.next self.old.outputs }
         ensures pieces { self.new.pieces ≡ self.old.pieces }
         ensures next { self.new.next ≡ self.old.next + 1 }
-        ensures answered { HasAnswered J.meets self.new.pieces.now self.new.next self.new.outputs }
+        ensures answered { HasAnswered J.meets
+            self.new.pieces.now.items self.new.pieces.now.count self.new.next self.new.outputs }
     {
-        let piece = &self.pieces[self.next];
-        let (number, items) = (piece.number, piece.items.as_slice());
+        let number = self.next;
+        let items = self.pieces.piece(number);
         self.runner
             .run(rt, self.alloc, number, Some(0), items, &mut self.outputs);
         self.next += 1;

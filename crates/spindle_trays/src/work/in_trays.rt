@@ -60,7 +60,7 @@ impl<'a> Post<'a, Bare> {
             held: None,
         };
         let work = party.work(rt, &mut self.barrier.seat, work);
-        work.bring_back(rt, task);
+        trays.bring_back(rt, task.jobs as usize, work.held);
     }
 }
 
@@ -94,7 +94,7 @@ impl<'a> LeaderPost<'a, Bare> {
             held: None,
         };
         let work = party.work(rt, &mut post.barrier.seat, work);
-        work.bring_back(rt, task);
+        trays.bring_back(rt, task.jobs as usize, work.held);
         end_round(rt, tables, &mut post.barrier);
     }
 }
@@ -113,7 +113,11 @@ impl<'t, 'r, 'a, J: Job, G: Gate> Work<Bare> for TrayWork<'t, 'r, 'a, J, G> {
         claimed: Claimed,
     ) {
         let number = claimed.number() as usize;
-        let finished = self.run_piece(rt, party.task.jobs as usize, number);
+        let pieces = party.task.jobs as usize;
+        let held = self.held.take();
+        let finished = self
+            .trays
+            .run_piece(rt, self.alloc, self.runner, pieces, held, number);
         let failed = party.task.may_stop && finished.has_failed();
         finish(party, seat, claimed, &finished, failed);
         self.held = Some(finished);
@@ -124,42 +128,36 @@ impl<'t, 'r, 'a, J: Job, G: Gate> Work<Bare> for TrayWork<'t, 'r, 'a, J, G> {
     ghost keeps_then = { λ u v w a b. tt };
 }
 
-impl<'t, 'r, 'a, J: Job, G: Gate> TrayWork<'t, 'r, 'a, J, G> {
-    // Runs the piece of a number. Where it isn't in its tray nothing runs.
-    fn run_piece<H: Threads + Wait + Sync>(
-        &mut self,
+impl<J: Job> Trays<J> {
+    /// Brings the piece back that was held, and runs the piece of a number. Where that isn't in its tray nothing runs.
+    pub(crate) fn run_piece<G: Gate, H: Threads + Wait + Sync>(
+        &self,
         rt: &H,
+        alloc: Global,
+        runner: &mut Runner<'_, J, G>,
         pieces: usize,
+        held: Option<Finished<J>>,
         number: usize,
     ) -> Finished<J>
         ensures { result.number ≡ number }
     {
-        let held = self.held.take();
-        if let Some(piece) = self.trays.exchange(rt, pieces, held, number) {
+        if let Some(piece) = self.exchange(rt, pieces, held, number) {
             let (inputs, mut outputs) = piece.into_parts();
-            let index = self.runner.site.index;
+            let index = runner.site.index;
             let items = inputs.as_slice();
-            self.runner
-                .run(rt, self.alloc, number, index, items, &mut outputs);
+            runner.run(rt, alloc, number, index, items, &mut outputs);
             Finished::new(number, inputs, outputs)
         } else {
-            Finished::empty(self.alloc, number)
+            Finished::empty(alloc, number)
         }
     }
 
-    // Brings the last piece back.
-    fn bring_back<H: Wait>(self, rt: &H, task: Task) {
-        let TrayWork {
-            trays,
-            runner: _,
-            alloc: _,
-            held,
-        } = self;
-        let pieces = task.jobs as usize;
+    /// Brings the last piece back, if one is held.
+    pub(crate) fn bring_back<H: Wait>(&self, rt: &H, pieces: usize, held: Option<Finished<J>>) {
         if let Some(finished) = held
             && finished.number() < pieces
         {
-            drop(trays.put(rt, pieces, finished));
+            drop(self.put(rt, pieces, finished));
         }
     }
 }

@@ -14,6 +14,7 @@ use crate::job::Job;
 use crate::job::gate::Gate;
 use crate::pieces::finished::Finished;
 use crate::pieces::runs::Pieces;
+use crate::pieces::spares::Spares;
 use crate::work::finishing::finish;
 use crate::work::runner::Runner;
 use crate::work::tally::{Tally, has_failure};
@@ -118,10 +119,11 @@ impl<'p, 'r, 'a, J: Job, G: Gate> RoomWork<'p, 'r, 'a, J, G> {
     }
 }
 
-/// A room for each of the pieces.
+/// A room for each of the pieces, a spare list where there is one.
 pub(crate) fn make_rooms<J: Job>(
     alloc: Global,
     pieces: &Pieces<J::In>,
+    spares: &mut Spares<J::Out>,
 ) -> Result<Vec<Vec<J::Out>>, Fault>
     ensures fit { IfOk result (λ rooms. AreRooms J.meets
         pieces.now.items pieces.now.count 0 rooms.items) }
@@ -129,7 +131,9 @@ pub(crate) fn make_rooms<J: Job>(
 {
     let mut rooms = Vec::with_capacity(alloc, pieces.count())?;
     for number in 0..pieces.count() {
-        let room = Vec::with_capacity(alloc, pieces.piece(number).len())?;
+        let mut room = spares.take(alloc);
+        room.clear();
+        room.reserve(pieces.piece(number).len())?;
         rooms.push_reserved(room);
     }
     Ok(rooms)

@@ -21,10 +21,11 @@ pub struct Tally<T> {
 }
 
 impl<T> Tally<T> {
-    /// A tally of no piece, with room for all of them.
+    /// A tally of no piece, with room for all of them. The list becomes that of the skipped pieces; what stands there goes.
     pub(crate) fn new<J: Job<Out = T>>(
         alloc: Global,
         pieces: &Pieces<J::In>,
+        mut skipped: Vec<usize>,
     ) -> Result<Tally<T>, Fault>
         ensures fresh { IfOk result (λ tally. (left : List Bool) → IsNoted J.meets J.fails
             pieces.now.items pieces.now.count left 0 tally) }
@@ -32,7 +33,8 @@ impl<T> Tally<T> {
         ensures memory { OnErr result (IsErrOf result Fault.Memory) }
     {
         let ran = Vec::with_capacity(alloc, pieces.count())?;
-        let skipped = Vec::with_capacity(alloc, pieces.count())?;
+        skipped.clear();
+        skipped.reserve(pieces.count())?;
         Ok(Tally {
             ran,
             skipped,

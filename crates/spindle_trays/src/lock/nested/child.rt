@@ -31,26 +31,28 @@ pub struct Nested<K: Job> {
     ghost seated: { All (IsBenchAt tables) benches.items },
 }
 
-/// A share of a nested lock.
+/// A share of a nested lock of type N, which is `Nested<K>` for a kind of job K.
+///
+/// Neither the struct nor its fact has a bound on N, so that locks may be nested to any depth that the checker covers.
 #[derive(Drop)]
-pub struct Child<K: Job> {
-    pub(crate) shared: Arc<Nested<K>>,
+pub struct Child<N> {
+    pub(crate) shared: Arc<N>,
 }
 
 /// Any child may stand in any slot: that it is a lock in order is kept by its type.
-impl<K: Job> Fits for Child<K> {
+impl<N> Fits for Child<N> {
     type Tag = ();
 
     ghost fits = { λ tag child. Unit {0} };
 }
 
-impl<K: Job> Child<K> {
+impl<K: Job> Child<Nested<K>> {
     /// A nested lock, with its leader's seats.
     pub(crate) fn open(
         alloc: Global,
         crew: Crew,
         limits: Limits,
-    ) -> Result<(Child<K>, Seats<Bare>), Fault>
+    ) -> Result<(Child<Nested<K>>, Seats<Bare>), Fault>
         ensures seats { IfOk result (λ t. AreSeatsAt (arc_value t.0.shared).tables t.1) }
         ensures crew { IfOk result (λ t. (arc_value t.0.shared).tables.crew ≡ crew) }
         ensures memory { OnErr result (IsErrOf result Fault.Memory) }
@@ -75,7 +77,7 @@ impl<K: Job> Child<K> {
     }
 
     /// Another share, unless there are too many.
-    pub(crate) fn again(&self) -> Option<Child<K>> {
+    pub(crate) fn again(&self) -> Option<Child<Nested<K>>> {
         match Arc::try_clone(&self.shared) {
             Ok(shared) => Some(Child { shared }),
             Err(_) => None,

@@ -21,7 +21,7 @@ use crate::job::context::JobCx;
 use crate::job::gate::NoGate;
 use crate::job::nest::Under;
 use crate::lock::leader::Leader;
-use crate::lock::nested::child::Child;
+use crate::lock::nested::child::{Child, Nested};
 use crate::lock::workspace::Opens;
 use crate::work::runner::Runner;
 use crossbeam_utils::CachePadded;
@@ -81,8 +81,8 @@ impl<'a, K: Job> JobCx<'a, Under<K>> {
 
 // The first free slot, in which a share of the lock stands from now on.
 fn find_slot<K: Job>(
-    slots: &Vec<CachePadded<AtomicArc<Child<K>>>>,
-    child: &Child<K>,
+    slots: &Vec<CachePadded<AtomicArc<Child<Nested<K>>>>>,
+    child: &Child<Nested<K>>,
     places: usize,
 ) -> Option<usize>
     ensures { IfSome result (λ slot. (slot < vec_len slots.now) × (slot < places)) }
@@ -102,7 +102,7 @@ fn close<K: Opens<L>, L, H: Wait>(
     rt: &H,
     mut leader: Leader<'_, K, NoGate, L>,
     offered: Offered<'_>,
-    slot: &AtomicArc<Child<K>>,
+    slot: &AtomicArc<Child<Nested<K>>>,
 ) {
     leader.dismiss(rt);
     drop(offered.close());
@@ -113,7 +113,7 @@ fn close<K: Opens<L>, L, H: Wait>(
 // The leader of a lock that nobody leads yet.
 fn take_lead<'b, K: Opens<L>, L, H: Wait>(
     rt: &H,
-    child: &'b Child<K>,
+    child: &'b Child<Nested<K>>,
     gate: &'b NoGate,
     seats: Seats<Bare>,
 ) -> Leader<'b, K, NoGate, L>

@@ -1,9 +1,11 @@
 -- A publish, the leader's own work, and the round's end.
-use Rattle.std.proofs.Common.{false, length}
+use Rattle.std.proofs.Common.{ℕ, false, subst}
 use Rattle.spindle_rounds.proofs.Workers.{played_after}
+use Rattle.spindle_rounds.specs.Working.{PlayedRound}
 use Rattle.spindle_trays.proofs.work.alone.LeaderPost+Bare.play_alone.Goals as goal
 
 pub returns-clause-played : goal.returns-clause-played
-returns-clause-played g c = let w = c.work-work.ensures in
-    played_after (length c.args.pieces.now) false c.args.self.now.post.barrier.seat.me.0 c.publish.new.barrier.seat.me.0 c.work-work.new.seat.me
-    c.end_round.new.barrier.seat.me c.publish.ensures.published w.went.on w.idle c.end_round.ensures.next
+returns-clause-played g c = let w = c.work-work.ensures in let old = c.args.self.now.post.barrier.seat.me.0 in let new = c.end_round.new.barrier.seat.me in
+    subst (λ (n : ℕ). PlayedRound n old new.0) c.count.ensures.number
+    (played_after c.count.result false old c.publish.new.barrier.seat.me.0 c.work-work.new.seat.me new
+    c.publish.ensures.published w.went.on w.idle c.end_round.ensures.next)

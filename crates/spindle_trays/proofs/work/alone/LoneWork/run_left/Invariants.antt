@@ -7,5 +7,5 @@ abbrev pub invariant-loop : goal.invariant-loop
 invariant-loop g l = record {
   next : l.self.next ≡ l.counter;
   pieces : l.self.pieces ≡ l.fn.self.pieces;
-  answered : HasAnswered g.J.Job.meets l.self.pieces.now l.self.next l.self.outputs;
+  answered : HasAnswered g.J.Job.meets l.self.pieces.now.items l.self.pieces.now.count l.self.next l.self.outputs;
 }

@@ -3,7 +3,7 @@ use Rattle.std.proofs.Common.{rules, ◌∷◌, []}
 use Rattle.std.proofs.lemmas.List.Elements.{All-append}
 use Rattle.spindle_trays.specs.Nested.{IsBenchAt}
 use Rattle.spindle_trays.proofs.Benches.{all_of_one}
-use Rattle.spindle_trays.proofs.lock.nested.child.Child.open.Goals as goal
+use Rattle.spindle_trays.proofs.lock.nested.child.Child+Nested+K.open.Goals as goal
 
 pub loop-preserved : goal.loop-preserved
 loop-preserved g c = let t = c.in_ok-tables.tables in let i = c.loop.invariant in let b = c.new-in-loop.result in record {

@@ -2,7 +2,7 @@
 use Rattle.std.proofs.Common.{◌≡◌, ◌+◌, ◌≤◌, vec_len, vec_capacity, All}
 use Rattle.spindle_trays.specs.Nested.{IsBenchAt}
 use Rattle.spindle_trays.specs.Opening.{AreSeatsAt}
-use Rattle.spindle_trays.proofs.lock.nested.child.Child.open.Given as goal
+use Rattle.spindle_trays.proofs.lock.nested.child.Child+Nested+K.open.Given as goal
 
 abbrev pub invariant-loop : goal.invariant-loop
 invariant-loop g l = record {
