@@ -22,6 +22,7 @@ pub use self::one_round::run_one;
 pub use self::piece_post::{PiecePost, PlaysPieces};
 pub use self::place_post::{PlacePost, PlaysInPlace};
 pub use self::place_root::with_slots_in_place;
+pub use self::place_rounds::PlaceLeader;
 pub use self::slot_leader::SlotLeader;
 pub use self::slot_root::with_slots;
 pub use self::slot_workspace::{MakesSlots, OpensSlots, SlotWorkspace};

@@ -3,7 +3,8 @@ ghost use Rattle.std.specs.Prelude.{◌≡◌, ◌<◌, ◌≤◌, IfOk, OnOk, O
 ghost use Rattle.std.specs.List.{AllZip};
 ghost use Rattle.spindle.specs.SlotLeaders.{threads_of, slot_jobs, IsAsBefore, IsBetweenRounds, PlayedOnce};
 
-use crate::lock::place_post::PlaysInPlace;
+use crate::job::remake::InPlace;
+use crate::lock::place_post::{PlacePost, PlaysInPlace};
 use crate::lock::slot_leader::SlotLeader;
 use crate::lock::slot_workspace::OpensSlots;
 use spindle_parts::fault::Fault;
@@ -11,6 +12,9 @@ use spindle_trays::job::gate::Gate;
 use std::alloc::Global;
 use std::sync::Wait;
 use std::thread::Threads;
+
+/// The leader of a lock whose rounds remake items of the kind M in place, lent to the closure that the lock was opened for.
+pub type PlaceLeader<'a, M, G> = SlotLeader<'a, InPlace<M>, G, PlacePost<InPlace<M>>>;
 
 impl<'a, J: PlaysInPlace<P>, G: Gate, P> SlotLeader<'a, J, G, P> {
     /// Remakes the items in `n_jobs` jobs, or in as many as there are items or slots where these are fewer. What becomes of an item

@@ -2,7 +2,7 @@
 //!
 //! The items stand in reverse, so that they are taken from the end in their order, and what becomes of each goes to the end of the
 //! other list. Both lists keep their room from round to round.
-ghost use Rattle.std.specs.Prelude.{◌≡◌, ◌-◌, ◌+◌, ◌≤◌, ◌++◌, [], take, drop, reverse, OnOk, OnErr, IsErrOf, length, vec_len, vec_capacity};
+ghost use Rattle.std.specs.Prelude.{◌≡◌, ◌-◌, ◌+◌, ◌≤◌, ◌++◌, [], take, drop, reverse, true, OnOk, OnErr, IsErrOf, length, vec_len, vec_capacity};
 
 use spindle_parts::fault::Fault;
 use std::alloc::Global;
@@ -77,6 +77,13 @@ impl<T> Room<T> {
         self.todo.reserve(items)?;
         self.done.reserve(items)?;
         Ok(())
+    }
+
+    /// Whether it is room for so many items.
+    pub(crate) fn has(&self, items: usize) -> bool
+        ensures { result ≡ true → items ≤ self.now }
+    {
+        items <= self.todo.capacity() && items <= self.done.capacity()
     }
 
     /// Moves the items from a place on out of the list.

@@ -10,7 +10,7 @@ use crate::job::remake::Remakes;
 use crate::pieces::of_kind::ChunkOf;
 use crate::pieces::store::Store;
 use spindle_rounds::round_table::Seat;
-use spindle_rounds::round_table::pieces::{Pieces, Stand};
+use spindle_rounds::round_table::pieces::Pieces;
 
 impl<'t, J: Remakes> SlotTables<'t, Pieces<ChunkOf<J>>> {
     /// Puts the items, in so many chunks, into the slots of their numbers. The list keeps its room.
@@ -35,7 +35,7 @@ impl<'t, J: Remakes> SlotTables<'t, Pieces<ChunkOf<J>>> {
         store.load(items, jobs);
         for slot in 0..jobs {
             let chunk = store.chunks.take_last();
-            drop(self.tables.round.swap_slot(seat, slot, Stand::Waits(chunk)));
+            self.tables.round.put_piece(seat, slot, chunk);
         }
     }
 }

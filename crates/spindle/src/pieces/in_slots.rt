@@ -14,7 +14,7 @@ use crate::pieces::of_kind::PieceOf;
 use crate::pieces::rooms::Rooms;
 use spindle_parts::fault::Fault;
 use spindle_rounds::round_table::Seat;
-use spindle_rounds::round_table::pieces::{Pieces, Stand};
+use spindle_rounds::round_table::pieces::Pieces;
 use spindle_trays::job::Job;
 use spindle_trays::pieces::ready::Ready;
 use spindle_trays::pieces::runs;
@@ -60,7 +60,7 @@ impl<'t, J: Job> SlotTables<'t, Pieces<PieceOf<J>>> {
                 round.empty_slots(seat, self.slots);
                 return Err(Fault::Memory);
             };
-            drop(round.swap_slot(seat, slot, Stand::Waits(piece)));
+            round.put_piece(seat, slot, piece);
         }
         Ok(())
     }

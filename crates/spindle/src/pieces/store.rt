@@ -1,7 +1,7 @@
 //! The room of a leader that plays rounds in place, kept from round to round: a round of a size that was played before takes no
 //! memory.
-ghost use Rattle.std.specs.Prelude.{◌≡◌, ◌<◌, ◌≤◌, ◌+◌, ◌/◌, [], OnOk, OnErr, IsErrOf, length, vec_len, vec_capacity};
-ghost use Rattle.spindle.specs.InPlace.{IsReady, last_pieces};
+ghost use Rattle.std.specs.Prelude.{◌≡◌, ◌<◌, ◌≤◌, ◌+◌, ◌/◌, [], true, OnOk, OnErr, IsErrOf, length, vec_len, vec_capacity};
+ghost use Rattle.spindle.specs.InPlace.{HaveRoom, IsReady, last_pieces};
 ghost use Rattle.spindle_trays.specs.PieceRuns.{piece_start};
 
 use crate::pieces::chunk::{Chunk, Room};
@@ -26,7 +26,8 @@ impl<T: Drop> Store<T> {
         }
     }
 
-    /// Makes room ready for so many items in so many chunks.
+    /// Makes room ready for so many items in so many chunks. Where the last round had as many chunks and its room is enough, each
+    /// chunk has the room that the one of its number had.
     pub(crate) fn prepare(&mut self, alloc: Global, len: usize, jobs: usize) -> Result<(), Fault>
         requires jobs { 1 ≤ jobs }
         requires len { len < 9223372036854775808 }
@@ -37,7 +38,10 @@ impl<T: Drop> Store<T> {
         let most = len / jobs + 1;
         self.chunks.clear();
         self.chunks.reserve(jobs)?;
-        self.ready.clear();
+        if self.ready.len() == jobs && are_enough(self.ready.as_slice(), most) {
+            return Ok(());
+        }
+        self.put_aside();
         self.ready.reserve(jobs)?;
         for _ in 0..jobs {
             let mut room = self.take(alloc);
@@ -45,6 +49,17 @@ impl<T: Drop> Store<T> {
             self.ready.push_reserved(room);
         }
         Ok(())
+    }
+
+    // Nothing is ready; all room waits. Where there is no memory to keep it in, it goes.
+    fn put_aside(&mut self)
+        ensures ready { self.new.ready.items ≡ [] }
+        ensures chunks { self.new.chunks ≡ self.old.chunks }
+    {
+        for _ in 0..self.ready.len() {
+            let room = self.ready.take_last();
+            self.keep(room);
+        }
     }
 
     /// Moves the items into chunks, the last piece first, so that the first one is at the end. The list keeps its room.
@@ -77,9 +92,30 @@ impl<T: Drop> Store<T> {
     }
 
     /// Keeps the room of a chunk that was run. Where there is no memory to keep it in, it goes.
-    pub(crate) fn keep(&mut self, room: Room<T>) {
+    pub(crate) fn keep(&mut self, room: Room<T>)
+        ensures ready { self.new.ready ≡ self.old.ready }
+        ensures chunks { self.new.chunks ≡ self.old.chunks }
+    {
         let _ = self.spare.push(room);
     }
+
+    /// Keeps the room of the next chunk of a round, ready for the chunk of that number in the next round. Where there is no memory
+    /// to keep it in, it goes.
+    pub(crate) fn keep_ready(&mut self, room: Room<T>) {
+        let _ = self.ready.push(room);
+    }
+}
+
+// Whether each is room for so many items.
+fn are_enough<T>(rooms: &[Room<T>], items: usize) -> bool
+    ensures { result ≡ true → HaveRoom items rooms.now }
+{
+    for room in rooms {
+        if !room.has(items) {
+            return false;
+        }
+    }
+    true
 }
 
 // Where the piece of a number begins, of so many that a list of this length is cut into.

@@ -99,7 +99,7 @@ impl<'t, J: Remakes> SlotTables<'t, Pieces<ChunkOf<J>>> {
         self.play_held(rt, barrier, jobs as u64, work);
         for slot in 0..jobs {
             let remade = round.take_answer(&mut barrier.seat, slot);
-            store.keep(remade.unload(items));
+            store.keep_ready(remade.unload(items));
         }
         round.turn_slots(&mut barrier.seat, jobs, self.slots);
     }
@@ -121,7 +121,7 @@ impl<'r, 'a, J: Remakes, G: Gate> Work<Pieces<ChunkOf<J>>> for PlaceWork<'r, 'a,
         let index = self.runner.site.index;
         let number = claimed.number() as usize;
         let remade = remake_chunk(rt, self.alloc, self.runner, number, index, chunk);
-        party.round.finish(seat, claimed, remade);
+        party.round.finish_taken(seat, claimed, remade);
     }
 
     ghost keeps_same = { λ work. refl };

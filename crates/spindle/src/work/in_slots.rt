@@ -161,7 +161,7 @@ impl<'r, 'a, J: Job, G: Gate> Work<Pieces<PieceOf<J>>> for SlotWork<'r, 'a, J, G
     ) {
         let piece = party.round.take_piece(seat, &claimed);
         let finished = self.run_piece(rt, piece);
-        party.round.finish(seat, claimed, finished);
+        party.round.finish_taken(seat, claimed, finished);
     }
 
     ghost keeps_same = { λ work. refl };

@@ -1,3 +1,4 @@
+-- What was collected is what the closure answers at each number.
 use Rattle.std.proofs.Common.{ap, sym, ◌∙◌, rules, of_calls}
 use Rattle.std.proofs.lemmas.Slice.Zip.{AllZip-long}
 use Rattle.rayon.proofs.ListFacts.{AllZip-weaken}

@@ -8,6 +8,7 @@ pub returns-clause-answer : goal.returns-clause-answer
 returns-clause-answer g c =
     let C = g.C.Combine in
     let laws = g.met.C.Combine g.world.𝓛 g.world.𝓜 g.world.𝓡 ((λ s x. x), (λ x. x), (λ x. x), λ x. x) in
+    let totals = c.in_ok-totals in
     c.combined.ensures
-    ∙ total_of_chunks C.combine C.neutral C.of laws.associative laws.is_neutral c.in_ok-chunks.chunks.items c.in_ok-totals.totals.items c.in_ok-totals.ensures.answer
+    ∙ total_of_chunks C.combine C.neutral C.of laws.associative laws.is_neutral c.in_ok-chunks.chunks.items totals.totals.items totals.ensures.answer
     ∙ ap (total_of C.combine C.neutral C.of) c.in_ok-chunks.ensures.joined

@@ -1,5 +1,6 @@
 -- Each turn puts the next chunk into the slot at the hand.
 use Rattle.std.proofs.Common.{◌≡◌, ◌+◌, ◌-◌, ℕ, suc, length, refl, ap, ◌∙◌, sym, subst, arith}
+use Rattle.spindle_rounds.specs.RoundPieces.{IsAtHand}
 use Rattle.spindle_rounds.specs.SlotHands.{WaitsAs}
 use Rattle.spindle_rounds.specs.SlotLoops.{IsEmpty, Turning}
 use Rattle.spindle_rounds.proofs.SlotLoops.{turning_first, turning_head, turning_next}
@@ -20,14 +21,14 @@ pub take_last-chunk-requires : goal.take_last-chunk-requires
 take_last-chunk-requires g c = let i = c.loop-slot.invariant in let few = c.requires.few in let old = c.args.items.now.items in let n : ℕ = c.args.jobs in
     let many = last_many old n (n - c.loop-slot.slot) in omega (arith, ap length i.chunks, many, c.loop-slot.store.chunks.ok.0)
 
-pub swap_slot-requires-clause-head : goal.swap_slot-requires-clause-head
-swap_slot-requires-clause-head g c = let few = c.requires.few in
+pub put_piece-requires-clause-head : goal.put_piece-requires-clause-head
+put_piece-requires-clause-head g c = let few = c.requires.few in
     let h = turning_head IsEmpty (WaitsAs (IsChunkOf c.args.items.now.items c.args.jobs)) c.args.self.now.slots c.loop-slot.slot _ c.loop-slot.invariant.hand
-    (omega arith) in (h.0, h.1)
+    (omega arith) in subst (λ y. IsAtHand c.loop-slot.slot y c.loop-slot.seat.me.1) h.2 h.1
 
 pub loop-slot-preserved : goal.loop-slot-preserved
 unfolding last_pieces
-loop-slot-preserved g c = let i = c.loop-slot.invariant in let e = c.swap_slot.ensures in let few = c.requires.few in let old = c.args.items.now.items in
+loop-slot-preserved g c = let i = c.loop-slot.invariant in let e = c.put_piece.ensures in let few = c.requires.few in let old = c.args.items.now.items in
     let n : ℕ = c.args.jobs in let k : ℕ = c.loop-slot.slot in let left : n - k ≡ suc (n - (k + 1)) = omega arith in
     let same = snoc_last c.take_last-chunk.new.self.items (last_pieces old n (n - (k + 1))) c.take_last-chunk.result (piece_at old n (n - suc (n - (k + 1))))
     (sym c.take_last-chunk.ensures.items ∙ (i.chunks ∙ ap (last_pieces old n) left)) in

@@ -1,5 +1,6 @@
 -- Each turn puts a piece into the slot at the hand; where one is refused, all slots are emptied.
 use Rattle.std.proofs.Common.{◌+◌, refl, ap, ◌∙◌, sym, subst, arith}
+use Rattle.spindle_rounds.specs.RoundPieces.{IsAtHand}
 use Rattle.spindle_rounds.specs.SlotHands.{WaitsAs}
 use Rattle.spindle_rounds.specs.SlotLoops.{IsAny, IsEmpty, HoldsEach, Turning}
 use Rattle.spindle_rounds.proofs.SlotHands.{settled}
@@ -11,13 +12,13 @@ pub loop-slot-init : goal.loop-slot-init
 loop-slot-init g c = let p = c.args.pieces.now in
     record { seat = (refl, refl); view = refl; hand = turning_first IsEmpty (WaitsAs (IsPieceOf p.items p.count)) c.args.self.now.slots _ c.requires.held }
 
-pub swap_slot-requires-clause-head : goal.swap_slot-requires-clause-head
-swap_slot-requires-clause-head g c = let few = c.requires.few in let p = c.args.pieces.now in
+pub put_piece-requires-clause-head : goal.put_piece-requires-clause-head
+put_piece-requires-clause-head g c = let few = c.requires.few in let p = c.args.pieces.now in
     let h = turning_head IsEmpty (WaitsAs (IsPieceOf p.items p.count)) c.args.self.now.slots c.loop-slot.slot _ c.loop-slot.invariant.hand (omega arith) in
-    (h.0, h.1)
+    subst (λ y. IsAtHand c.loop-slot.slot y c.loop-slot.seat.me.1) h.2 h.1
 
 pub loop-slot-preserved : goal.loop-slot-preserved
-loop-slot-preserved g c = let i = c.loop-slot.invariant in let e = c.swap_slot.ensures in let few = c.requires.few in let p = c.args.pieces.now in record {
+loop-slot-preserved g c = let i = c.loop-slot.invariant in let e = c.put_piece.ensures in let few = c.requires.few in let p = c.args.pieces.now in record {
   seat = (e.seat.0 ∙ i.seat.0, e.seat.1 ∙ i.seat.1);
   view = ap (λ m. m.0) e.behind ∙ i.view;
   hand = subst (λ m. Turning IsEmpty (WaitsAs (IsPieceOf p.items p.count)) c.args.self.now.slots (c.loop-slot.slot + 1) m.1) (sym e.behind)

@@ -21,11 +21,13 @@ loop-done-init g c = let few = c.requires.jobs in let old = c.args.items.now in 
     }
 
 pub load-requires-clause-room : goal.load-requires-clause-room
-load-requires-clause-room g c = let i = c.loop-done.invariant in let n : ℕ = c.args.jobs in let k : ℕ = c.loop-done.done in let len : ℕ = vec_len c.args.items.now in
-    let m : ℕ = n - 1 - k in let next : n - k ≡ m + 1 = omega arith in let long : c.len-len.result ≡ len = omega arith in
+load-requires-clause-room g c = let i = c.loop-done.invariant in let n : ℕ = c.args.jobs in let k : ℕ = c.loop-done.done in
+    let len : ℕ = vec_len c.args.items.now in let m : ℕ = n - 1 - k in let next : n - k ≡ m + 1 = omega arith in
+    let long : c.len-len.result ≡ len = omega arith in
     let less = room_less (len / n + 1) c.take_last-room.new.self.items c.take_last-room.result
     (subst (HaveRoom (len / n + 1)) c.take_last-room.ensures.items i.rooms) in
-    omega (arith, less.1, i.len ∙ ap (λ (j : ℕ). piece_start len n j) next, c.start-from.ensures.start ∙ ap (λ (l : ℕ). piece_start l n m) long, piece_short len n m)
+    let from = c.start-from.ensures.start ∙ ap (λ (l : ℕ). piece_start l n m) long in
+    omega (arith, less.1, i.len ∙ ap (λ (j : ℕ). piece_start len n j) next, from, piece_short len n m)
 
 pub loop-done-preserved : goal.loop-done-preserved
 unfolding last_pieces

@@ -1,5 +1,5 @@
 -- One room more is ready.
-use Rattle.std.proofs.Common.{◌/◌, ◌+◌, rules, sym, subst, ◌∙◌}
+use Rattle.std.proofs.Common.{◌/◌, ◌+◌, rules, sym, subst, ap, ◌∙◌}
 use Rattle.spindle.specs.InPlace.{HaveRoom}
 use Rattle.spindle.proofs.InPlace.{room_more}
 use Rattle.spindle.proofs.pieces.store.Store.prepare.Goals as goal
@@ -7,10 +7,10 @@ use Rattle.spindle.proofs.pieces.store.Store.prepare.Goals as goal
 pub loop-init : goal.loop-init
 unfolding HaveRoom
 loop-init g c = record {
-  rooms = subst (HaveRoom (c.args.len / c.args.jobs + 1)) (sym (c.reserve-2.ensures.items ∙ c.clear-2.ensures.items)) (tt {0});
+  rooms = subst (HaveRoom (c.args.len / c.args.jobs + 1)) (sym (c.reserve-2.ensures.items ∙ c.put_aside.ensures.ready)) (tt {0});
   many = search rules;
   room = search rules;
-  none = c.reserve.ensures.items ∙ c.clear.ensures.items;
+  none = ap (λ chunks. chunks.items) c.put_aside.ensures.chunks ∙ (c.reserve.ensures.items ∙ c.clear.ensures.items);
   places = search rules;
 }
 

@@ -26,8 +26,8 @@ play_held-requires-clause-leads g c κs within = let f = c.fill_in_place.ensures
 
 pub play_held-requires-clause-pieces : goal.play_held-requires-clause-pieces
 play_held-requires-clause-pieces g c κs within =
-    turning_less IsEmpty IsEmpty (WaitsAs (IsChunkOf c.args.items.now.items c.args.jobs)) IsPiece c.args.self.now.slots c.args.jobs c.fill_in_place.new.seat.me.1
-    c.fill_in_place.ensures.put (λ k y e. e) (λ k y w. (w.0, w.1))
+    turning_less IsEmpty IsEmpty (WaitsAs (IsChunkOf c.args.items.now.items c.args.jobs)) IsPiece c.args.self.now.slots c.args.jobs
+    c.fill_in_place.new.seat.me.1 c.fill_in_place.ensures.put (λ k y e. e) (λ k y w. (w.0, w.1))
 
 pub loop-slot-init : goal.loop-slot-init
 loop-slot-init g c = let old = c.args.items.now.items in let n : ℕ = c.args.jobs in let s : ℕ = c.args.self.now.slots in let R = g.J.Remakes.remade in
@@ -51,8 +51,9 @@ pub unload-requires : goal.unload-requires
 unload-requires g c = let few = c.requires.counted in let k : ℕ = c.loop-slot.slot in let old = c.args.items.now.items in let n : ℕ = c.args.jobs in
     let R = g.J.Remakes.remade in let i = c.loop-slot.invariant in
     let h = turning_head (AnsweredAs (IsChunkOf old n) (AllZip R) n) IsEmpty c.args.self.now.slots k _ i.hand (omega arith) in
-    let z = found_chunk R old n k c.loop-slot.barrier.seat.me.1 h.0 c.take_answer-remade.result h.1 (h.2.done (omega arith)) c.take_answer-remade.ensures.found in
-    let long = AllZip-long R (piece_at old n k) c.take_answer-remade.result z in let fits = next_fits R old n k c.loop-slot.items.items (omega arith) i.before in
+    let b = c.loop-slot.barrier in let r = c.take_answer-remade.result in
+    let z = found_chunk R old n k b.seat.me.1 h.0 r h.1 (h.2.done (omega arith)) c.take_answer-remade.ensures.found in
+    let long = AllZip-long R (piece_at old n k) r z in let fits = next_fits R old n k c.loop-slot.items.items (omega arith) i.before in
     record { room = omega (arith, fits, long, i.room) }
 
 pub loop-slot-preserved : goal.loop-slot-preserved
