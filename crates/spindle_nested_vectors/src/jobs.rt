@@ -13,14 +13,14 @@ use std::sync::Wait;
 use std::thread;
 use std::thread::Threads;
 
-/// A thread waits for the others for at most so many turns.
-const MOST_TURNS: usize = 200000000;
+/// A thread waits for the others for at most so many turns: more than other programs keep a processor away from them.
+const MOST_TURNS: usize = 3000000000;
 
 /// After so many of them it gives its core to the others.
 const TURNS_BEFORE_A_YIELD: usize = 1000;
 
 /// How often a job tries to have both threads at its rounds.
-const MOST_ROUNDS: usize = 100;
+const MOST_ROUNDS: usize = 10000;
 
 /// How long one of these rounds goes on, in turns.
 const ROUND_TURNS: usize = 100000;

@@ -2,9 +2,13 @@
 #![tactic(auto)]
 
 #[cfg(test)]
+mod alone;
+#[cfg(test)]
 mod checks;
 #[cfg(test)]
 mod jobs;
+#[cfg(test)]
+mod levels;
 #[cfg(test)]
 mod refusals;
 #[cfg(test)]

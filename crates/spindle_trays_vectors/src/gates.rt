@@ -8,8 +8,11 @@ use std::hint::spin_loop;
 use std::sync::atomic::{AtomicUsize, Ordering};
 use std::thread;
 
-/// A thread waits for the others for at most so many turns.
-const MOST_TURNS: usize = 10000000;
+/// A thread waits for others that come for at most so many turns: more than other programs keep a processor away from them.
+const MOST_TURNS: usize = 3000000000;
+
+/// A thread waits for others that don't come for so many turns.
+const TURNS_IN_VAIN: usize = 1000000;
 
 /// After so many of them it gives its core to the others.
 const TURNS_BEFORE_A_YIELD: usize = 1000;
@@ -32,7 +35,20 @@ impl Meetings {
 
     /// The gate at which so many jobs of a round meet.
     pub fn of_jobs(&self, jobs: usize) -> Meeting {
-        Meeting { jobs, counts: self }
+        Meeting {
+            jobs,
+            turns: MOST_TURNS,
+            counts: self,
+        }
+    }
+
+    /// The gate at which so many jobs of a round wait for each other in vain.
+    pub fn missed_by(&self, jobs: usize) -> Meeting {
+        Meeting {
+            jobs,
+            turns: TURNS_IN_VAIN,
+            counts: self,
+        }
     }
 
     /// A pool of so many threads, at whose gate as many jobs of a round meet.
@@ -55,6 +71,7 @@ impl Meetings {
 #[derive(Drop)]
 pub struct Meeting<'a> {
     jobs: usize,
+    turns: usize,
     counts: &'a Meetings,
 }
 
@@ -63,7 +80,8 @@ impl<'a> Gate for Meeting<'a> {
         let jobs = self.jobs.max(1);
         let before = self.counts.begun.fetch_add(1, Ordering::SeqCst);
         let all = (before / jobs).wrapping_add(1).wrapping_mul(jobs);
-        await_count(&self.counts.begun, all, &self.counts.missed);
+        let counts = self.counts;
+        await_for(self.turns, &counts.begun, all, &counts.missed);
     }
 
     fn done(&self, _number: usize) {}
@@ -71,9 +89,17 @@ impl<'a> Gate for Meeting<'a> {
 
 /// Waits until a count has come so far; where it doesn't, one more has missed the others.
 pub fn await_count(count: &AtomicUsize, wanted: usize, missed: &AtomicUsize) {
-    for turn in 0..MOST_TURNS {
+    await_for(MOST_TURNS, count, wanted, missed);
+}
+
+// The same for so many turns. Where one has missed the others, no other waits for them.
+fn await_for(turns: usize, count: &AtomicUsize, wanted: usize, missed: &AtomicUsize) {
+    for turn in 0..turns {
         if count.load(Ordering::SeqCst) >= wanted {
             return;
+        }
+        if missed.load(Ordering::SeqCst) > 0 {
+            break;
         }
         if turn % TURNS_BEFORE_A_YIELD == 0 {
             thread::yield_now();

@@ -141,6 +141,7 @@ fn sum(counts: &[AtomicUsize]) -> usize {
 /// A gate that counts its calls.
 #[derive(Drop)]
 pub struct Counting<'a> {
+    /// Where it counts them.
     pub calls: &'a Calls,
 }
 

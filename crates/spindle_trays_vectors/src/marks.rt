@@ -72,6 +72,7 @@ fn zeros() -> [AtomicUsize; 4] {
 /// `done` before its `begun`, and a second one of either.
 #[derive(Drop)]
 pub struct Watching<'a> {
+    /// Where it notes them.
     pub marks: &'a Marks,
 }
 

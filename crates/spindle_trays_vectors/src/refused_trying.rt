@@ -15,6 +15,7 @@ use spindle_trays::crew::limits::Limits;
 use spindle_trays::job::gate::NoGate;
 use spindle_trays::lock::leader::Leader;
 use spindle_trays::lock::pool::Pool;
+use spindle_trays::lock::report::Report;
 use spindle_trays::lock::root::with_lock;
 use std::alloc::Global;
 use std::process::Abort;
@@ -30,8 +31,8 @@ fn seven_items(alloc: Global, every: u32) -> Result<Vec<(u32, bool)>, Fault> {
     }
 }
 
-// Tries seven items in so many jobs; where that is refused no job was run, and the same call again reports. Each piece
-// passes the gate once if it ran, and one fails exactly where an item does.
+// Tries seven items in so many jobs; where that is refused no job was run and the report is empty, and the same call again
+// reports. Each piece passes the gate once if it ran, and one fails exactly where an item does.
 fn try_seven_items<H: Threads + Wait + Abort + Sync>(
     rt: &H,
     alloc: Global,
@@ -39,20 +40,21 @@ fn try_seven_items<H: Threads + Wait + Abort + Sync>(
     leader: &mut Leader<Trying, Counting>,
     jobs: usize,
     every: u32,
+    report: &mut Report<(u32, bool)>,
 ) -> Result<(), Fault>
     requires { 0 < jobs }
 {
     let before = calls.in_all();
-    let report = match leader.try_for_each(rt, alloc, jobs, seven_items(alloc, every)?) {
-        Ok(report) => report,
-        Err(fault) => {
-            assert!(rt; matches!(fault, Fault::Memory));
-            is(rt, calls.in_all(), before);
-            leader.try_for_each(rt, alloc, jobs, seven_items(alloc, every)?)?
-        }
-    };
+    let items = seven_items(alloc, every)?;
+    if let Err(fault) = leader.try_for_each_into(rt, alloc, jobs, items, report) {
+        assert!(rt; matches!(fault, Fault::Memory));
+        assert!(rt; report.ran.is_empty() && report.skipped.is_empty());
+        is(rt, calls.in_all(), before);
+        let items = seven_items(alloc, every)?;
+        leader.try_for_each_into(rt, alloc, jobs, items, report)?;
+    }
     let ran = report.ran.len();
-    assert!(rt; is_report(&report, 7, jobs));
+    assert!(rt; is_report(report, 7, jobs));
     is(rt, report.first_failed::<Trying>().is_some(), every > 0);
     let after = (before.0.wrapping_add(ran), before.1.wrapping_add(ran));
     is(rt, calls.in_all(), after);
@@ -60,6 +62,7 @@ fn try_seven_items<H: Threads + Wait + Abort + Sync>(
 }
 
 // Three rounds in a lock of the pool with so many threads at most, whose jobs the pool's gate counts: in one job, and in more.
+// Their report is kept from one to the next.
 fn try_in_three_rounds<H: Threads + Wait + Abort + Sync>(
     rt: &H,
     alloc: Global,
@@ -73,8 +76,9 @@ fn try_in_three_rounds<H: Threads + Wait + Abort + Sync>(
     let opened = AtomicUsize::new(0);
     let answer = with_lock::<Trying, _, _, _, _, _>(rt, alloc, &pool, most, |leader| {
         opened.fetch_add(1, Ordering::SeqCst);
+        let mut report = Report::new(alloc);
         for jobs in [1, 3, 7] {
-            try_seven_items(rt, alloc, calls, leader, jobs, every)?;
+            try_seven_items(rt, alloc, calls, leader, jobs, every, &mut report)?;
         }
         Ok::<(), Fault>(())
     });

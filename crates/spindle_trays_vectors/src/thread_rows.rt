@@ -135,7 +135,7 @@ fn threads_that_cannot_be_started_change_no_answer(rt: HostRuntime) -> Result<()
 fn without_helpers_jobs_cannot_meet(rt: HostRuntime) -> Result<(), Fault> {
     let alloc = rt.alloc();
     let meetings = Meetings::new();
-    let pool = Pool::with_starts(2, Limits::new(), meetings.of_jobs(2), 0);
+    let pool = Pool::with_starts(2, Limits::new(), meetings.missed_by(2), 0);
     let squares = round_of::<Square, _, _>(&rt, alloc, &pool, 2, 2, vec![in alloc; 5, 6]?)?;
     are(&rt, &squares, &[25, 36]);
     is(&rt, meetings.counts(), (2, 1));

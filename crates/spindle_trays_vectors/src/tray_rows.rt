@@ -6,6 +6,7 @@ use crate::gathering_rows::squared;
 use crate::jobs::Square;
 use spindle_lists::SharedList;
 use spindle_trays::pieces::runs::Pieces;
+use spindle_trays::pieces::spares::Spares;
 use spindle_trays::pieces::trays::Trays;
 use std::alloc::Global;
 use std::process::Abort;
@@ -25,7 +26,7 @@ fn gathered<H: Wait + Abort>(
     is(rt, len, 5);
     let pieces = Pieces::new(items, 5);
     let trays = Trays::<Square>::new(alloc, 2)?;
-    trays.hand_out(rt, alloc, &pieces)?;
+    trays.hand_out(rt, alloc, &pieces, &mut Spares::none(alloc))?;
     for (number, item) in brought_back {
         if *number < 5 {
             assert!(rt; trays.take(rt, 5, *number).is_some());

@@ -250,6 +250,52 @@ fn a_report_names_the_first_piece_that_failed(rt: HostRuntime) -> Result<(), Fau
 }
 
 #[test]
+fn the_pieces_that_failed_are_told_in_order(rt: HostRuntime) -> Result<(), Fault> {
+    let alloc = rt.alloc();
+    let mut report = Report::new(alloc);
+    are(&rt, &report.failed::<Trying>(alloc)?, &[]);
+    for (number, fails) in [(1, true), (2, false), (4, true), (7, true), (9, false)] {
+        let outputs = Vec::from_array(alloc, [(0, false), (1, fails)])?;
+        report.ran.push((number, outputs))?;
+    }
+    are(&rt, &report.failed::<Trying>(alloc)?, &[1, 4, 7]);
+    Ok(())
+}
+
+#[test]
+fn a_report_that_is_kept_is_that_of_the_last_round(rt: HostRuntime) -> Result<(), Fault> {
+    let alloc = rt.alloc();
+    for threads in [1, 4] {
+        let pool = Pool::new(threads, Limits::new(), NoGate);
+        with_lock::<Trying, _, _, _, _, _>(&rt, alloc, &pool, 4, |leader| {
+            let mut report = Report::new(alloc);
+            for (count, every, jobs) in [
+                (30, 7, 30),
+                (9, 0, 4),
+                (50, 3, 40),
+                (1, 0, 1),
+                (20, 0, 20),
+            ] {
+                let pieces = jobs.min(count as usize);
+                leader.try_for_each_into(
+                    &rt,
+                    alloc,
+                    jobs,
+                    items(alloc, count, every)?,
+                    &mut report,
+                )?;
+                assert!(rt; is_report(&report, count as usize, pieces));
+                is(&rt, report.first_failed::<Trying>().is_some(), every > 0);
+            }
+            leader.try_for_each_into(&rt, alloc, 4, Vec::new(alloc), &mut report)?;
+            assert!(rt; report.ran.is_empty() && report.skipped.is_empty());
+            Ok::<(), Fault>(())
+        })??;
+    }
+    Ok(())
+}
+
+#[test]
 fn the_outputs_of_a_report_stand_in_order(rt: HostRuntime) -> Result<(), Fault> {
     let alloc = rt.alloc();
     let report = report_of(&rt, alloc, 4, 6, items(alloc, 100, 0)?)?;

@@ -1,4 +1,5 @@
-//! Callers to read first: each runs rounds in a lock, and says what comes out in its own words.
+//! Callers to read first: each runs rounds in a lock, and says what comes out in its own words. One of `try_for_each`, whose rounds
+//! may stop, stands in `crates/spindle_examples/src/checked.rt`.
 ghost use Rattle.std.specs.Prelude.{◌≡◌, ◌+◌, ◌*◌, ◌<◌, ◌≤◌, IfOk, OnOk, map, vec_len};
 ghost use Rattle.std.specs.List.{AllZip};
 ghost use Rattle.std.proofs.Common.{rules};

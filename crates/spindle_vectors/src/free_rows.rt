@@ -7,17 +7,24 @@ use spindle::lock::{Limits, NoGate, Pool};
 use spindle::{DEFAULT_PAUSE_LIMIT, DEFAULT_SPIN_LIMIT, Fault, for_each, for_each_raw};
 use std::hint::spin_loop;
 use std::sync::atomic::{AtomicUsize, Ordering};
+use std::thread;
 use std::thread::available_parallelism;
 
-/// A closure waits for another for at most so many turns.
-const MOST_TURNS: usize = 10000000;
+/// A closure waits for another that comes for at most so many turns: more than other programs keep a processor away from it.
+const MOST_TURNS: usize = 3000000000;
+
+/// After so many of them it gives its core to the other.
+const TURNS_BEFORE_A_YIELD: usize = 1000;
 
 // Begins, and tells whether so many have begun by the end of so many turns.
 fn meet(begun: &AtomicUsize, all: usize, turns: usize) -> bool {
     begun.fetch_add(1, Ordering::SeqCst);
-    for _ in 0..turns {
+    for turn in 0..turns {
         if begun.load(Ordering::SeqCst) >= all {
             return true;
+        }
+        if turn % TURNS_BEFORE_A_YIELD == 0 {
+            thread::yield_now();
         }
         spin_loop();
     }

@@ -7,7 +7,7 @@ ghost use Rattle.spindle.specs.SlotLeaders.{lock_slots};
 use crate::checks::{are, is};
 use crate::jobs::{Calls, Counting, Square};
 use crate::lists::{Length, are_three_numbers, seven_clones, three_numbers};
-use crate::sevens::{are_seven_squares, unopened_or};
+use crate::sevens::{are_seven_squares, seven_items, unopened_or};
 use spindle::lock::{Limits, NoGate, Pool, SlotLeader};
 use spindle::{Fault, with_slots};
 use std::alloc::Global;
@@ -68,6 +68,47 @@ fn refused_round_over_numbers_in_slots_has_run_no_job(rt: HostRuntime) -> Result
         },
     );
     unopened_or(&opened, answer)
+}
+
+#[test]
+fn refused_round_over_a_list_in_slots_has_run_no_job(rt: HostRuntime) -> Result<(), Fault> {
+    let alloc = rt.alloc();
+    let calls = Calls::new();
+    let opened = AtomicUsize::new(0);
+    let pool = Pool::new(4, Limits::new(), Counting { calls: &calls });
+    let answer = with_slots::<Square, _, _, _, _, _>(&rt, alloc, &pool, 4, 7, |leader| {
+        opened.fetch_add(1, Ordering::SeqCst);
+        for jobs in [1, 3, 7] {
+            square_seven_items(&rt, alloc, &calls, leader, jobs)?;
+        }
+        Ok::<(), Fault>(())
+    });
+    unopened_or(&opened, answer)
+}
+
+// Squares seven items in so many jobs; where that is refused, no job was run, and the same call again answers.
+fn square_seven_items<H: Threads + Wait + Abort + Sync>(
+    rt: &H,
+    alloc: Global,
+    calls: &Calls,
+    leader: &mut SlotLeader<Square, Counting>,
+    jobs: usize,
+) -> Result<(), Fault>
+    requires { 0 < jobs }
+{
+    let before = calls.in_all();
+    let squares = match leader.for_each(rt, alloc, jobs, seven_items(alloc)?) {
+        Ok(squares) => squares,
+        Err(fault) => {
+            assert!(rt; matches!(fault, Fault::Memory));
+            is(rt, calls.in_all(), before);
+            leader.for_each(rt, alloc, jobs, seven_items(alloc)?)?
+        }
+    };
+    assert!(rt; are_seven_squares(squares.as_slice()));
+    let after = (before.0.wrapping_add(jobs), before.1.wrapping_add(jobs));
+    is(rt, calls.in_all(), after);
+    Ok(())
 }
 
 // An empty round that took memory would be refused it once.

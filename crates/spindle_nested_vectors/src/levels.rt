@@ -1,0 +1,123 @@
+//! Rows of three kinds of jobs, each under the next: a lock's jobs run rounds whose jobs run rounds of their own, of numbers that
+//! are doubled.
+ghost use Rattle.std.specs.Prelude.{◌<◌};
+ghost use Rattle.std.proofs.Common.{rules};
+ghost use denote.Param.Send.{IsSync};
+
+use crate::checks::are;
+use crate::jobs::Double;
+use spindle_parts::fault::Fault;
+use spindle_trays::crew::limits::Limits;
+use spindle_trays::job::Job;
+use spindle_trays::job::context::JobCx;
+use spindle_trays::job::gate::NoGate;
+use spindle_trays::job::nest::{Nest, Under};
+use spindle_trays::lock::pool::Pool;
+use spindle_trays::lock::root::with_lock;
+use std::alloc::Global;
+use std::process::Abort;
+use std::sync::Wait;
+use std::thread::Threads;
+
+/// Doubles three numbers by a round, and answers their sum; none where it was refused.
+pub struct OneLevel;
+
+impl Job for OneLevel {
+    type In = u64;
+
+    type Out = Option<u128>;
+
+    type Inner = Under<Double>;
+
+    ghost meets = { λ _ _. Unit {0} };
+
+    fn run<H: Threads + Wait + Sync>(
+        rt: &H,
+        alloc: Global,
+        number: &u64,
+        cx: &mut JobCx<Under<Double>>,
+    ) -> Option<u128> {
+        let doubles = cx.for_each(rt, alloc, 3, below(alloc, *number)?).ok()?;
+        let mut sum = 0u128;
+        for double in &doubles {
+            sum = sum.wrapping_add(*double);
+        }
+        Some(sum)
+    }
+
+    ghost equal_is_same = { Prim.search rules };
+}
+
+/// Has three numbers answered by a round of `OneLevel`, and answers the sum.
+pub struct TwoLevels;
+
+impl Job for TwoLevels {
+    type In = u64;
+
+    type Out = Option<u128>;
+
+    type Inner = Under<OneLevel>;
+
+    ghost meets = { λ _ _. Unit {0} };
+
+    fn run<H: Threads + Wait + Sync>(
+        rt: &H,
+        alloc: Global,
+        number: &u64,
+        cx: &mut JobCx<Under<OneLevel>>,
+    ) -> Option<u128> {
+        sum_of(&cx.for_each(rt, alloc, 3, below(alloc, *number)?).ok()?)
+    }
+
+    ghost equal_is_same = { Prim.search rules };
+}
+
+// The three numbers below one in a tree where each number has three.
+fn below(alloc: Global, number: u64) -> Option<Vec<u64>> {
+    let first = number.wrapping_mul(3);
+    Vec::from_array(alloc, [first, first.wrapping_add(1), first.wrapping_add(2)]).ok()
+}
+
+// The sum of these, unless one was refused.
+fn sum_of(sums: &[Option<u128>]) -> Option<u128> {
+    let mut all = 0u128;
+    for sum in sums {
+        all = all.wrapping_add((*sum)?);
+    }
+    Some(all)
+}
+
+// So many rounds of three jobs in a lock of so many threads, each of whose jobs has nine doubled numbers below it.
+//
+// The kind of its jobs is a parameter: where a function of so many statements names it, the check of the types that three kinds
+// make of each other takes too many steps.
+fn sum_often<K: Job<In = u64, Out = Option<u128>> + Send, H: Threads + Wait + Abort + Sync>(
+    rt: &H,
+    alloc: Global,
+    threads: usize,
+    rounds: usize,
+) -> Result<(), Fault>
+where
+    K::Inner: Send,
+    <K::Inner as Nest>::Slots: Send + Sync,
+    requires { 0 < threads }
+{
+    let pool = Pool::new(threads, Limits::new(), NoGate);
+    with_lock::<K, _, _, _, _, _>(rt, alloc, &pool, threads, |leader| {
+        for _ in 0..rounds {
+            let sums = leader.for_each(rt, alloc, 3, Vec::from_array(alloc, [0, 1, 2])?)?;
+            are(rt, &sums, &[Some(72), Some(234), Some(396)]);
+        }
+        Ok::<(), Fault>(())
+    })?
+}
+
+#[test]
+fn three_kinds_of_jobs_by_two_threads(rt: HostRuntime) -> Result<(), Fault> {
+    sum_often::<TwoLevels, _>(&rt, rt.alloc(), 2, 20)
+}
+
+#[test]
+fn three_kinds_of_jobs_by_eight_threads(rt: HostRuntime) -> Result<(), Fault> {
+    sum_often::<TwoLevels, _>(&rt, rt.alloc(), 8, 20)
+}
