@@ -6,5 +6,4 @@ mod Products
 mod Passes
 mod Evaluations
 mod Reports
-pub mod Stencils
 mod Counts

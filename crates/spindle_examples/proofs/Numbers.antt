@@ -1,21 +1,8 @@
--- The numbers from one on, and a function of each.
+-- A function of each number from one on.
 use Rattle.std.proofs.Common.{◌≡◌, ℕ, zero, suc, ◌+◌, ◌<◌, ◌∷◌, [], ◌++◌, map, refl, ap, sym, ◌∙◌, arith, append_assoc}
 use Rattle.std.proofs.lemmas.List.{append-nil}
 use Rattle.spindle_parts.specs.Pieces.{counted}
 use Rattle.spindle_parts.proofs.Lists.{counted_suc}
-
--- so many numbers, and so many more behind them
-pub counted_add : (from n m : ℕ) → counted from (n + m) ≡ counted from n ++ counted (from + n) m
-counted_add from n zero = let e : n + 0 ≡ n = omega arith in ap (counted from) e ∙ sym (append-nil (counted from n))
-counted_add from n (suc m) =
-    let e : n + suc m ≡ suc (n + m) = omega arith in
-    let at : from + (n + m) ≡ from + n + m = omega arith in
-    ap (counted from) e
-    ∙ counted_suc from (n + m)
-    ∙ ap (λ l. l ++ (from + (n + m)) ∷ []) (counted_add from n m)
-    ∙ append_assoc (counted from n) (counted (from + n) m) ((from + (n + m)) ∷ [])
-    ∙ ap (λ k. counted from n ++ (counted (from + n) m ++ k ∷ [])) at
-    ∙ ap (λ l. counted from n ++ l) (sym (counted_suc (from + n) m))
 
 -- two functions that agree from two places on
 pub same_values : {A : Type 0} (f g : ℕ → A) (n from to : ℕ) → ((i : ℕ) → i < n → f (from + i) ≡ g (to + i)) → map f (counted from n) ≡ map g (counted to n)

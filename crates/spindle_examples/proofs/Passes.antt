@@ -1,14 +1,13 @@
 -- A pass strip by strip is a pass over all values.
-use Rattle.std.proofs.Common.{◌≡◌, ℕ, zero, suc, ◌+◌, ◌-◌, ◌*◌, ◌/◌, ◌<◌, List, [], ◌∷◌, ◌++◌, length, map, take, drop, get_or, refl, ap, sym, ◌∙◌, arith, append_assoc}
+use Rattle.std.proofs.Common.{◌≡◌, ℕ, zero, suc, ◌+◌, ◌-◌, ◌*◌, ◌/◌, List, [], ◌∷◌, ◌++◌, length, map, get_or, refl, ap, sym, ◌∙◌, arith}
 use Rattle.std.specs.List.{AllZip}
-use Rattle.std.proofs.Math.ListN.{set}
-use Rattle.std.proofs.lemmas.List.{get_or-drop, get_or_default, drop_more, take_more_set, drop-set-lt}
+use Rattle.std.proofs.lemmas.List.{get_or_default}
 use Rattle.spindle_parts.specs.Pieces.{joined, counted}
 use Rattle.spindle_parts.proofs.Lists.{joined_snoc, map_snoc}
 use Rattle.spindle_examples.proofs.Numbers.{same_values}
 use Rattle.spindle_examples.specs.Stencil.{before, smooth_at, smooth}
 use Rattle.spindle_examples.specs.Strips.{smooth_between, first_of, last_of, values_of, told, IsSmoothed}
-use Rattle.spindle_examples.specs.declared.strips.Strip.{Strip}
+use Rattle.spindle_examples.specs.declared.strip.Strip.{Strip}
 
 -- the first value of two lists
 first_append : (xs ys : List ℕ) (d : ℕ) → get_or (xs ++ ys) 0 d ≡ get_or xs 0 (get_or ys 0 d)
@@ -50,11 +49,9 @@ before_at values (suc at) = refl
 -- one pass over all values is one between two zeros
 pub smooth_is : (values : List ℕ) → smooth_between 0 values 0 ≡ smooth values
 smooth_is values =
-    let whole : length values ≡ length values - 0 = omega arith in
     by_place 0 values
     ∙ same_values (at_between 0 values) (smooth_at values) (length values) 0 0 (λ i lt.
     ap (λ n. (n + 2 * get_or values (0 + i) 0 + get_or values (0 + i + 1) 0) / 4) (before_at values (0 + i)))
-    ∙ ap (λ n. map (smooth_at values) (counted 0 n)) whole
 
 -- strips that know their neighbours, after one pass
 told_smooth : (b : ℕ) (strips : List Strip)
@@ -79,22 +76,6 @@ remade_values (o ∷ old) (n ∷ new) z =
 pub pass_of : (old new : List Strip) → AllZip IsSmoothed (told 0 old) new → values_of new ≡ smooth (values_of old)
 pass_of old new z = remade_values (told 0 old) new z ∙ told_smooth 0 old ∙ smooth_is (values_of old)
 
--- one value more
-pub between_more : (values : List ℕ) (b e at x : ℕ) → at < length values
-    → x ≡ (b + 2 * get_or values at 0 + get_or values (at + 1) e) / 4
-    → take at values ++ smooth_between b (drop at values) e
-    ≡ take (at + 1) (set values at x) ++ smooth_between (get_or values at 0) (drop (at + 1) (set values at x)) e
-between_more values b e at x lt is =
-    let here : ℕ = get_or values at 0 in
-    let next : at + 1 + 0 ≡ at + 1 = omega arith in
-    let later : List ℕ = smooth_between here (drop (at + 1) values) e in
-    ap (λ l. take at values ++ smooth_between b l e) (drop_more values at 0 lt)
-    ∙ ap (λ n. take at values ++ (b + 2 * here + n) / 4 ∷ later) (get_or-drop (at + 1) values 0 e ∙ ap (λ k. get_or values k e) next)
-    ∙ ap (λ n. take at values ++ n ∷ later) (sym is)
-    ∙ sym (append_assoc (take at values) (x ∷ []) later)
-    ∙ ap (λ l. l ++ later) (sym (take_more_set values at x lt))
-    ∙ ap (λ l. take (at + 1) (set values at x) ++ smooth_between here l e) (sym (drop-set-lt (at + 1) values at x (omega arith)))
-
 -- the last value, as a read
 pub last_is : (b : ℕ) (values : List ℕ) → get_or values (length values - 1) b ≡ last_of b values
 last_is b [] = refl
@@ -111,17 +92,3 @@ pub values_snoc : (strips : List Strip) (strip : Strip) → values_of (strips ++
 values_snoc strips strip =
     let values : Strip → List ℕ = λ strip. strip.values.items in
     ap joined (map_snoc values strips strip) ∙ joined_snoc (map values strips) (values strip)
-
--- one strip more is told
-pub told_more : (strips : List Strip) (b at : ℕ) (strip new : Strip) → at < length strips → strip ≡ get_or strips at strip
-    → new ≡ record { values = strip.values; before = b; behind = first_of (values_of (drop (at + 1) strips)) }
-    → take at strips ++ told b (drop at strips)
-    ≡ take (at + 1) (set strips at new) ++ told (last_of b strip.values.items) (drop (at + 1) (set strips at new))
-told_more strips b at strip new lt here is =
-    let rest : List Strip = drop (at + 1) strips in
-    let later : List Strip = told (last_of b strip.values.items) rest in
-    ap (λ l. take at strips ++ told b l) (drop_more strips at strip lt ∙ ap (λ s. s ∷ rest) (sym here))
-    ∙ ap (λ s. take at strips ++ s ∷ later) (sym is)
-    ∙ sym (append_assoc (take at strips) (new ∷ []) later)
-    ∙ ap (λ l. l ++ later) (sym (take_more_set strips at new lt))
-    ∙ ap (λ l. take (at + 1) (set strips at new) ++ told (last_of b strip.values.items) l) (sym (drop-set-lt (at + 1) strips at new (omega arith)))

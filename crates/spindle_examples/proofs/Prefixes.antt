@@ -58,7 +58,8 @@ pub continued_snoc : (start : ℕ) (runs : List (List ℕ)) (run : List ℕ) →
 continued_snoc start [] run = let none : start ≡ start + sum [] = omega arith in ap (λ k. (Some (wrapped k), run) ∷ []) none
 continued_snoc start (r ∷ runs) run =
     let more : start + sum r + sum (joined runs) ≡ start + sum (r ++ joined runs) = omega (arith, sum_by-append (λ k. k) r (joined runs)) in
-    ap (λ l. (Some (wrapped start), r) ∷ l) (continued_snoc (start + sum r) runs run ∙ ap (λ k. continued (start + sum r) runs ++ (Some (wrapped k), run) ∷ []) more)
+    ap (λ l. (Some (wrapped start), r) ∷ l)
+    (continued_snoc (start + sum r) runs run ∙ ap (λ k. continued (start + sum r) runs ++ (Some (wrapped k), run) ∷ []) more)
 
 -- what the second round answers are the sums of the whole table
 pub joined_sums : (start : ℕ) (runs : List (List ℕ)) → answers_to (continued start runs) ≡ running start (joined runs)

@@ -1,5 +1,6 @@
 -- What the report of a batch of orders tells of what they come to.
-use Rattle.std.proofs.Common.{◌≡◌, ◌∙◌, ◌^◌, ◌<◌, ◌≤◌, ℕ, zero, suc, List, [], ◌∷◌, Option, None, Some, unwrap_or, Vec, Global, map, length, length-append, slice_index_or, All, Any, ⊎_elim, refl, sym, ap, subst, arith}
+use Rattle.std.proofs.Common.{◌≡◌, ◌∙◌, ◌^◌, ◌<◌, ◌≤◌, ℕ, zero, suc, List, [], ◌∷◌, Option, None, Some, unwrap_or, Vec, Global, map, length, length-append}
+use Rattle.std.proofs.Common.{slice_index_or, All, Any, ⊎_elim, refl, sym, ap, subst, arith}
 use Rattle.std.specs.Option.{SomeIff}
 use Rattle.std.specs.List.{AllZip}
 use Rattle.std.proofs.lemmas.Bool.{cases_lt}

@@ -1,5 +1,5 @@
 -- A three-point stencil: each value becomes the mean of itself, twice, and of its two neighbours.
-use Rattle.std.specs.Prelude.{ℕ, zero, suc, ◌+◌, ◌-◌, ◌*◌, ◌/◌, List, length, map, get_or}
+use Rattle.std.specs.Prelude.{ℕ, zero, suc, ◌+◌, ◌*◌, ◌/◌, List, length, map, get_or}
 use Rattle.spindle_parts.specs.Pieces.{counted}
 
 -- the value before a place, 0 before the first
@@ -11,13 +11,9 @@ before values (suc at) = get_or values at 0
 abbrev pub smooth_at : List ℕ → ℕ → ℕ
 smooth_at values at = (before values at + 2 * get_or values at 0 + get_or values (at + 1) 0) / 4
 
--- what the values from one place up to another become
-abbrev pub smooth_part : List ℕ → (from to : ℕ) → List ℕ
-smooth_part values from to = map (smooth_at values) (counted from (to - from))
-
 -- one pass over all values
 abbrev pub smooth : List ℕ → List ℕ
-smooth values = smooth_part values 0 (length values)
+smooth values = map (smooth_at values) (counted 0 (length values))
 
 -- so many passes
 abbrev pub smooth_times : ℕ → List ℕ → List ℕ

@@ -2,7 +2,7 @@
 use Rattle.std.specs.Prelude.{◌≡◌, ℕ, ◌+◌, ◌*◌, ◌/◌, List, [], ◌∷◌, map, get_or}
 use Rattle.std.specs.declared.alloc.Global.{Global}
 use Rattle.spindle_parts.specs.Pieces.{joined}
-use Rattle.spindle_examples.specs.declared.strips.Strip.{Strip}
+use Rattle.spindle_examples.specs.declared.strip.Strip.{Strip}
 
 -- values that stand between two others, after one pass
 abbrev pub smooth_between : (before : ℕ) → List ℕ → (behind : ℕ) → List ℕ

@@ -10,8 +10,11 @@ use std::alloc::{AllocError, Global};
 /// How many squares each row has left.
 #[derive(Clone, Copy, PartialEq, Eq)]
 pub struct Board {
+    /// Of the first row.
     pub top: u8,
+    /// Of the second row.
     pub middle: u8,
+    /// Of the third row.
     pub bottom: u8,
 }
 

@@ -1,10 +1,10 @@
 //! Programs of the users' fields, each a few dozen lines over the public calls of `spindle`, with its contract in its own
-//! terms: a batch that loses nothing, one that a failure stops, prefix sums in two rounds, a matrix product in blocks that stand
-//! in place, a stencil of many passes, the same in place, keys looked up in a table that all jobs are lent, and a game evaluated
-//! by rounds in rounds.
+//! terms: a batch that loses nothing, one that a failure stops, prefix sums in two rounds, a matrix product in blocks that
+//! stand in place, a stencil of many passes, in place too, keys looked up in a table that all jobs are lent, and a game evaluated by rounds
+//! in rounds.
 //!
 //! The program runs each once over fixed numbers, and prints what comes out. The tests compute the same plainly. Where the
-//! variable TRACE is set, it also prints who ran which job of a recorded round when, which differs from run to run.
+//! variable TRACE is set, it also prints who ran which job of recorded rounds when, which differs from run to run.
 #![tactic(auto)]
 
 mod batch;
@@ -12,13 +12,15 @@ mod batch;
 mod batch_tests;
 mod checked;
 mod chomp;
+mod clocked;
 mod evaluator;
 mod prefix;
 mod product;
 mod ranks;
 mod stencil;
 mod stop;
-mod strips;
+mod strip;
+mod sums;
 #[cfg(test)]
 mod tests;
 mod trace;
@@ -48,9 +50,6 @@ fn main(rt: HostRuntime) -> Result<(), Stop> {
     let heat = vec![in alloc; 0u32, 0, 0, 0, 4096, 0, 0, 0, 0]?;
     let smooth = stencil::smoothed(&rt, alloc, &pool, 4, heat, 8)?;
     println!(rt; "stencil {smooth:?}")?;
-    let heat = vec![in alloc; 1024u32, 0, 0, 0, 0, 512, 0]?;
-    let smooth = strips::smoothed(&rt, alloc, &pool, 3, heat, 4)?;
-    println!(rt; "strips {smooth:?}")?;
     let limits = vec![in alloc; 50u32, 20, 90, 20]?;
     let keys = vec![in alloc; 21u32, 20, 90, 100]?;
     let ranks = ranks::ranks(&rt, alloc, &pool, 2, limits, keys)?;
@@ -63,10 +62,7 @@ fn main(rt: HostRuntime) -> Result<(), Stop> {
     let bites = evaluator::won_by(&rt, alloc, &pool, board)?;
     println!(rt; "evaluator {bites:?}")?;
     if env::var(&rt, "TRACE").is_ok() {
-        for (job, span) in trace::traced(&rt, alloc, 2)?.into_iter().enumerate() {
-            let thread = span.thread.unwrap_or(0);
-            println!(rt; "trace {job} {thread} {} {}", span.begun, span.done)?;
-        }
+        trace::print(&rt, alloc)?;
     }
     Ok(())
 }

@@ -7,7 +7,7 @@ ghost use Rattle.spindle_examples.specs.Product.{dot, row_of, product};
 ghost use Rattle.spindle_examples.specs.Blocks.{rows_and_columns, IsFilled};
 ghost use Rattle.spindle_examples.specs.Wrapping.{wrapped};
 
-use spindle::lock::{End, Gate, InPlace, JobCx, PlacePost, Pool, Remake, SlotLeader};
+use spindle::lock::{End, Gate, InPlace, JobCx, PlaceLeader, Pool, Remake};
 use spindle::{Fault, ListRun, SharedList, gathered, with_slots_in_place};
 use std::alloc::{AllocError, Global};
 use std::sync::Wait;
@@ -127,7 +127,7 @@ fn blocks_of(
 fn round<G: Gate, H: Threads + Wait + Sync>(
     rt: &H,
     alloc: Global,
-    leader: &mut SlotLeader<InPlace<Multiply>, G, PlacePost<InPlace<Multiply>>>,
+    leader: &mut PlaceLeader<Multiply, G>,
     mut blocks: Vec<Block>,
 ) -> Result<Vec<Block>, Fault>
     ensures { IfOk result (λ new. AllZip IsFilled blocks.items new.items) }

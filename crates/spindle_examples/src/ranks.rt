@@ -11,21 +11,12 @@ use std::sync::Wait;
 use std::thread::Threads;
 
 /// A key, and the table that it is looked up in.
-#[derive(Drop, PartialEq, Eq)]
+#[derive(Clone, Drop, PartialEq, Eq)]
 pub struct Lookup {
     /// The numbers, in ascending order.
     pub table: SharedList<u32>,
     /// The number whose place is asked for.
     pub key: u32,
-}
-
-impl Clone for Lookup {
-    fn clone(&self) -> Result<Lookup, AllocError> {
-        Ok(Lookup {
-            table: self.table.clone()?,
-            key: self.key,
-        })
-    }
 }
 
 /// Answers how many numbers of the table are below the key.

@@ -1,7 +1,7 @@
 //! The examples against the same computed plainly, over random inputs, with one thread and with several.
 
 use crate::chomp::Board;
-use crate::{evaluator, prefix, product, ranks, stencil, strips};
+use crate::{evaluator, prefix, product, ranks, stencil};
 use spindle::Fault;
 use spindle::lock::{Limits, NoGate, Pool};
 use std::alloc::Global;
@@ -53,25 +53,6 @@ fn plain_pass(alloc: Global, values: &[u32]) -> Result<Vec<u32>, Fault> {
 }
 
 #[test]
-fn a_stencil_in_chunks_is_one_over_all_values(rt: HostRuntime) -> Result<(), Fault> {
-    let alloc = rt.alloc();
-    let mut state = 2;
-    for count in [0, 1, 2, 3, 10, 257] {
-        let values = numbers(alloc, &mut state, count)?;
-        for (threads, size) in [(1, 1), (4, 2), (4, 64), (4, 1000)] {
-            let pool = Pool::new(threads, Limits::new(), NoGate);
-            let mut plain = values.clone()?;
-            for passes in 0..4 {
-                let smooth = stencil::smoothed(&rt, alloc, &pool, size, values.clone()?, passes)?;
-                assert_eq!(rt; smooth, plain.clone()?, "{count} values, chunks of {size}");
-                plain = plain_pass(alloc, plain.as_slice())?;
-            }
-        }
-    }
-    Ok(())
-}
-
-#[test]
 fn a_stencil_in_place_is_one_over_all_values(rt: HostRuntime) -> Result<(), Fault> {
     let alloc = rt.alloc();
     let mut state = 13;
@@ -81,7 +62,7 @@ fn a_stencil_in_place_is_one_over_all_values(rt: HostRuntime) -> Result<(), Faul
             let pool = Pool::new(threads, Limits::new(), NoGate);
             let mut plain = values.clone()?;
             for passes in 0..4 {
-                let smooth = strips::smoothed(&rt, alloc, &pool, size, values.clone()?, passes)?;
+                let smooth = stencil::smoothed(&rt, alloc, &pool, size, values.clone()?, passes)?;
                 assert_eq!(rt; smooth, plain.clone()?, "{count} values, strips of {size}");
                 plain = plain_pass(alloc, plain.as_slice())?;
             }

@@ -1,84 +1,33 @@
-//! Who ran which job when: a round of some jobs, whose gate notes when each began and was done. The jobs answer who ran them.
+//! Who ran which job when: of a round of one lock, and of the rounds in locks that two jobs open. The jobs note their begin and
+//! their end at a clock that all of them share, and answer both with the number of the thread that ran them.
 ghost use Rattle.std.specs.Prelude.{◌≡◌, ◌<◌, IfOk, vec_len};
 ghost use Rattle.std.proofs.Common.{rules};
+ghost use denote.Param.Send.{IsSync};
 
-use spindle::lock::{End, Gate, Job, JobCx, Limits, Pool};
-use spindle::{Fault, with_lock};
+use crate::clocked::{Clocked, Span};
+use crate::stop::Stop;
+use spindle::lock::{End, Job, JobCx, Limits, NoGate, Pool, Under};
+use spindle::{Fault, run_one, with_lock};
 use std::alloc::Global;
-use std::hint::spin_loop;
+use std::io::Print;
 use std::sync::Wait;
-use std::sync::atomic::{AtomicUsize, Ordering};
 use std::thread::Threads;
 
-/// The jobs of the round.
+/// The jobs of the one lock's round.
 const JOBS: usize = 8;
 
-/// Each job goes on for so many turns.
-const TURNS: usize = 200000;
+/// How many jobs open a lock, and how many jobs the round of each such lock has.
+const LOCKS: usize = 2;
 
-/// Counts the events of a round, and keeps which number each job's begin and end had.
-#[derive(Drop)]
-pub struct Clock {
-    events: AtomicUsize,
-    begun: [AtomicUsize; 8],
-    done: [AtomicUsize; 8],
-}
+const JOBS_OF_A_LOCK: usize = 6;
 
-impl Clock {
-    /// Nothing has happened.
-    pub fn new() -> Clock {
-        Clock {
-            events: AtomicUsize::new(0),
-            begun: zeros(),
-            done: zeros(),
-        }
-    }
-
-    // Notes the next event at the place of a job.
-    fn note(&self, places: &[AtomicUsize], number: usize) {
-        let event = self.events.fetch_add(1, Ordering::SeqCst);
-        if number < places.len() {
-            places[number].store(event, Ordering::SeqCst);
-        }
-    }
-}
-
-fn zeros() -> [AtomicUsize; 8] {
-    [
-        AtomicUsize::new(0),
-        AtomicUsize::new(0),
-        AtomicUsize::new(0),
-        AtomicUsize::new(0),
-        AtomicUsize::new(0),
-        AtomicUsize::new(0),
-        AtomicUsize::new(0),
-        AtomicUsize::new(0),
-    ]
-}
-
-/// A gate that notes each job's begin and end.
-#[derive(Drop)]
-pub struct Noting<'a> {
-    clock: &'a Clock,
-}
-
-impl<'a> Gate for Noting<'a> {
-    fn begun(&self, number: usize) {
-        self.clock.note(&self.clock.begun[..], number);
-    }
-
-    fn done(&self, number: usize) {
-        self.clock.note(&self.clock.done[..], number);
-    }
-}
-
-/// Takes some time, and answers the number of the thread that ran it.
+/// Goes on for its turns.
 pub struct Turns;
 
 impl Job for Turns {
-    type In = usize;
+    type In = Clocked;
 
-    type Out = Option<usize>;
+    type Out = Span;
 
     type Inner = End;
 
@@ -87,48 +36,83 @@ impl Job for Turns {
     fn run<H: Threads + Wait + Sync>(
         _rt: &H,
         _alloc: Global,
-        turns: &usize,
+        turns: &Clocked,
         cx: &mut JobCx<End>,
-    ) -> Option<usize> {
-        for _ in 0..*turns {
-            spin_loop();
-        }
-        cx.current_thread_index()
+    ) -> Span {
+        turns.run(cx.current_thread_index())
     }
 
     ghost equal_is_same = { Prim.search rules };
 }
 
-/// A job of the round: who ran it, and which of all events its begin and its end were.
-#[derive(Clone, Copy)]
-pub struct Span {
-    pub thread: Option<usize>,
-    pub begun: usize,
-    pub done: usize,
+/// Opens a lock for a round of jobs that go on for its turns each.
+pub struct OpensLock;
+
+impl Job for OpensLock {
+    type In = Clocked;
+
+    type Out = Result<Vec<Span>, Fault>;
+
+    type Inner = Under<Turns>;
+
+    ghost meets = { λ _ _. Unit {0} };
+
+    fn run<H: Threads + Wait + Sync>(
+        rt: &H,
+        alloc: Global,
+        turns: &Clocked,
+        cx: &mut JobCx<Under<Turns>>,
+    ) -> Result<Vec<Span>, Fault> {
+        let jobs = turns.copies(alloc, JOBS_OF_A_LOCK)?;
+        cx.for_each(rt, alloc, JOBS_OF_A_LOCK, jobs)
+    }
+
+    ghost equal_is_same = { Prim.search rules };
 }
 
-/// A round in a lock of so many threads, job by job.
-pub fn traced<H: Threads + Wait + Sync>(
-    rt: &H,
-    alloc: Global,
-    threads: usize,
-) -> Result<Vec<Span>, Fault>
-    requires { 0 < threads }
+// A round in a lock of two threads, job by job.
+fn round<H: Threads + Wait + Sync>(rt: &H, alloc: Global) -> Result<Vec<Span>, Fault>
     ensures { IfOk result (λ spans. vec_len spans ≡ 8) }
 {
-    let clock = Clock::new();
-    let pool = Pool::new(threads, Limits::new(), Noting { clock: &clock });
-    let turns = Vec::from_array(alloc, [TURNS; JOBS])?;
-    let ran = with_lock::<Turns, _, _, _, _, _>(rt, alloc, &pool, threads, |leader| {
-        leader.for_each(rt, alloc, JOBS, turns)
-    })??;
-    let mut spans = Vec::new(alloc);
-    for job in 0..JOBS {
-        spans.push(Span {
-            thread: ran.get(job).copied().flatten(),
-            begun: clock.begun[job].load(Ordering::SeqCst),
-            done: clock.done[job].load(Ordering::SeqCst),
-        })?;
-    }
+    let pool = Pool::new(2, Limits::new(), NoGate);
+    let jobs = Clocked::new(alloc)?.copies(alloc, JOBS)?;
+    let spans = run_one::<Turns>(rt, alloc, &pool, JOBS, jobs)?;
     Ok(spans)
+}
+
+// The round of each lock that a job opened, in a lock of four threads.
+fn nested<H: Threads + Wait + Sync>(
+    rt: &H,
+    alloc: Global,
+) -> Result<Vec<Result<Vec<Span>, Fault>>, Fault> {
+    let pool = Pool::new(4, Limits::new(), NoGate);
+    let locks = Clocked::new(alloc)?.copies(alloc, LOCKS)?;
+    with_lock::<OpensLock, _, _, _, _, _>(
+        rt,
+        alloc,
+        &pool,
+        4,
+        |leader|
+            requires sync { IsSync H.row }
+        { leader.for_each(rt, alloc, LOCKS, locks) },
+    )?
+}
+
+/// Prints a line for each job: its number, its thread, and the events of its begin and its end. A nested round has a line before.
+pub fn print<H: Threads + Wait + Sync + Print>(rt: &H, alloc: Global) -> Result<(), Stop> {
+    print_spans(rt, "trace", round(rt, alloc)?)?;
+    for spans in nested(rt, alloc)? {
+        println!(rt; "lock")?;
+        print_spans(rt, "nested", spans?)?;
+    }
+    Ok(())
+}
+
+// A line for each job of a round.
+fn print_spans<H: Print>(rt: &H, word: &str, spans: Vec<Span>) -> Result<(), Stop> {
+    for (job, span) in spans.into_iter().enumerate() {
+        let thread = span.thread.unwrap_or(0);
+        println!(rt; "{word} {job} {thread} {} {}", span.begun, span.done)?;
+    }
+    Ok(())
 }

@@ -54,7 +54,8 @@ returns c =
     let answers = c.args.answers.items in
     let given = c.into_iter-answer-iterator.ensures.into_iter_gives in
     let long : length c.loop-answer.yielded ≡ length answers =
-    (YieldsList-end (YieldsList-from_vec answers given.0 (search rules)) c.loop-answer.yielded c.loop-answer.answer-iterator c.loop-answer.yielded_by c.next.result c.next.new.self c.in-None.is c.next.ensures.steps).1 in
+    (YieldsList-end (YieldsList-from_vec answers given.0 (search rules)) c.loop-answer.yielded c.loop-answer.answer-iterator
+    c.loop-answer.yielded_by c.next.result c.next.new.self c.in-None.is c.next.ensures.steps).1 in
     let all : length answers ≡ squares_of board - 1 =
     AllZip-long IsEvaluation (replies_to board) answers c.requires ∙ length-map (bites_of board) (after board) ∙ length-counted 1 (squares_of board - 1) in
     c.loop-answer.invariant.bites ∙ ap (λ n. filter test (counted 1 n)) (long ∙ all)

@@ -1,10 +1,6 @@
 -- The runs so far.
-use Rattle.std.proofs.Common.{◌≡◌, ◌≤◌, None, map, take, length, vec_len, vec_capacity}
+use Rattle.std.proofs.Common.{◌≡◌, None, map, take}
 use Rattle.spindle_examples.proofs.prefix.unstarted.Given as goal
 
-abbrev pub invariant-loop-at : goal.invariant-loop-at
-invariant-loop-at l = record {
-  asked : l.asked.items ≡ map (λ run. (None, run)) (take l.at l.runs);
-  count : vec_len l.asked ≡ l.at;
-  room : length l.runs ≤ vec_capacity l.asked;
-}
+abbrev pub invariant-loop-run : goal.invariant-loop-run
+invariant-loop-run l = l.asked.items ≡ map (λ run. (None, run)) (take l.run-index l.runs)

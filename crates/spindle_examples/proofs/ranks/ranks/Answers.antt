@@ -21,4 +21,5 @@ returns g c =
     let all = ap (λ (numbers : List ℕ). map (rank numbers) keys) same
     ∙ (λ i. map (λ key. rank-permutation c.args.numbers.items sorted c.sort.ensures.permutation key i) keys) in
     IfOk-weaker _ (λ (ranks : Vec ℕ Global). AllZip IsRankOf c.in_ok-lookups.lookups.items ranks.items) _
-    (λ ranks answered. ranked table keys ranks.items up (subst (λ (lookups : List Lookup). AllZip IsRankOf lookups ranks.items) asked answered) ∙ all) (search rules)
+    (λ ranks answered. ranked table keys ranks.items up (subst (λ (lookups : List Lookup). AllZip IsRankOf lookups ranks.items) asked answered) ∙ all)
+    (search rules)

@@ -1,19 +1,21 @@
--- The chunks after one pass, one behind the other, are the list after one pass.
-use Rattle.std.proofs.Common.{ℕ, List, ◌∙◌, map, ap, subst, rules}
-use Rattle.std.specs.declared.alloc.AllocError.{AllocError}
-use Rattle.spindle_parts.specs.Pieces.{joined}
-use Rattle.spindle_lists.specs.Chunks.{ChunkView}
-use Rattle.spindle_lists.specs.Gathered.{IsGathered}
-use Rattle.spindle_lists.proofs.GatheredLists.{gathered_values}
-use Rattle.spindle_examples.specs.Stencil.{smooth_part, smooth}
-use Rattle.spindle_examples.proofs.Stencils.{smooth_joined}
+-- A round over strips that were told their neighbours is a pass.
+use Rattle.std.proofs.Common.{◌≡◌, List, ◌++◌, length, take, drop, ap, subst, ◌∙◌, arith}
+use Rattle.std.proofs.Math.Seq.{take-append_seam}
+use Rattle.std.specs.List.{AllZip}
+use Rattle.std.proofs.lemmas.Result.{on_ok_weaker}
+use Rattle.spindle_examples.specs.Strips.{told, IsSmoothed}
+use Rattle.spindle_examples.specs.declared.strip.Strip.{Strip}
+use Rattle.spindle_examples.proofs.Passes.{pass_of}
 use Rattle.spindle_examples.proofs.stencil.pass.Goals as goal
 
 pub returns : goal.returns
 returns g c =
-    let part : ChunkView ℕ → List ℕ = λ chunk. smooth_part chunk.run chunk.from chunk.to in
-    let all = subst (λ r. IsGathered c.in_ok-parts.parts.items r) c.in_ok-branch.was c.in_ok-gathered.ensures.answers in
-    gathered_values {E = AllocError} part c.in_ok-chunks.chunks.items c.in_ok-parts.parts.items c.in_ok-branch.field-0 c.in_ok-parts.ensures.answer all
-    ∙ ap (λ chunks. joined (map part chunks)) c.in_ok-chunks.ensures.chunks
-    ∙ smooth_joined c.in_ok-from_vec.field-0 c.args.size c.requires
-    ∙ ap smooth (search rules)
+    let strips : List Strip = c.args.strips.now.items in
+    let new : List Strip = c.remake_each.new.items.items in
+    let now : List Strip = c.tell.new.strips in
+    let long : c.args.strips.now.len ≡ length now = omega (arith, c.tell.auto.strips, c.as_mut_slice.ensures.len) in
+    let whole : take c.args.strips.now.len (now ++ drop (length now) strips) ≡ now =
+    ap (λ n. take n (now ++ drop (length now) strips)) long ∙ take-append_seam now (drop (length now) strips) in
+    let given : take c.args.strips.now.len (now ++ drop (length now) strips) ≡ told 0 strips =
+    whole ∙ c.tell.ensures ∙ ap (told 0) c.as_mut_slice.ensures.value in
+    on_ok_weaker c.remake_each.result (λ z. pass_of strips new (subst (λ l. AllZip IsSmoothed l new) given z)) c.remake_each.ensures.remade

@@ -11,9 +11,10 @@ loop-square-preserved c =
     let before : ℕ = c.loop-square.square - 1 in
     let here : 1 + before ≡ c.loop-square.square = omega arith in
     let next : c.loop-square.square + 1 - 1 ≡ before + 1 = omega arith in
+    let more = map_snoc (after board) (counted 1 before) c.loop-square.square in
     record {
       low = omega arith;
-      boards = rw (c.in_ok-push.ensures.items, next, counted_snoc 1 before, here, map_snoc (after board) (counted 1 before) c.loop-square.square, c.bitten.ensures)
+      boards = rw (c.in_ok-push.ensures.items, next, counted_snoc 1 before, here, more, c.bitten.ensures)
           (ap (λ l. l ++ after board c.loop-square.square ∷ []) c.loop-square.invariant.boards);
     }
 
