@@ -73,7 +73,7 @@ fn run_in_trays<H: Threads + Wait + Sync + Clock + Print + Alloc<A = Global>>(
     match shape {
         Shape::Empty => in_trays(rt, settings, shape, EmptyRounds::new(alloc, jobs)),
         Shape::Tiny8 => in_trays(rt, settings, shape, TinyRounds::new(alloc, jobs)),
-        Shape::Try8 => in_trays(rt, settings, shape, TryRounds::new(jobs)),
+        Shape::Try8 => in_trays(rt, settings, shape, TryRounds::new(alloc, jobs)),
         Shape::Nested => in_trays(rt, settings, shape, NestedRounds::new(alloc, jobs)?),
         Shape::Stencil4k => in_trays(rt, settings, shape, StencilRounds::new(alloc, 4096, jobs)?),
         Shape::Stencil256k => in_trays(

@@ -10,7 +10,7 @@
 //!   that is made as `for_each_raw` makes it.
 //! - `tiny8`: the same for eight numbers a thread; a job is about 50 ns of dependent arithmetic. In place an item is a number with
 //!   what comes out of it, which a job writes down there.
-//! - `try8`: `tiny8` by `try_for_each`: the same list of numbers, no job fails, and what comes out is the report.
+//! - `try8`: `tiny8` by `try_for_each_into`: the same list of numbers, no job fails, and what comes out is one report, round after round.
 //! - `nested`: `for_each` over two shared lists of 256 numbers in four parts; a job opens a lock with trays for half of the threads and
 //!   runs sixteen rounds there, each of which adds one to each number, a part a job. An item of an inner round is a part itself, and
 //!   what a round answers is the next round's items. The lists that the jobs answer are the next round's items too.

@@ -1,5 +1,6 @@
 -- What a report tells of the numbers: a piece that has failed has the bad one.
-use Rattle.std.proofs.Common.{◌≡◌, ℕ, zero, suc, ◌+◌, ◌-◌, ◌<◌, Bool, true, List, [], ◌∷◌, map, take, drop, length, get_or, Vec, Global, All, Any, Result, Ok, Err, IfOk, Contains, inl, inr, ⊎_elim, ap, sym, ◌∙◌, subst, arith}
+use Rattle.std.proofs.Common.{◌≡◌, ℕ, zero, suc, ◌+◌, ◌-◌, ◌<◌, Bool, true, List, [], ◌∷◌, map, take, drop, length, get_or, Vec, Global, All, Any, Result, Ok}
+use Rattle.std.proofs.Common.{Err, IfOk, Contains, inl, inr, ⊎_elim, ap, sym, ◌∙◌, subst, arith}
 use Rattle.std.specs.Prelude.{IsTrue}
 use Rattle.std.specs.List.{AllZip}
 use Rattle.std.specs.List.Sorted.{IsStrictlyIncreasing}

@@ -47,7 +47,9 @@ impl Job for FailAt {
 /// What came of a round: the numbers of the pieces that ran, and of those that were skipped.
 #[derive(Drop)]
 pub struct Outcome {
+    /// The numbers of those that ran, ascending.
     pub ran: Vec<usize>,
+    /// The numbers of the others, ascending.
     pub skipped: Vec<usize>,
 }
 

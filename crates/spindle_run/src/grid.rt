@@ -70,6 +70,7 @@ impl Job for AddOneByChunks {
 pub struct Plan {
     /// The numbers of a column.
     pub rows: u32,
+    /// How many columns there are.
     pub columns: u32,
     /// The pool's threads.
     pub threads: u32,

@@ -18,6 +18,7 @@ pub struct RoundPlan {
     pub count: u32,
     /// The threads of its lock.
     pub threads: u32,
+    /// The jobs that are asked for.
     pub jobs: u32,
 }
 

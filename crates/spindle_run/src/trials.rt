@@ -14,7 +14,9 @@ const ROOM: usize = 256;
 /// What a run wrote, and how it ended.
 #[derive(Drop)]
 pub struct Trial {
+    /// What it wrote.
     pub text: Vec<u8>,
+    /// How it ended.
     pub end: Result<(), Stop>,
 }
 
@@ -68,6 +70,7 @@ impl<'a> Read for Torn<'a> {
 /// A reader whose only line never ends, and which counts what it gave.
 #[derive(Drop)]
 pub struct Endless {
+    /// The bytes that it gave.
     pub given: usize,
 }
 
@@ -82,8 +85,11 @@ impl Read for Endless {
 /// A reader of one line a call, which fails where an earlier line has no answer yet.
 #[derive(Drop)]
 pub struct Patient<'a> {
+    /// What each call gives.
     pub line: &'a [u8],
+    /// The lines that it gave.
     pub given: usize,
+    /// The lines that were answered.
     pub answers: &'a Cell<usize>,
 }
 
@@ -101,8 +107,11 @@ impl<'a> Read for Patient<'a> {
 /// A writer that counts the lines that it was told to flush, and fails after so many.
 #[derive(Drop)]
 pub struct Counting<'a> {
+    /// The lines of the last write, until they are flushed.
     pub pending: usize,
+    /// Once so many lines were flushed it fails.
     pub most: usize,
+    /// The lines that were flushed.
     pub answers: &'a Cell<usize>,
 }
 
@@ -126,7 +135,9 @@ impl<'a> Write for Counting<'a> {
 /// A writer that takes so many bytes, and then answers an error.
 #[derive(Drop)]
 pub struct Brief {
+    /// What it has taken.
     pub text: Vec<u8>,
+    /// The bytes that it still takes.
     pub room: usize,
 }
 

@@ -22,15 +22,25 @@ pub const NESTED_ROUNDS: u64 = 16;
 /// A shape of rounds.
 #[derive(Clone, Copy, Debug, PartialEq, Eq)]
 pub enum Shape {
+    /// A job a thread that does nothing.
     Empty,
+    /// Eight jobs a thread, of about 50 ns each.
     Tiny8,
+    /// The same in a round that may stop, and doesn't.
     Try8,
+    /// Two jobs that each open a lock and play rounds there.
     Nested,
+    /// Adds one to each of 4096 numbers.
     Stencil4k,
+    /// Adds one to each of 262144 numbers.
     Stencil256k,
+    /// `PASSES` passes of a three-point stencil over `SMOOTHED` numbers.
     Stencil100,
+    /// Squares `MAPPED` numbers.
     Map,
+    /// The product of two matrices of 64 rows and columns.
     Product64,
+    /// The product of two matrices of 256 rows and columns.
     Product256,
 }
 

@@ -8,8 +8,11 @@ use std::alloc::{AllocError, Global};
 /// A run of the values, with the value that stands before it and the one behind it.
 #[derive(Drop)]
 pub struct Strip {
+    /// The run itself.
     pub values: Vec<u32>,
+    /// The value that stands before it.
     pub before: u32,
+    /// The value that stands behind it.
     pub behind: u32,
 }
 

@@ -182,13 +182,16 @@ impl PlaceRounds for TinyPlaceRounds {
 #[derive(Drop)]
 pub struct TryRounds {
     jobs: usize,
-    report: Option<Report<u64>>,
+    report: Report<u64>,
 }
 
 impl TryRounds {
     /// Rounds of so many jobs.
-    pub fn new(jobs: usize) -> TryRounds {
-        TryRounds { jobs, report: None }
+    pub fn new(alloc: Global, jobs: usize) -> TryRounds {
+        TryRounds {
+            jobs,
+            report: Report::new(alloc),
+        }
     }
 }
 
@@ -199,10 +202,7 @@ impl Rounds for TryRounds {
             piece.0 as u64,
             1,
         );
-        match &self.report {
-            Some(report) => report.ran.len() == self.jobs && report.ran.iter().all(is_stirred),
-            None => false,
-        }
+        self.report.ran.len() == self.jobs && self.report.ran.iter().all(is_stirred)
     }
 }
 
@@ -216,7 +216,7 @@ impl TrayRounds for TryRounds {
         leader: &mut Leader<Stir, NoGate>,
     ) -> Result<(), Stop> {
         let numbers = numbers(alloc, self.jobs)?;
-        self.report = Some(leader.try_for_each(rt, alloc, numbers.len(), numbers)?);
+        leader.try_for_each_into(rt, alloc, numbers.len(), numbers, &mut self.report)?;
         Ok(())
     }
 }
