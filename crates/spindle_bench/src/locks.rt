@@ -49,9 +49,7 @@ where
         &pool(settings),
         settings.threads,
         shape.jobs(settings.threads),
-        |leader| -> Result<(), Stop>
-            requires { IsSync H.row }
-        { led_in_slots(rt, settings, shape, leader, rounds) },
+        |leader| -> Result<(), Stop> { led_in_slots(rt, settings, shape, leader, rounds) },
     )?
 }
 
@@ -69,15 +67,9 @@ fn led_in_slots<S: SlotRounds, H: Threads + Wait + Sync + Clock + Print + Alloc<
     await_helpers(rt, settings, || {
         leader.current_num_threads() == leader.max_num_threads()
     })?;
-    let times = run(
-        rt,
-        alloc,
-        settings,
-        shape,
-        || -> Result<(), Stop>
-            requires { IsSync H.row }
-        { rounds.in_slots(rt, alloc, leader) },
-    )?;
+    let times = run(rt, alloc, settings, shape, || -> Result<(), Stop> {
+        rounds.in_slots(rt, alloc, leader)
+    })?;
     finish(rt, settings, Line::Slots, shape, &rounds, &times)
 }
 
@@ -100,9 +92,7 @@ where
         rt.alloc(),
         &pool(settings),
         settings.threads,
-        |leader| -> Result<(), Stop>
-            requires { IsSync H.row }
-        { led_in_trays(rt, settings, shape, leader, rounds) },
+        |leader| -> Result<(), Stop> { led_in_trays(rt, settings, shape, leader, rounds) },
     )?
 }
 
@@ -120,15 +110,9 @@ fn led_in_trays<S: TrayRounds, H: Threads + Wait + Sync + Clock + Print + Alloc<
     await_helpers(rt, settings, || {
         leader.current_num_threads() == leader.max_num_threads()
     })?;
-    let times = run(
-        rt,
-        alloc,
-        settings,
-        shape,
-        || -> Result<(), Stop>
-            requires { IsSync H.row }
-        { rounds.in_trays(rt, alloc, leader) },
-    )?;
+    let times = run(rt, alloc, settings, shape, || -> Result<(), Stop> {
+        rounds.in_trays(rt, alloc, leader)
+    })?;
     finish(rt, settings, Line::Trays, shape, &rounds, &times)
 }
 
@@ -145,9 +129,7 @@ pub fn add_in_place<H: Threads + Wait + Sync + Clock + Print + Alloc<A = Global>
         &pool(settings),
         settings.threads,
         shape.jobs(settings.threads),
-        |leader| -> Result<(), Stop>
-            requires { IsSync H.row }
-        { led_in_place(rt, settings, shape, leader, rounds) },
+        |leader| -> Result<(), Stop> { led_in_place(rt, settings, shape, leader, rounds) },
     )?
 }
 
@@ -164,9 +146,7 @@ pub fn smooth_in_place<H: Threads + Wait + Sync + Clock + Print + Alloc<A = Glob
         &pool(settings),
         settings.threads,
         shape.jobs(settings.threads),
-        |leader| -> Result<(), Stop>
-            requires { IsSync H.row }
-        { led_in_place(rt, settings, shape, leader, rounds) },
+        |leader| -> Result<(), Stop> { led_in_place(rt, settings, shape, leader, rounds) },
     )?
 }
 
@@ -183,9 +163,7 @@ pub fn stir_in_place<H: Threads + Wait + Sync + Clock + Print + Alloc<A = Global
         &pool(settings),
         settings.threads,
         shape.jobs(settings.threads),
-        |leader| -> Result<(), Stop>
-            requires { IsSync H.row }
-        { led_in_place(rt, settings, shape, leader, rounds) },
+        |leader| -> Result<(), Stop> { led_in_place(rt, settings, shape, leader, rounds) },
     )?
 }
 
@@ -202,9 +180,7 @@ pub fn square_in_place<H: Threads + Wait + Sync + Clock + Print + Alloc<A = Glob
         &pool(settings),
         settings.threads,
         shape.jobs(settings.threads),
-        |leader| -> Result<(), Stop>
-            requires { IsSync H.row }
-        { led_in_place(rt, settings, shape, leader, rounds) },
+        |leader| -> Result<(), Stop> { led_in_place(rt, settings, shape, leader, rounds) },
     )?
 }
 
@@ -222,15 +198,9 @@ fn led_in_place<S: PlaceRounds, H: Threads + Wait + Sync + Clock + Print + Alloc
     await_helpers(rt, settings, || {
         leader.current_num_threads() == leader.max_num_threads()
     })?;
-    let times = run(
-        rt,
-        alloc,
-        settings,
-        shape,
-        || -> Result<(), Stop>
-            requires { IsSync H.row }
-        { rounds.in_place(rt, alloc, leader) },
-    )?;
+    let times = run(rt, alloc, settings, shape, || -> Result<(), Stop> {
+        rounds.in_place(rt, alloc, leader)
+    })?;
     finish(rt, settings, Line::Place, shape, &rounds, &times)
 }
 

@@ -2,7 +2,6 @@
 //! their end at a clock that all of them share, and answer both with the number of the thread that ran them.
 ghost use Rattle.std.specs.Prelude.{◌≡◌, ◌<◌, IfOk, vec_len};
 ghost use Rattle.std.proofs.Common.{rules};
-ghost use denote.Param.Send.{IsSync};
 
 use crate::clocked::{Clocked, Span};
 use crate::stop::Stop;
@@ -87,15 +86,9 @@ fn nested<H: Threads + Wait + Sync>(
 ) -> Result<Vec<Result<Vec<Span>, Fault>>, Fault> {
     let pool = Pool::new(4, Limits::new(), NoGate);
     let locks = Clocked::new(alloc)?.copies(alloc, LOCKS)?;
-    with_lock::<OpensLock, _, _, _, _, _>(
-        rt,
-        alloc,
-        &pool,
-        4,
-        |leader|
-            requires sync { IsSync H.row }
-        { leader.for_each(rt, alloc, LOCKS, locks) },
-    )?
+    with_lock::<OpensLock, _, _, _, _, _>(rt, alloc, &pool, 4, |leader| {
+        leader.for_each(rt, alloc, LOCKS, locks)
+    })?
 }
 
 /// Prints a line for each job: its number, its thread, and the events of its begin and its end. A nested round has a line before.

@@ -5,7 +5,6 @@ ghost use Rattle.spindle_parts.specs.Pieces.{counted};
 ghost use Rattle.spindle_trays.specs.Reports.{IsReport, numbers_of};
 ghost use Rattle.spindle_trays.specs.Rounds.{job_count};
 ghost use Rattle.spindle_run.specs.Faults.{IsOutcome, Tells};
-ghost use denote.Param.Send.{IsSync};
 
 use crate::squares::{RoundPlan, numbers_below};
 use spindle::lock::{End, Job, JobCx, Limits, NoGate, Pool, Report};
@@ -99,7 +98,6 @@ fn report_of<H: Threads + Wait + Sync>(
         &pool,
         threads,
         |leader|
-            requires sync { IsSync H.row }
             requires jobs { 0 < jobs }
         { leader.try_for_each(rt, alloc, jobs, items) },
     )?

@@ -4,7 +4,6 @@ ghost use Rattle.std.proofs.Common.{rules};
 ghost use Rattle.spindle_parts.specs.Pieces.{joined, total};
 ghost use Rattle.spindle_lists.specs.Same.{equal_pairs_are_same};
 ghost use Rattle.spindle_run.specs.Grid.{one_more, IsLeast, IsGreatest};
-ghost use denote.Param.Send.{IsSync};
 
 use spindle::lock::{End, Job, JobCx, Leader, Limits, NoGate, Pool, Under};
 use spindle::{Fault, ListRun, SharedList, gathered, with_lock};
@@ -97,9 +96,7 @@ pub fn grid<H: Threads + Wait + Sync>(rt: &H, alloc: Global, plan: Plan) -> Resu
         alloc,
         &pool,
         plan.jobs as usize,
-        |leader|
-            requires sync { IsSync H.row }
-        { rounds(rt, alloc, leader, zeros, chunk, column, plan.columns) },
+        |leader| { rounds(rt, alloc, leader, zeros, chunk, column, plan.columns) },
     )?
 }
 

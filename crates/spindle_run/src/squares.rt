@@ -3,7 +3,6 @@ ghost use Rattle.std.specs.Prelude.{◌≡◌, ℕ, ◌*◌, ◌<◌, ◌≤◌,
 ghost use Rattle.std.specs.List.{AllZip};
 ghost use Rattle.std.proofs.Common.{rules};
 ghost use Rattle.spindle_parts.specs.Pieces.{counted};
-ghost use denote.Param.Send.{IsSync};
 
 use spindle::lock::{End, Job, JobCx, Limits, NoGate, Pool};
 use spindle::{Fault, with_lock, with_slots};
@@ -93,7 +92,6 @@ pub fn squares_in_slots<H: Threads + Wait + Sync>(
         threads,
         slots,
         |leader|
-            requires sync { IsSync H.row }
             requires jobs { 0 < jobs }
         { leader.for_each(rt, alloc, jobs, numbers) },
     )?
@@ -132,7 +130,6 @@ fn squares_of<H: Threads + Wait + Sync>(
         &pool,
         threads,
         |leader|
-            requires sync { IsSync H.row }
             requires jobs { 0 < jobs }
         { leader.for_each(rt, alloc, jobs, numbers) },
     )?

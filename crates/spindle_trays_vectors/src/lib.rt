@@ -35,4 +35,6 @@ mod thread_rows;
 #[cfg(test)]
 mod tray_rows;
 #[cfg(test)]
+mod trying;
+#[cfg(test)]
 mod trying_rows;

@@ -9,7 +9,7 @@ use crate::checks::is;
 use crate::jobs::{Calls, Counting};
 use crate::lists::{Length, are_three_numbers, seven_clones, three_numbers};
 use crate::sevens::unopened_or;
-use crate::trying_rows::{Trying, is_report, items};
+use crate::trying::{Trying, is_report, items};
 use spindle_parts::fault::Fault;
 use spindle_trays::crew::limits::Limits;
 use spindle_trays::job::gate::NoGate;

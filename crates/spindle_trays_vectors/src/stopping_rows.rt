@@ -6,7 +6,7 @@ ghost use Rattle.std.specs.Prelude.{◌<◌};
 use crate::checks::{are, is};
 use crate::crossings::Crossings;
 use crate::gates::Meetings;
-use crate::trying_rows::{Trying, is_report, items, report_of};
+use crate::trying::{Trying, is_report, items, report_of};
 use spindle_parts::fault::Fault;
 use spindle_trays::crew::limits::Limits;
 use spindle_trays::lock::pool::Pool;
