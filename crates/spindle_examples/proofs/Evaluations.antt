@@ -1,17 +1,15 @@
 -- A bite leaves fewer squares, so that a game of as many bites as squares is a whole one.
-use Rattle.std.proofs.Common.{◌≡◌, ℕ, zero, suc, ◌+◌, ◌-◌, ◌<◌, ◌≤◌, Bool, true, false, not, cond, ◌||◌, List, [], ◌∷◌, ◌++◌, map, length, Result, refl, ap}
+use Rattle.std.proofs.Common.{◌≡◌, ℕ, zero, suc, ◌+◌, ◌-◌, ◌<◌, ◌≤◌, ◌==◌, Bool, true, false, not, cond, ◌||◌, List, [], ◌∷◌, ◌++◌, map, length, refl, ap}
 use Rattle.std.proofs.Common.{sym, ◌∙◌, subst, inl, inr, append-nil, arith}
 use Rattle.std.specs.List.{list_any, filter, AllZip}
 use Rattle.std.proofs.lemmas.Bool.{cases_lt, or_left, or_right, or_from}
 use Rattle.std.proofs.lemmas.Bool.Decides.{nat_tests}
 use Rattle.std.proofs.lemmas.List.Elements.{filter-append}
 use Rattle.std.proofs.lemmas.List.Folds.{list_any-append}
-use Rattle.std.proofs.lemmas.Slice.Zip.{AllZip-map}
 use Rattle.spindle_parts.specs.Pieces.{counted}
-use Rattle.spindle_parts.specs.declared.fault.Fault.{Fault}
 use Rattle.spindle_parts.proofs.Lists.{counted_snoc}
 use Rattle.spindle_examples.specs.declared.chomp.Board.{Board}
-use Rattle.spindle_examples.specs.Chomp.{squares_of, after, bites_of, replies_to, wins_within, wins, IsEvaluation}
+use Rattle.spindle_examples.specs.Chomp.{squares_of, after, bites_of, wins_within, wins, winning_bites}
 
 -- each bite takes a square at least
 fewer : (board : Board) (at : ℕ) → at < squares_of board → squares_of (after board at) < squares_of board
@@ -67,14 +65,14 @@ none_more p from n none here =
     (or_from (list_any p (counted from n)) (p (from + n) || false) none (or_from (p (from + n)) false here refl))
 
 -- what a round answers of a bite
-pub answered : (board : Board) (from n : ℕ) (xs : List (Result Bool Fault)) (x : Result Bool Fault) (rest : List (Result Bool Fault))
-    → AllZip IsEvaluation (map (after board) (counted from n)) (xs ++ x ∷ rest) → IsEvaluation (after board (from + length xs)) x
-answered board from zero [] x rest all = absurd all
-answered board from zero (y ∷ xs) x rest all = absurd all
-answered board from (suc n) [] x rest all = let here : from + 0 ≡ from = omega arith in rw here all.0
-answered board from (suc n) (y ∷ xs) x rest all =
+pub answered : {B : Type 0} (R : Board → B → Type 0) (board : Board) (from n : ℕ) (xs : List B) (x : B) (rest : List B)
+    → AllZip R (map (after board) (counted from n)) (xs ++ x ∷ rest) → R (after board (from + length xs)) x
+answered R board from zero [] x rest all = absurd all
+answered R board from zero (y ∷ xs) x rest all = absurd all
+answered R board from (suc n) [] x rest all = let here : from + 0 ≡ from = omega arith in rw here all.0
+answered R board from (suc n) (y ∷ xs) x rest all =
     let here : from + suc (length xs) ≡ from + 1 + length xs = omega arith in
-    rw here (answered board (from + 1) n xs x rest all.1)
+    rw here (answered R board (from + 1) n xs x rest all.1)
 
 -- one number more, which passes a test or doesn't
 filter_more : (p : ℕ → Bool) (n : ℕ) (passes : Bool) → p (1 + n) ≡ passes
@@ -88,12 +86,17 @@ one_passes p n here = filter_more p n true here
 pub one_fails : (p : ℕ → Bool) (n : ℕ) → p (1 + n) ≡ false → filter p (counted 1 n) ≡ filter p (counted 1 (n + 1))
 one_fails p n here = sym (append-nil (filter p (counted 1 n))) ∙ filter_more p n false here
 
--- the boards that bites leave have the answers of the bites
-any_lost : (board : Board) (bites : List ℕ) → list_any not (map wins (map (after board) bites)) ≡ list_any (λ at. not (wins (after board at))) bites
-any_lost board [] = refl
-any_lost board (at ∷ bites) = ap (λ b. not (wins (after board at)) || b) (any_lost board bites)
+-- a list that holds one more where that passes a test
+one_or_none : (passes : Bool) (k : ℕ) (ks : List ℕ) (some : Bool) → not (length ks == 0) ≡ some
+    → not (length (cond passes (k ∷ ks) ks) == 0) ≡ (passes || some)
+one_or_none true k ks some h = let more : 0 < length (k ∷ ks) = omega arith in grind (more, arith, nat_tests)
+one_or_none false k ks some h = h
 
--- who is to move wins where the other one has lost after some bite
-pub wins_where : (board : Board) (won : List Bool) → AllZip (λ reply won. won ≡ wins reply) (replies_to board) won → list_any not won ≡ wins board
-wins_where board won all =
-    ap (list_any not) (AllZip-map wins (replies_to board) won all) ∙ any_lost board (bites_of board) ∙ sym (wins_by board)
+-- a filter leaves something where something passes
+some_pass : (p : ℕ → Bool) (ks : List ℕ) → not (length (filter p ks) == 0) ≡ list_any p ks
+some_pass p [] = refl
+some_pass p (k ∷ ks) = one_or_none (p k) k (filter p ks) (list_any p ks) (some_pass p ks)
+
+-- who is to move wins where some bite does
+pub wins_where : (board : Board) → not (length (winning_bites board) == 0) ≡ wins board
+wins_where board = some_pass (λ at. not (wins (after board at))) (bites_of board) ∙ sym (wins_by board)

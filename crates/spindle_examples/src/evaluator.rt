@@ -1,17 +1,25 @@
 //! A game evaluated by nested rounds: a job is given a board of Chomp, and has the boards that bites leave of it evaluated by a round
-//! of its own, whose jobs go on in plain recursion. So games of any length have locks at their first two bites alone.
+//! of its own, over jobs of the kind below it. So a caller says by the kind how deep rounds nest: `Evaluate<Evaluate<Recurse>>` has
+//! locks at the first three bites of a game, and plain recursion from there on.
 ghost use Rattle.std.specs.Prelude.{◌≡◌, IfOk, vec_len};
 ghost use Rattle.std.specs.List.{AllZip};
 ghost use Rattle.std.proofs.Common.{rules};
-ghost use Rattle.spindle_examples.specs.Chomp.{replies_to, wins, winning_bites, IsEvaluation};
+ghost use Rattle.spindle_examples.specs.Chomp.{replies_to, winning_bites, IsEvaluation};
 ghost use denote.Param.Send.{IsSync};
 
 use crate::chomp::Board;
-use spindle::lock::{End, Gate, Job, JobCx, Pool, Under};
+use spindle::lock::{End, Gate, Job, JobCx, Nest, Pool, Under};
 use spindle::{Fault, with_lock};
 use std::alloc::Global;
+use std::marker::PhantomData;
 use std::sync::Wait;
 use std::thread::Threads;
+
+/// The kinds of jobs that evaluate a board.
+pub trait Evaluates: Job<In = Board, Out = Result<bool, Fault>> {
+    /// What a job may answer is an evaluation of its board.
+    ghost evaluates: { (board : _) (answer : _) → Self.meets board answer → IsEvaluation board answer };
+}
 
 /// Evaluates a board in plain recursion.
 pub struct Recurse;
@@ -19,33 +27,39 @@ pub struct Recurse;
 impl Job for Recurse {
     type In = Board;
 
-    type Out = bool;
+    type Out = Result<bool, Fault>;
 
     type Inner = End;
 
-    ghost meets = { λ board won. won ≡ wins board };
+    ghost meets = { IsEvaluation };
 
     fn run<H: Threads + Wait + Sync>(
         _rt: &H,
         _alloc: Global,
         board: &Board,
         _cx: &mut JobCx<End>,
-    ) -> bool {
-        board.is_won()
+    ) -> Result<bool, Fault> {
+        Ok(board.is_won())
     }
 
     ghost equal_is_same = { Prim.search rules };
 }
 
-/// Evaluates a board by a round over what bites leave of it.
-pub struct Evaluate;
+impl Evaluates for Recurse {
+    ghost evaluates = { λ board answer said. said };
+}
 
-impl Job for Evaluate {
+/// Evaluates a board by a round over what bites leave of it, whose jobs are of kind K.
+pub struct Evaluate<K> {
+    kind: PhantomData<K>,
+}
+
+impl<K: Evaluates> Job for Evaluate<K> {
     type In = Board;
 
     type Out = Result<bool, Fault>;
 
-    type Inner = Under<Recurse>;
+    type Inner = Under<K>;
 
     ghost meets = { IsEvaluation };
 
@@ -53,29 +67,37 @@ impl Job for Evaluate {
         rt: &H,
         alloc: Global,
         board: &Board,
-        cx: &mut JobCx<Under<Recurse>>,
+        cx: &mut JobCx<Under<K>>,
     ) -> Result<bool, Fault> {
         let replies = board.replies(alloc)?;
         let jobs = replies.len();
-        let won = cx.for_each(rt, alloc, jobs, replies)?;
-        Ok(won.contains(&false))
+        let answers = cx.for_each(rt, alloc, jobs, replies)?;
+        let bites = lost_after::<K>(alloc, *board, answers)?;
+        Ok(!bites.is_empty())
     }
 
     ghost equal_is_same = { Prim.search rules };
 }
 
-/// The squares at which a bite wins, by a round over what each bite leaves.
-pub fn won_by<G: Gate + Sync, H: Threads + Wait + Sync>(
+impl<K: Evaluates> Evaluates for Evaluate<K> {
+    ghost evaluates = { λ board answer said. said };
+}
+
+/// The squares at which a bite wins, by a round over what each bite leaves, whose jobs are of kind K.
+pub fn won_by<K: Evaluates + Send, G: Gate + Sync, H: Threads + Wait + Sync>(
     rt: &H,
     alloc: Global,
     pool: &Pool<G>,
     board: Board,
 ) -> Result<Vec<usize>, Fault>
+where
+    K::Inner: Send,
+    <K::Inner as Nest>::Slots: Send + Sync,
     ensures { IfOk result (λ bites. bites.items ≡ winning_bites board) }
 {
     let replies = board.replies(alloc)?;
     let jobs = replies.len();
-    let answers = with_lock::<Evaluate, _, _, _, _, _>(
+    let answers = with_lock::<K, _, _, _, _, _>(
         rt,
         alloc,
         pool,
@@ -85,16 +107,16 @@ pub fn won_by<G: Gate + Sync, H: Threads + Wait + Sync>(
             requires sync { IsSync H.row }
         { leader.for_each(rt, alloc, jobs, replies) },
     )??;
-    lost_after(alloc, board, answers)
+    lost_after::<K>(alloc, board, answers)
 }
 
-// The bites after which the other one has lost, where these are the answers to what each leaves.
-fn lost_after(
+// The bites after which the other one has lost, where jobs of kind K answered this of what each leaves.
+fn lost_after<K: Evaluates>(
     alloc: Global,
     board: Board,
     answers: Vec<Result<bool, Fault>>,
 ) -> Result<Vec<usize>, Fault>
-    requires { AllZip IsEvaluation (replies_to board) answers.items }
+    requires { AllZip K.meets (replies_to board) answers.items }
     ensures { IfOk result (λ bites. bites.items ≡ winning_bites board) }
 {
     let mut bites = Vec::new(alloc);

@@ -28,6 +28,7 @@ mod trace;
 use crate::batch::Order;
 use crate::checked::Checked;
 use crate::chomp::Board;
+use crate::evaluator::{Evaluate, Recurse};
 use crate::stop::Stop;
 use spindle::lock::{NoGate, Pool};
 use std::alloc::Global;
@@ -54,13 +55,7 @@ fn main(rt: HostRuntime) -> Result<(), Stop> {
     let keys = vec![in alloc; 21u32, 20, 90, 100]?;
     let ranks = ranks::ranks(&rt, alloc, &pool, 2, limits, keys)?;
     println!(rt; "ranks {ranks:?}")?;
-    let board = Board {
-        top: 4,
-        middle: 3,
-        bottom: 3,
-    };
-    let bites = evaluator::won_by(&rt, alloc, &pool, board)?;
-    println!(rt; "evaluator {bites:?}")?;
+    game(&rt, alloc, &pool)?;
     if env::var(&rt, "TRACE").is_ok() {
         trace::print(&rt, alloc)?;
     }
@@ -89,5 +84,21 @@ fn batches<H: Threads + Wait + Sync + Print>(
             Checked::Stopped(piece, _) => println!(rt; "checked, and stopped at {piece}")?,
         }
     }
+    Ok(())
+}
+
+// The bites that win a game, whose jobs are of three kinds, each under the next.
+fn game<H: Threads + Wait + Sync + Print>(
+    rt: &H,
+    alloc: Global,
+    pool: &Pool<NoGate>,
+) -> Result<(), Stop> {
+    let board = Board {
+        top: 4,
+        middle: 3,
+        bottom: 3,
+    };
+    let bites = evaluator::won_by::<Evaluate<Evaluate<Recurse>>, _, _>(rt, alloc, pool, board)?;
+    println!(rt; "evaluator {bites:?}")?;
     Ok(())
 }

@@ -1,10 +1,13 @@
 //! The examples against the same computed plainly, over random inputs, with one thread and with several.
 
 use crate::chomp::Board;
+use crate::evaluator::{Evaluate, Recurse};
 use crate::{evaluator, prefix, product, ranks, stencil};
 use spindle::Fault;
 use spindle::lock::{Limits, NoGate, Pool};
 use std::alloc::Global;
+use std::sync::Wait;
+use std::thread::Threads;
 
 /// A generator of pseudo-random numbers: Knuth's multiplier, whose upper half is used.
 pub fn next(state: &mut u64) -> u32 {
@@ -184,6 +187,21 @@ fn plain_table(alloc: Global) -> Result<Vec<bool>, Fault> {
     Ok(table)
 }
 
+// The winning bites by so many kinds of jobs, each under the next: one to three.
+fn bites_by<H: Threads + Wait + Sync>(
+    rt: &H,
+    alloc: Global,
+    pool: &Pool<NoGate>,
+    kinds: usize,
+    board: Board,
+) -> Result<Vec<usize>, Fault> {
+    match kinds {
+        1 => evaluator::won_by::<Recurse, _, _>(rt, alloc, pool, board),
+        2 => evaluator::won_by::<Evaluate<Recurse>, _, _>(rt, alloc, pool, board),
+        _ => evaluator::won_by::<Evaluate<Evaluate<Recurse>>, _, _>(rt, alloc, pool, board),
+    }
+}
+
 #[test]
 fn a_game_by_nested_rounds_is_the_one_by_a_table(rt: HostRuntime) -> Result<(), Fault> {
     let alloc = rt.alloc();
@@ -201,12 +219,14 @@ fn a_game_by_nested_rounds_is_the_one_by_a_table(rt: HostRuntime) -> Result<(), 
         let plain = plain_bites(alloc, table.as_slice(), board)?;
         for threads in [1, 2, 4] {
             let pool = Pool::new(threads, Limits::new(), NoGate);
-            let bites = evaluator::won_by(&rt, alloc, &pool, board)?;
-            assert_eq!(rt;
-                bites,
-                plain.clone()?,
-                "{top}, {middle} and {bottom} squares"
-            );
+            for kinds in 1..4 {
+                let bites = bites_by(&rt, alloc, &pool, kinds, board)?;
+                assert_eq!(rt;
+                    bites,
+                    plain.clone()?,
+                    "{top}, {middle} and {bottom} squares by {kinds} kinds"
+                );
+            }
         }
     }
     Ok(())

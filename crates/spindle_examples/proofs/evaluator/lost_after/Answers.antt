@@ -15,7 +15,7 @@ use Rattle.spindle_examples.proofs.evaluator.lost_after.Goals as goal
 use Rattle.spindle_examples.proofs.evaluator.lost_after.Goals.{then-not-branch+in_ok-push, else-not-branch}
 
 pub loop-answer-preserved : goal.loop-answer-preserved
-loop-answer-preserved c =
+loop-answer-preserved g c =
     let board = c.args.board in
     let test : ℕ → Bool = λ at. not (wins (after board at)) in
     let before = c.loop-answer.yielded in
@@ -26,8 +26,10 @@ loop-answer-preserved c =
     let later = into_iter_items c.next.new.self in
     let whole : c.args.answers.items ≡ before ++ c.in-Some.answer ∷ later =
     sym c.into_iter-answer-iterator.ensures.into_iter_gives.0 ∙ yielded_items before _ _ c.loop-answer.yielded_by ∙ ap (λ l. before ++ l) next.0 in
-    let says : IsEvaluation (after board (1 + n)) c.in-Some.answer =
-    answered board 1 (squares_of board - 1) before c.in-Some.answer later (subst (λ l. AllZip IsEvaluation (replies_to board) l) whole c.requires) in
+    let said : g.K.Job.meets (after board (1 + n)) c.in-Some.answer =
+    answered g.K.Job.meets board 1 (squares_of board - 1) before c.in-Some.answer later
+    (subst (λ l. AllZip g.K.Job.meets (replies_to board) l) whole c.requires) in
+    let says = g.met.K.Evaluates.evaluates (after board (1 + n)) c.in-Some.answer said in
     let won : wins (after board (1 + n)) ≡ c.in_ok-answer.field-0 =
     sym (subst (λ r. IsEvaluation (after board (1 + n)) r) c.in_ok-answer.was says) in
     elim c.if-not-branch.branch [
@@ -48,7 +50,7 @@ loop-answer-preserved c =
     ]
 
 pub returns : goal.returns
-returns c =
+returns g c =
     let board = c.args.board in
     let test : ℕ → Bool = λ at. not (wins (after board at)) in
     let answers = c.args.answers.items in
@@ -57,5 +59,5 @@ returns c =
     (YieldsList-end (YieldsList-from_vec answers given.0 (search rules)) c.loop-answer.yielded c.loop-answer.answer-iterator
     c.loop-answer.yielded_by c.next.result c.next.new.self c.in-None.is c.next.ensures.steps).1 in
     let all : length answers ≡ squares_of board - 1 =
-    AllZip-long IsEvaluation (replies_to board) answers c.requires ∙ length-map (bites_of board) (after board) ∙ length-counted 1 (squares_of board - 1) in
+    AllZip-long g.K.Job.meets (replies_to board) answers c.requires ∙ length-map (bites_of board) (after board) ∙ length-counted 1 (squares_of board - 1) in
     c.loop-answer.invariant.bites ∙ ap (λ n. filter test (counted 1 n)) (long ∙ all)
