@@ -1,15 +1,14 @@
 //! A game evaluated by nested rounds: a job is given a board of Chomp, and has the boards that bites leave of it evaluated by a round
 //! of its own, over jobs of the kind below it. So a caller says by the kind how deep rounds nest: `Evaluate<Evaluate<Recurse>>` has
 //! locks at the first three bites of a game, and plain recursion from there on.
-ghost use Rattle.std.specs.Prelude.{◌≡◌, IfOk, vec_len};
+ghost use Rattle.std.specs.Prelude.{◌≡◌, IfOk};
 ghost use Rattle.std.specs.List.{AllZip};
 ghost use Rattle.std.proofs.Common.{rules};
 ghost use Rattle.spindle_examples.specs.Chomp.{replies_to, winning_bites, IsEvaluation};
-ghost use denote.Param.Send.{IsSync};
 
 use crate::chomp::Board;
 use spindle::lock::{End, Gate, Job, JobCx, Nest, Pool, Under};
-use spindle::{Fault, with_lock};
+use spindle::{Fault, run_one};
 use std::alloc::Global;
 use std::marker::PhantomData;
 use std::sync::Wait;
@@ -97,16 +96,7 @@ where
 {
     let replies = board.replies(alloc)?;
     let jobs = replies.len();
-    let answers = with_lock::<K, _, _, _, _, _>(
-        rt,
-        alloc,
-        pool,
-        pool.max_num_threads(),
-        |leader|
-            requires jobs { jobs ≡ vec_len replies }
-            requires sync { IsSync H.row }
-        { leader.for_each(rt, alloc, jobs, replies) },
-    )??;
+    let answers = run_one::<K>(rt, alloc, pool, jobs, replies)?;
     lost_after::<K>(alloc, board, answers)
 }
 
