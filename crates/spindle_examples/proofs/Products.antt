@@ -4,7 +4,7 @@ use Rattle.std.specs.List.{AllZip}
 use Rattle.spindle_parts.specs.Pieces.{joined}
 use Rattle.spindle_examples.specs.Product.{dot, row_of, product}
 use Rattle.spindle_examples.specs.Blocks.{rows_and_columns, IsFilled}
-use Rattle.spindle_examples.specs.declared.product.Block.{Block}
+use Rattle.spindle_examples.specs.declared.block.Block.{Block}
 
 -- one place more
 pub dot_more : (xs ys : List ℕ) (k : ℕ) → k < length xs → k < length ys

@@ -1,7 +1,7 @@
 -- Blocks of a product.
 use Rattle.std.specs.Prelude.{◌≡◌, ℕ, List, IfOk}
 use Rattle.spindle_examples.specs.Product.{product}
-use Rattle.spindle_examples.specs.declared.product.Block.{Block}
+use Rattle.spindle_examples.specs.declared.block.Block.{Block}
 
 -- what a block's entries are made of
 abbrev pub rows_and_columns : Block → List (List ℕ) × List ℕ

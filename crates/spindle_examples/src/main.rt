@@ -10,9 +10,11 @@
 mod batch;
 #[cfg(test)]
 mod batch_tests;
+mod block;
 mod checked;
 mod chomp;
 mod clocked;
+mod entries;
 mod evaluator;
 mod prefix;
 mod product;

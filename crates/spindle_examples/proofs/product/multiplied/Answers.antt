@@ -5,7 +5,7 @@ use Rattle.std.specs.declared.alloc.AllocError.{AllocError}
 use Rattle.spindle_lists.specs.Gathered.{IsGathered}
 use Rattle.spindle_lists.proofs.GatheredLists.{gathered_values}
 use Rattle.spindle_examples.specs.Product.{product}
-use Rattle.spindle_examples.specs.declared.product.Block.{Block}
+use Rattle.spindle_examples.specs.declared.block.Block.{Block}
 use Rattle.spindle_examples.proofs.Products.{product_blocks, filled_entries}
 use Rattle.spindle_examples.proofs.product.multiplied.Goals as goal
 

@@ -3,7 +3,7 @@ use Rattle.std.proofs.Common.{◌≡◌, ◌*◌, ◌++◌, map, drop, length}
 use Rattle.spindle_parts.specs.Pieces.{counted}
 use Rattle.spindle_examples.specs.Product.{dot}
 use Rattle.spindle_examples.specs.Wrapping.{wrapped}
-use Rattle.spindle_examples.proofs.product.add_row.Given as goal
+use Rattle.spindle_examples.proofs.entries.add_row.Given as goal
 
 abbrev pub invariant-loop-at : goal.invariant-loop-at
 invariant-loop-at l =

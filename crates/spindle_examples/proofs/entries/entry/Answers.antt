@@ -4,7 +4,7 @@ use Rattle.spindle_examples.specs.Product.{dot}
 use Rattle.spindle_examples.specs.Wrapping.{wrapped}
 use Rattle.spindle_examples.proofs.Wrapped.{wrapped_parts}
 use Rattle.spindle_examples.proofs.Products.{dot_more, dot_whole}
-use Rattle.spindle_examples.proofs.product.entry.Goals as goal
+use Rattle.spindle_examples.proofs.entries.entry.Goals as goal
 
 pub loop-at-preserved : goal.loop-at-preserved
 loop-at-preserved c =

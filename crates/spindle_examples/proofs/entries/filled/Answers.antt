@@ -3,7 +3,7 @@ use Rattle.std.proofs.Common.{ℕ, List, ◌≡◌, ◌+◌, ◌++◌, ◌∷◌
 use Rattle.std.proofs.lemmas.List.{take_more}
 use Rattle.spindle_examples.specs.Product.{product, row_of}
 use Rattle.spindle_examples.proofs.Products.{product_snoc}
-use Rattle.spindle_examples.proofs.product.filled.Goals as goal
+use Rattle.spindle_examples.proofs.entries.filled.Goals as goal
 
 pub loop-row-preserved : goal.loop-row-preserved
 loop-row-preserved c =

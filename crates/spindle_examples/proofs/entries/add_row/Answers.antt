@@ -5,7 +5,7 @@ use Rattle.spindle_parts.specs.Pieces.{counted}
 use Rattle.spindle_parts.proofs.Lists.{counted_snoc, map_snoc}
 use Rattle.spindle_examples.specs.Product.{dot}
 use Rattle.spindle_examples.specs.Wrapping.{wrapped}
-use Rattle.spindle_examples.proofs.product.add_row.Goals as goal
+use Rattle.spindle_examples.proofs.entries.add_row.Goals as goal
 
 pub loop-at-preserved : goal.loop-at-preserved
 loop-at-preserved c =
