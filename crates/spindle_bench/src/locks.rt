@@ -49,7 +49,9 @@ where
         &pool(settings),
         settings.threads,
         shape.jobs(settings.threads),
-        |leader| -> Result<(), Stop> { led_in_slots(rt, settings, shape, leader, rounds) },
+        |leader| -> Result<(), Stop>
+            requires { IsSync H.row }
+        { led_in_slots(rt, settings, shape, leader, rounds) },
     )?
 }
 
@@ -67,9 +69,15 @@ fn led_in_slots<S: SlotRounds, H: Threads + Wait + Sync + Clock + Print + Alloc<
     await_helpers(rt, settings, || {
         leader.current_num_threads() == leader.max_num_threads()
     })?;
-    let times = run(rt, alloc, settings, shape, || -> Result<(), Stop> {
-        rounds.in_slots(rt, alloc, leader)
-    })?;
+    let times = run(
+        rt,
+        alloc,
+        settings,
+        shape,
+        || -> Result<(), Stop>
+            requires { IsSync H.row }
+        { rounds.in_slots(rt, alloc, leader) },
+    )?;
     finish(rt, settings, Line::Slots, shape, &rounds, &times)
 }
 
@@ -92,7 +100,9 @@ where
         rt.alloc(),
         &pool(settings),
         settings.threads,
-        |leader| -> Result<(), Stop> { led_in_trays(rt, settings, shape, leader, rounds) },
+        |leader| -> Result<(), Stop>
+            requires { IsSync H.row }
+        { led_in_trays(rt, settings, shape, leader, rounds) },
     )?
 }
 
@@ -110,9 +120,15 @@ fn led_in_trays<S: TrayRounds, H: Threads + Wait + Sync + Clock + Print + Alloc<
     await_helpers(rt, settings, || {
         leader.current_num_threads() == leader.max_num_threads()
     })?;
-    let times = run(rt, alloc, settings, shape, || -> Result<(), Stop> {
-        rounds.in_trays(rt, alloc, leader)
-    })?;
+    let times = run(
+        rt,
+        alloc,
+        settings,
+        shape,
+        || -> Result<(), Stop>
+            requires { IsSync H.row }
+        { rounds.in_trays(rt, alloc, leader) },
+    )?;
     finish(rt, settings, Line::Trays, shape, &rounds, &times)
 }
 
@@ -129,7 +145,9 @@ pub fn add_in_place<H: Threads + Wait + Sync + Clock + Print + Alloc<A = Global>
         &pool(settings),
         settings.threads,
         shape.jobs(settings.threads),
-        |leader| -> Result<(), Stop> { led_in_place(rt, settings, shape, leader, rounds) },
+        |leader| -> Result<(), Stop>
+            requires { IsSync H.row }
+        { led_in_place(rt, settings, shape, leader, rounds) },
     )?
 }
 
@@ -146,7 +164,9 @@ pub fn smooth_in_place<H: Threads + Wait + Sync + Clock + Print + Alloc<A = Glob
         &pool(settings),
         settings.threads,
         shape.jobs(settings.threads),
-        |leader| -> Result<(), Stop> { led_in_place(rt, settings, shape, leader, rounds) },
+        |leader| -> Result<(), Stop>
+            requires { IsSync H.row }
+        { led_in_place(rt, settings, shape, leader, rounds) },
     )?
 }
 
@@ -163,7 +183,9 @@ pub fn stir_in_place<H: Threads + Wait + Sync + Clock + Print + Alloc<A = Global
         &pool(settings),
         settings.threads,
         shape.jobs(settings.threads),
-        |leader| -> Result<(), Stop> { led_in_place(rt, settings, shape, leader, rounds) },
+        |leader| -> Result<(), Stop>
+            requires { IsSync H.row }
+        { led_in_place(rt, settings, shape, leader, rounds) },
     )?
 }
 
@@ -180,7 +202,9 @@ pub fn square_in_place<H: Threads + Wait + Sync + Clock + Print + Alloc<A = Glob
         &pool(settings),
         settings.threads,
         shape.jobs(settings.threads),
-        |leader| -> Result<(), Stop> { led_in_place(rt, settings, shape, leader, rounds) },
+        |leader| -> Result<(), Stop>
+            requires { IsSync H.row }
+        { led_in_place(rt, settings, shape, leader, rounds) },
     )?
 }
 
@@ -198,9 +222,15 @@ fn led_in_place<S: PlaceRounds, H: Threads + Wait + Sync + Clock + Print + Alloc
     await_helpers(rt, settings, || {
         leader.current_num_threads() == leader.max_num_threads()
     })?;
-    let times = run(rt, alloc, settings, shape, || -> Result<(), Stop> {
-        rounds.in_place(rt, alloc, leader)
-    })?;
+    let times = run(
+        rt,
+        alloc,
+        settings,
+        shape,
+        || -> Result<(), Stop>
+            requires { IsSync H.row }
+        { rounds.in_place(rt, alloc, leader) },
+    )?;
     finish(rt, settings, Line::Place, shape, &rounds, &times)
 }
 
