@@ -5,19 +5,25 @@ use Rattle.spindle_parts.specs.declared.fault.Fault.TheVariants.{Memory, Lost}
 use Rattle.spindle_parts.specs.declared.requests.plays.Account.{Account}
 use Rattle.spindle_trays.specs.Accounts as accounts
 use Rattle.spindle_trays.specs.Notices as notices
+use Rattle.spindle_trays.specs.declared.crew.Crew.{Crew}
+use Rattle.spindle_trays.specs.declared.crew.leader_post.LeaderPost.{LeaderPost}
 use Rattle.spindle_trays.specs.declared.lock.leader.Leader.{Leader}
 use Rattle.spindle_rounds.specs.declared.round_table.view.View.{View}
 use Rattle.spindle_rounds.specs.Leftovers.{IsFoundLeft, IsMarked}
 use Rattle.spindle_rounds.specs.RoundConditions.{MayFill}
 use Rattle.spindle_rounds.specs.Working.{PlayedRound, PlayedRoundOf}
 
+-- the threads of the lock in whose barrier a leader stands
+abbrev pub crew_of : {T S N : Type 0} → LeaderPost T S N → Crew
+crew_of post = post.post.tables.now.crew
+
 -- the threads of its lock
 abbrev pub threads_of : {J G L I O N S : Type 0} → Leader J G L I O N S → ℕ
-threads_of leader = leader.post.post.tables.now.crew.most
+threads_of leader = (crew_of leader.post).most
 
 -- how many of them may take part in its rounds: 1 where it works alone
 abbrev pub hands_of : {J G L I O N S : Type 0} → Leader J G L I O N S → ℕ
-hands_of leader = leader.post.post.tables.now.crew.threads
+hands_of leader = (crew_of leader.post).threads
 
 -- what its seat at the round table knows, with the trail of its own steps
 abbrev pub view_of : {J G L I O N S : Type 0} → Leader J G L I O N S → View (Unit {0})

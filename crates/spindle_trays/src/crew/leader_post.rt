@@ -48,9 +48,9 @@ impl<'a> LeaderPost<'a, Bare> {
     pub fn mark_left(&mut self, marks: &mut Vec<bool>)
         requires unmarked { (k : ℕ) → IsMarked marks.old.items k → ⊥ }
         ensures count { length marks.new.items ≡ length marks.old.items }
-        ensures left { (k : ℕ) → IsMarked marks.new.items k
-            ↔ IsFoundLeft (party_view self.new.post.barrier)
-            self.old.post.tables.now.crew.threads (length marks.old.items) k }
+        ensures left { let tables = self.old.post.tables.now in (k : ℕ) → IsMarked marks.new.items k
+            ↔ IsFoundLeft (party_view self.new.post.barrier) tables.crew.threads
+            (length marks.old.items) k }
         ensures standing { (party_view self.new.post.barrier).standing
             ≡ (party_view self.old.post.barrier).standing }
         ensures published { published_of (party_view self.new.post.barrier).trail

@@ -5,7 +5,7 @@ ghost use Rattle.std.specs.Prelude.{◌≡◌, ◌<◌, ◌≤◌, [], IfOk, IfE
 ghost use Rattle.std.specs.List.{AllZip};
 ghost use Rattle.std.specs.Fn.{FnOnceReturnsAtMut};
 ghost use Rattle.spindle_parts.specs.Pieces.{counted};
-ghost use Rattle.spindle_trays.specs.Leaders.{threads_of, hands_of, AnnouncedRest, IsBetweenRounds, MadeNoStep, PlayedOnce, LeftByRefusal};
+ghost use Rattle.spindle_trays.specs.Leaders.{crew_of, threads_of, hands_of, AnnouncedRest, IsBetweenRounds, MadeNoStep, PlayedOnce, LeftByRefusal};
 ghost use Rattle.spindle_trays.specs.Rounds.{job_count, IsRefusal};
 
 use crate::crew::leader_post::LeaderPost;
@@ -41,8 +41,8 @@ impl<'a, J: Opens<L>, G: Gate, L> Leader<'a, J, G, L> {
         runner: Runner<'a, J, G>,
         post: LeaderPost<'a, Bare>,
     ) -> Leader<'a, J, G, L>
-        ensures threads { threads_of result ≡ post.entry.post.tables.now.crew.most }
-        ensures hands { hands_of result ≡ post.entry.post.tables.now.crew.threads }
+        ensures threads { threads_of result ≡ (crew_of post.entry).most }
+        ensures hands { hands_of result ≡ (crew_of post.entry).threads }
     {
         Leader {
             workspace,

@@ -173,30 +173,25 @@ impl<J: Job> Tray<J> {
         }
     }
 
-    /// Notes what came of so many pieces, of which some are marked as left and whose places begin at `from`. These places are
-    /// empty then.
+    /// Notes what came of the piece of a number, whose place is `at`; some of the pieces are marked as left. The place is empty
+    /// then.
     pub(crate) fn tally(
         &mut self,
-        from: usize,
+        at: usize,
         pieces: &Pieces<J::In>,
         left: &[bool],
         number: usize,
-        count: usize,
         tally: &mut Tally<J::Out>,
     )
-        requires numbers { number + count ≤ pieces.now.count }
-        requires places { from + count < 2 ^ 64 }
+        requires next { number < pieces.now.count }
         requires marks { length left.now ≡ pieces.now.count }
         requires noted { IsNoted J.meets J.fails
             pieces.now.items pieces.now.count left.now number tally.old }
         ensures noted { IsNoted J.meets J.fails
-            pieces.now.items pieces.now.count left.now (number + count) tally.new }
+            pieces.now.items pieces.now.count left.now (number + 1) tally.new }
     {
-        for at in 0..count {
-            let items = pieces.piece(number + at);
-            let outputs = self.take_outputs(from + at, number + at, items);
-            tally.note::<J>(pieces, left, number + at, outputs);
-        }
+        let outputs = self.take_outputs(at, number, pieces.piece(number));
+        tally.note::<J>(pieces, left, number, outputs);
     }
 
     // Moves the outputs at a place to the end of the list, if the piece of a number with these items is there, run.

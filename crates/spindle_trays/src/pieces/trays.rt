@@ -241,14 +241,14 @@ impl<J: Job> Trays<J> {
         let each = pieces.count() / threads;
         let rest = pieces.count() % threads;
         for thread in 0..threads {
-            self.trays[thread]
-                .lock(rt)
-                .tally(0, pieces, left, each * thread, each, tally);
+            let mut tray = self.trays[thread].lock(rt);
+            for place in 0..each {
+                tray.tally(place, pieces, left, each * thread + place, tally);
+            }
         }
         for thread in 0..rest {
-            self.trays[thread]
-                .lock(rt)
-                .tally(each, pieces, left, each * threads + thread, 1, tally);
+            let mut tray = self.trays[thread].lock(rt);
+            tray.tally(each, pieces, left, each * threads + thread, tally);
         }
     }
 }

@@ -1,5 +1,5 @@
 -- One more piece has failed or not, and at the end no piece is to come.
-use Rattle.std.proofs.Common.{◌≡◌, ◌≤◌, ◌<◌, ◌+◌, ◌++◌, ◌∷◌, [], suc, drop, Any, length, slice_index_or, inl, inr, append-nil, append_assoc, refl, ap, sym, ◌∙◌, subst, rules}
+use Rattle.std.proofs.Common.{◌≡◌, ◌≤◌, ◌<◌, ◌+◌, ◌++◌, ◌∷◌, [], drop, Any, length, slice_index_or, inl, inr, append-nil, append_assoc, refl, ap, sym, ◌∙◌, subst, rules}
 use Rattle.std.proofs.lemmas.Bool.{false≢true}
 use Rattle.std.proofs.lemmas.List.{drop_more, drop_all}
 use Rattle.spindle_trays.specs.Reports.{AreFailed, HasFailed}
