@@ -1,13 +1,8 @@
 -- Lists in chunks, and the room for them.
-use Rattle.std.proofs.Common.{◌≡◌, ℕ, zero, suc, ◌+◌, ◌-◌, ◌/◌, ◌<◌, ◌≤◌, List, [], ◌∷◌, ◌++◌, length, take, drop, refl, ap, sym, subst, ◌∙◌, arith}
+use Rattle.std.proofs.Common.{◌≡◌, ℕ, zero, suc, ◌+◌, ◌-◌, ◌/◌, ◌<◌, ◌≤◌, List, [], ◌∷◌, ◌++◌, length, take, drop, refl, ap, sym, ◌∙◌, arith}
 use Rattle.std.proofs.Common.{length-append}
 use Rattle.std.proofs.lemmas.List.{drop-take, take_all}
-use Rattle.std.specs.List.{AllZip}
-use Rattle.spindle_rounds.specs.declared.round_table.pieces.Stand.{Stand}
-use Rattle.spindle_rounds.specs.declared.round_table.pieces.Stand.TheVariants as stand
-use Rattle.spindle_rounds.specs.RoundPieces.{IsAtHand}
-use Rattle.spindle_rounds.proofs.PieceClients.{one_at_hand}
-use Rattle.spindle.specs.InPlace.{HaveRoom, IsChunkOf, last_pieces}
+use Rattle.spindle.specs.InPlace.{HaveRoom, last_pieces}
 use Rattle.spindle_trays.specs.PieceRuns.{piece_start, items_before, piece_at}
 
 module _ {T : Type 0} where
@@ -44,13 +39,6 @@ room_less n [] room h = (tt {0}, h.0)
 room_less n (r ∷ rooms) room h = let more = room_less n rooms room h.1 in ((h.0, more.0), more.1)
 
 module _ {T : Type 0} where
-  -- what was found in the slot of a number is what became of the number's piece
-  pub found_chunk : (R : T → T → Type 0) (items : List T) (pieces k : ℕ) (c : List (ℕ × Stand (List T) (List T))) (y : Stand (List T) (List T)) (r : List T)
-      → IsAtHand k y c → (x : List T) × (o : List T) × (y ≡ stand.Done o) × AllZip R x o × IsChunkOf items pieces k x → IsAtHand k (stand.Done r) c
-      → AllZip R (piece_at items pieces k) r
-  found_chunk R items pieces k c y r at d found = let is : stand.Done r ≡ stand.Done d.1 = one_at_hand c k (stand.Done r) y found at ∙ d.2 in
-      let same : d.1 ≡ r = cc in subst (λ z. AllZip R z r) d.4 (subst (λ z. AllZip R d.0 z) same d.3)
-
   -- behind the last piece there is nothing
   pub all_before : (items : List T) (pieces : ℕ) → 0 < pieces → items_before items pieces pieces ≡ items
   all_before items pieces some = take_all (piece_start (length items) pieces pieces) items (omega arith)

@@ -1,5 +1,8 @@
 -- The pieces of a round in the slots of its table.
-use Rattle.std.proofs.Common.{◌≡◌, ℕ, List, ap, sym, ◌∙◌, subst, ◌≤◌, true}
+use Rattle.std.proofs.Common.{◌≡◌, ℕ, ◌+◌, ◌-◌, ◌*◌, ◌/◌, ◌%◌, ◌<◌, ◌≤◌, List, [], ◌∷◌, length, length-drop, take, drop, reverse, true, refl, ap, sym, ◌∙◌, subst, arith}
+use Rattle.std.proofs.Math.Nat.{div_self, mod_self}
+use Rattle.std.proofs.lemmas.List.{length-take, reverse-append}
+use Rattle.std.specs.List.{AllZip}
 use Rattle.atomic_table.specs.Table.{Me}
 use Rattle.spindle_rounds.specs.declared.round_table.pieces.Stand.{Stand}
 use Rattle.spindle_rounds.specs.declared.round_table.pieces.Stand.TheVariants as stand
@@ -16,27 +19,45 @@ use Rattle.spindle_rounds.proofs.PieceClients.{one_at_hand}
 use Rattle.spindle_rounds.specs.RoundSteps.{round_of}
 use Rattle.spindle_rounds.specs.RoundViews.{Onward}
 use Rattle.spindle_rounds.proofs.SlotHands.{laid_out, awaits, collected, turning_less}
-use Rattle.spindle_trays.specs.Done.{Given, Done}
-use Rattle.spindle_trays.specs.PieceRuns.{piece_at}
-use Rattle.spindle.specs.SlotRounds.{IsAnswerTo, IsPieceOf, LeadsAt, PlayedPieces}
+use Rattle.spindle_trays.specs.PieceRuns.{piece_start, piece_at}
+use Rattle.spindle.specs.declared.pieces.slot_piece.OneOr.{OneOr}
+use Rattle.spindle.specs.SlotPieces.{IsAnswerTo, IsItemOf, IsPieceOf, all_of}
+use Rattle.spindle.specs.SlotRounds.{LeadsAt, PlayedPieces}
 use Rattle.spindle_trays.specs.declared.crew.tables.Tables.{Tables}
 
 module _ {A B : Type 0} where
-  abbrev done_in : Stand (Given A) (Done A B) → Done A B → Done A B
-  done_in (stand.Done o) z = o
-  done_in _ z = z
-
-  -- what was found in the slot of a number has the inputs of the number's piece
-  pub found_inputs : (Meets : A → B → Type 0) (items : List A) (pieces k : ℕ) (c : List (ℕ × Stand (Given A) (Done A B))) (y : Stand (Given A) (Done A B))
-      (r : Done A B) → IsAtHand k y c
-      → (x : Given A) × (o : Done A B) × (y ≡ stand.Done o) × IsAnswerTo Meets x o × IsPieceOf items pieces k x → IsAtHand k (stand.Done r) c
-      → r.inputs ≡ piece_at items pieces k
-  found_inputs Meets items pieces k c y r at d found = let is : stand.Done r ≡ stand.Done d.1 = one_at_hand c k (stand.Done r) y found at ∙ d.2 in
-      ap (λ (z : Stand (Given A) (Done A B)). (done_in z r).inputs) is ∙ (d.3.1 ∙ d.4.1)
+  -- what was found in the slot of a number answers the number's piece
+  pub found_answer : (Meets : A → B → Type 0) (items : List A) (pieces k : ℕ) (c : List (ℕ × Stand (OneOr A (List A)) (OneOr B (List B))))
+      (y : Stand (OneOr A (List A)) (OneOr B (List B))) (r : OneOr B (List B)) → IsAtHand k y c
+      → (x : OneOr A (List A)) × (o : OneOr B (List B)) × (y ≡ stand.Done o) × IsAnswerTo Meets x o × IsPieceOf items pieces k x
+      → IsAtHand k (stand.Done r) c → AllZip Meets (piece_at items pieces k) (all_of r)
+  found_answer Meets items pieces k c y r at d found = let is : stand.Done r ≡ stand.Done d.1 = one_at_hand c k (stand.Done r) y found at ∙ d.2 in
+      let same : d.1 ≡ r = cc in subst (λ z. AllZip Meets z (all_of r)) d.4 (subst (λ z. AllZip Meets (all_of d.0) (all_of z)) same d.3)
 
   -- what a slot of a round that has ended holds
-  abbrev pub Held : (Meets : A → B → Type 0) (items : List A) (pieces : ℕ) → ℕ → Stand (Given A) (Done A B) → Type 0
+  abbrev pub Held : (Meets : A → B → Type 0) (items : List A) (pieces : ℕ) → ℕ → Stand (OneOr A (List A)) (OneOr B (List B)) → Type 0
   Held Meets items pieces = AnsweredAs (IsPieceOf items pieces) (IsAnswerTo Meets) pieces
+
+-- of as many pieces as items each is an item
+pub item_is_piece : {A : Type 0} (items : List A) (n k : ℕ) (piece : OneOr A (List A)) → n ≡ length items → IsItemOf items k piece → IsPieceOf items n k piece
+item_is_piece {A} items n k piece many one = let l : ℕ = length items in
+    let lt : k < l = omega (arith, ap length one.2, length-take 1 (drop k items), length-drop k items) in
+    let whole : l / l ≡ 1 = div_self (omega arith) in let none : l % l ≡ 0 = mod_self l in
+    let at : (j : ℕ) → piece_start l l j ≡ j = λ j. (let q : l / l * j ≡ 1 * j = ap (λ (m : ℕ). m * j) whole in omega (arith, q, none)) in
+    let long : piece_start l l (k + 1) - piece_start l l k ≡ 1 = omega (arith, at k, at (k + 1)) in
+    let piece_is : piece_at items l k ≡ take 1 (drop k items) = ap (λ (m : ℕ). take m (drop (piece_start l l k) items)) long
+    ∙ ap (λ (m : ℕ). take 1 (drop m items)) (at k) in
+    ap all_of one.1 ∙ (sym one.2 ∙ (sym piece_is ∙ ap (λ (m : ℕ). piece_at items m k) (sym many)))
+
+-- so the slots hold the pieces, where each holds an item
+pub items_are_pieces : {A B : Type 0} (items : List A) (n slots : ℕ) (c : List (ℕ × Stand (OneOr A (List A)) B)) → n ≡ length items
+    → Turning IsEmpty (WaitsAs (IsItemOf items)) slots n c → Turning IsEmpty (WaitsAs (IsPieceOf items n)) slots n c
+items_are_pieces items n slots c many t = turning_less IsEmpty IsEmpty (WaitsAs (IsItemOf items)) (WaitsAs (IsPieceOf items n)) slots n c t (λ k y e. e)
+    (λ k y w. (w.0, w.1, item_is_piece items n k w.0 many w.2))
+
+pub reverse_twice : {A : Type 0} (xs : List A) → reverse (reverse xs) ≡ xs
+reverse_twice [] = refl
+reverse_twice (x ∷ xs) = ap reverse (reverse-append (x ∷ []) xs) ∙ (reverse-append (reverse xs) (x ∷ []) ∙ ap (λ l. x ∷ l) (reverse_twice xs))
 
 -- a leader whose seat knows what it knew leads as it did, whatever it did at its hand
 pub still_leads : {T P A : Type 0} (tables : Tables T (Stand P A) P) (b c : Barrier T (Stand P A) P) → c.init ≡ b.init → c.sense ≡ b.sense

@@ -3,10 +3,6 @@ use Rattle.std.specs.Prelude.{◌≡◌, ℕ, zero, suc, ◌-◌, ◌+◌, ◌/�
 use Rattle.std.specs.List.{AllZip}
 use Rattle.spindle_trays.specs.PieceRuns.{piece_at}
 
--- the chunk of a number, of so many that these items are cut into, has the items of that piece
-abbrev pub IsChunkOf : {T : Type 0} → List T → (pieces : ℕ) → ℕ → List T → Type 0
-IsChunkOf items pieces number chunk = chunk ≡ piece_at items pieces number
-
 -- the last n pieces of so many, the last one first
 unfoldable pub last_pieces : {T : Type 0} → List T → (pieces n : ℕ) → List (List T)
 last_pieces items pieces zero = []

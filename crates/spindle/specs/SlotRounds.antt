@@ -1,6 +1,5 @@
 -- A round whose pieces stand in the slots of the round table.
-use Rattle.std.specs.Prelude.{◌≡◌, ℕ, List, [], true}
-use Rattle.std.specs.List.{AllZip}
+use Rattle.std.specs.Prelude.{◌≡◌, ℕ, [], true}
 use Rattle.atomic_table.specs.Table.{Me}
 use Rattle.spindle_rounds.specs.declared.barrier.Barrier.{Barrier}
 use Rattle.spindle_rounds.specs.declared.round_table.pieces.Stand.{Stand}
@@ -16,20 +15,7 @@ use Rattle.spindle_rounds.specs.SlotLoops.{HoldsEach, IsEmpty}
 use Rattle.spindle_rounds.specs.SlotSteps.{TakenOut}
 use Rattle.spindle_rounds.specs.Working.{IsIdle}
 use Rattle.spindle_trays.specs.declared.crew.tables.Tables.{Tables}
-use Rattle.spindle_trays.specs.Done.{Given, Done}
-use Rattle.spindle_trays.specs.PieceRuns.{piece_at}
 use Rattle.spindle_trays.specs.Posts.{IsAt, party_view}
-
--- a piece that was run answers the piece that was given:
--- under its number and with its inputs, which the outputs answer
-abbrev pub IsAnswerTo : {A B : Type 0} → (A → B → Type 0) → Given A → Done A B → Type 0
-IsAnswerTo Meets given done = (done.number ≡ given.number) × (done.inputs ≡ given.inputs)
-    × AllZip Meets done.inputs done.outputs
-
--- the piece of a number, of so many pieces of these items
-abbrev pub IsPieceOf : {A : Type 0} → List A → (pieces : ℕ) → ℕ → Given A → Type 0
-IsPieceOf items pieces number given = (given.number ≡ number)
-    × (given.inputs ≡ piece_at items pieces number)
 
 -- the leader of these tables between two rounds, by what its seat knows: all their slots are out
 pub record LeadsAt {T P A : Type 0} (tables : Tables T (Stand P A) P)

@@ -4,6 +4,8 @@
 pub mod chunk;
 pub mod in_place;
 pub mod in_slots;
+pub mod items;
 pub mod of_kind;
 pub mod rooms;
+pub mod slot_piece;
 pub mod store;

@@ -56,6 +56,7 @@ fn two_hundred_rounds_in_place_are_as_a_plain_loop(rt: HostRuntime) -> Result<()
     for (slots, jobs, count) in [
         (16, 16, 1000),
         (8, 16, 13),
+        (8, 16, 8),
         (4, 4, 9),
         (4, 1, 7),
         (4, 9, 0),
@@ -88,7 +89,7 @@ fn two_hundred_rounds_in_place_are_as_a_plain_loop(rt: HostRuntime) -> Result<()
 fn refused_round_in_place_leaves_the_items(rt: HostRuntime) -> Result<(), Fault> {
     let alloc = rt.alloc();
     let pool = Pool::new(4, Limits::new(), NoGate);
-    for jobs in [1, 4] {
+    for jobs in [1, 4, 7] {
         let mut list = seven_items(alloc)?;
         let mut steps = 0usize;
         for _ in 0..2 {
@@ -97,7 +98,7 @@ fn refused_round_in_place_leaves_the_items(rt: HostRuntime) -> Result<(), Fault>
                 alloc,
                 &pool,
                 4,
-                4,
+                7,
                 |leader| { leader.remake_each(&rt, alloc, jobs.max(1), &mut list) },
             );
             if let Ok(Ok(())) = played {

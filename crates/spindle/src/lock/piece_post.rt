@@ -2,6 +2,7 @@
 ghost use Rattle.std.specs.Prelude.{◌≡◌, ◌≤◌, [], OnOk, OnErr, IsErrOf, vec_capacity, length};
 ghost use Rattle.std.specs.List.{AllZip};
 ghost use denote.Param.Send.{IsSync};
+ghost use Rattle.spindle.specs.SlotPieces.{all_items, pieces_of};
 ghost use Rattle.spindle_trays.specs.SlotPosts.{view_in};
 ghost use Rattle.spindle_rounds.specs.RoundConditions.{MayFill};
 ghost use Rattle.spindle_rounds.specs.Working.{PlayedRound};
@@ -10,8 +11,10 @@ use crate::crew::slot_post::{Newcomer, SlotPost};
 use crate::crew::slot_tables::SlotTables;
 use crate::lock::sealed::HasPost;
 use crate::lock::slot_workspace::{MakesSlots, OpensSlots, SlotWorkspace};
+use crate::pieces::items::Items;
 use crate::pieces::of_kind::PieceOf;
 use crate::pieces::rooms::Rooms;
+use crate::pieces::slot_piece::{Batch, OneOr};
 use crate::work::in_slots::take_part_in_slots;
 use spindle_parts::fault::Fault;
 use spindle_rounds::round::Round;
@@ -25,8 +28,6 @@ use spindle_trays::job::Job;
 use spindle_trays::job::gate::Gate;
 use spindle_trays::job::nest::Nest;
 use spindle_trays::lock::part::TakesPart;
-use spindle_trays::pieces::ready::Ready;
-use spindle_trays::pieces::runs;
 use spindle_trays::work::runner::Runner;
 use std::alloc::Global;
 use std::sync::Wait;
@@ -41,24 +42,24 @@ pub struct PiecePost<J: Job> {
 
 /// The kinds of jobs whose leader with a post of type P plays rounds over lists of items.
 pub trait PlaysPieces<P>: OpensSlots<P> {
-    /// A round over these pieces, whose outputs are put at the end of the list. Memory is refused before the publish alone.
+    /// A round over these items, whose outputs are put at the end of the list. Memory is refused before the publish alone.
     fn play<'a, G: Gate, H: Threads + Wait + Sync>(
         rt: &H,
         alloc: Global,
         post: &mut P,
         runner: &mut Runner<'a, Self, G>,
-        pieces: &runs::Pieces<Self::In>,
+        items: &mut Items<Self::In>,
         outputs: &mut Vec<Self::Out>,
     ) -> Result<(), Fault>
         requires sync { IsSync H.row }
-        requires jobs { (2 ≤ pieces.now.count)
-            × (pieces.now.count ≤ Self.OpensSlots.slot_count post.old) }
+        requires jobs { (2 ≤ pieces_of items.old)
+            × (pieces_of items.old ≤ Self.OpensSlots.slot_count post.old) }
         requires empty { outputs.old.items ≡ [] }
-        requires room { length pieces.now.items ≤ vec_capacity outputs.old }
+        requires room { length (all_items items.old) ≤ vec_capacity outputs.old }
         ensures answered { OnOk result
-            (AllZip Self.Job.meets pieces.now.items outputs.new.items) }
+            (AllZip Self.Job.meets (all_items items.old) outputs.new.items) }
         ensures memory { OnErr result (IsErrOf result Fault.Memory) }
-        ensures played { OnOk result (PlayedRound pieces.now.count
+        ensures played { OnOk result (PlayedRound (pieces_of items.old)
             (Self.OpensSlots.view post.old) (Self.OpensSlots.view post.new)) }
         ensures left { OnErr result
             (Self.OpensSlots.view post.new ≡ Self.OpensSlots.view post.old) }
@@ -116,7 +117,7 @@ impl<J: Job> MakesSlots<PiecePost<J>, Pieces<PieceOf<J>>, SlotWorkspace<J>> for 
 }
 
 impl<J: Job> OpensSlots<PiecePost<J>> for J {
-    type Note = Ready<J>;
+    type Note = OneOr<J::In, Batch<J::In, J::Out>>;
 
     ghost view = { λ post. view_in post.post.stance };
 
@@ -137,13 +138,13 @@ impl<J: Job> PlaysPieces<PiecePost<J>> for J {
         alloc: Global,
         post: &mut PiecePost<J>,
         runner: &mut Runner<'a, J, G>,
-        pieces: &runs::Pieces<J::In>,
+        items: &mut Items<J::In>,
         outputs: &mut Vec<J::Out>,
     ) -> Result<(), Fault> {
         let mut rooms = post.rooms(alloc);
         let played = post
             .post
-            .play(rt, alloc, runner, pieces, &mut rooms, outputs);
+            .play(rt, alloc, runner, items, &mut rooms, outputs);
         post.rooms = Some(rooms);
         played
     }
@@ -162,22 +163,22 @@ impl<J: Job> PiecePost<J> {
 }
 
 impl<J: Job> SlotPost<PieceOf<J>> {
-    // Plays a round over pieces at its barrier.
+    // Plays a round over items at its barrier.
     fn play<G: Gate, H: Threads + Wait + Sync>(
         &mut self,
         rt: &H,
         alloc: Global,
         runner: &mut Runner<'_, J, G>,
-        pieces: &runs::Pieces<J::In>,
+        items: &mut Items<J::In>,
         rooms: &mut Rooms<J::Out>,
         outputs: &mut Vec<J::Out>,
     ) -> Result<(), Fault>
-        requires jobs { (2 ≤ pieces.now.count) × (pieces.now.count ≤ self.old.slots) }
+        requires jobs { (2 ≤ pieces_of items.old) × (pieces_of items.old ≤ self.old.slots) }
         requires empty { outputs.old.items ≡ [] }
-        requires room { length pieces.now.items ≤ vec_capacity outputs.old }
-        ensures answered { OnOk result (AllZip J.meets pieces.now.items outputs.new.items) }
+        requires room { length (all_items items.old) ≤ vec_capacity outputs.old }
+        ensures answered { OnOk result (AllZip J.meets (all_items items.old) outputs.new.items) }
         ensures memory { OnErr result (IsErrOf result Fault.Memory) }
-        ensures played { OnOk result (PlayedRound pieces.now.count
+        ensures played { OnOk result (PlayedRound (pieces_of items.old)
             (view_in self.old.stance) (view_in self.new.stance)) }
         ensures left { OnErr result (view_in self.new.stance ≡ view_in self.old.stance) }
         ensures slots { self.new.slots ≡ self.old.slots }
@@ -191,7 +192,7 @@ impl<J: Job> SlotPost<PieceOf<J>> {
             tables,
             slots: self.slots,
         };
-        let played = table.play(rt, alloc, &mut barrier, runner, pieces, rooms, outputs);
+        let played = table.play(rt, alloc, &mut barrier, runner, items, rooms, outputs);
         self.stance = Some(barrier.part());
         played
     }

@@ -14,6 +14,7 @@ use crate::lock::sealed::HasPost;
 use crate::lock::slot_workspace::{MakesSlots, OpensSlots, SlotWorkspace};
 use crate::pieces::chunk::Chunk;
 use crate::pieces::of_kind::ChunkOf;
+use crate::pieces::slot_piece::OneOr;
 use crate::pieces::store::Store;
 use crate::work::in_place::{remake_chunk, take_part_in_place};
 use spindle_parts::fault::Fault;
@@ -106,7 +107,7 @@ impl<J: Remakes> TakesPart<J, Pieces<ChunkOf<J>>> for SlotWorkspace<J> {
 }
 
 impl<J: Remakes> OpensSlots<PlacePost<J>> for J {
-    type Note = Chunk<J::Item>;
+    type Note = OneOr<J::Item, Chunk<J::Item>>;
 
     ghost view = { λ post. view_in post.post.stance };
 
@@ -156,7 +157,9 @@ impl<J: Remakes> PlaysInPlace<PlacePost<J>> for J {
         items: &mut Vec<J::Item>,
     ) -> Result<(), Fault> {
         let mut store = post.room(alloc);
-        store.prepare(alloc, items.len(), jobs)?;
+        if jobs < items.len() {
+            store.prepare(alloc, items.len(), jobs)?;
+        }
         post.post.remake(rt, alloc, runner, &mut store, jobs, items);
         post.store = Some(store);
         Ok(())
@@ -204,8 +207,8 @@ impl<J: Remakes> SlotPost<ChunkOf<J>> {
         items: &mut Vec<J::Item>,
     )
         requires jobs { (2 ≤ jobs) × (jobs ≤ vec_len items.old) × (jobs ≤ self.old.slots) }
-        requires ready { IsReady (vec_len items.old) jobs store.old.ready.items
-            store.old.chunks.items (vec_capacity store.old.chunks) }
+        requires ready { jobs < vec_len items.old → IsReady (vec_len items.old) jobs
+            store.old.ready.items store.old.chunks.items (vec_capacity store.old.chunks) }
         ensures remade { AllZip J.remade items.old.items items.new.items }
         ensures played { PlayedRound jobs (view_in self.old.stance) (view_in self.new.stance) }
         ensures slots { self.new.slots ≡ self.old.slots }

@@ -10,11 +10,10 @@ ghost use Rattle.spindle.specs.SlotLeaders.{threads_of, slots_of, slot_jobs, IsA
 
 use crate::lock::piece_post::PlaysPieces;
 use crate::lock::slot_leader::SlotLeader;
-use spindle_lists::shared::SharedList;
+use crate::pieces::items::Items;
 use spindle_parts::fault::Fault;
 use spindle_trays::job::gate::Gate;
 use spindle_trays::lock::rounds::Rounds;
-use spindle_trays::pieces::runs::Pieces;
 use std::alloc::Global;
 use std::mem;
 use std::sync::Wait;
@@ -85,9 +84,9 @@ impl<'a, J: PlaysPieces<P>, G: Gate, P> SlotLeader<'a, J, G, P> {
             let inputs = items.as_slice();
             self.runner.run(rt, alloc, 0, None, inputs, outputs);
         } else {
-            let pieces = Pieces::new(SharedList::from_vec(alloc, items)?, jobs);
+            let mut items = Items::new(alloc, items, jobs)?;
             let (runner, post) = (&mut self.runner, &mut self.post);
-            if let Err(fault) = J::play(rt, alloc, post, runner, &pieces, outputs) {
+            if let Err(fault) = J::play(rt, alloc, post, runner, &mut items, outputs) {
                 outputs.clear();
                 return Err(fault);
             }

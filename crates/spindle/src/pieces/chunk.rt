@@ -3,7 +3,9 @@
 //! The items stand in reverse, so that they are taken from the end in their order, and what becomes of each goes to the end of the
 //! other list. Both lists keep their room from round to round.
 ghost use Rattle.std.specs.Prelude.{◌≡◌, ◌-◌, ◌+◌, ◌≤◌, ◌++◌, [], take, drop, reverse, true, OnOk, OnErr, IsErrOf, length, vec_len, vec_capacity};
+ghost use Rattle.spindle.specs.SlotPieces.{all_of};
 
+use crate::pieces::slot_piece::OneOr;
 use spindle_parts::fault::Fault;
 use std::alloc::Global;
 use std::marker::Model;
@@ -132,5 +134,22 @@ impl<T> Remade<T> {
         let Remade { todo, mut done } = self;
         items.append(&mut done).unwrap();
         Room { todo, done }
+    }
+}
+
+impl<T> OneOr<T, Remade<T>> {
+    /// Moves what became of the items to the end of the list. Of a chunk its room is left.
+    pub(crate) fn unload(self, items: &mut Vec<T>) -> Option<Room<T>>
+        requires room { vec_len items.old + length (all_of self) ≤ vec_capacity items.old }
+        ensures items { items.new.items ≡ items.old.items ++ all_of self }
+        ensures block { vec_capacity items.old ≤ vec_capacity items.new }
+    {
+        match self {
+            OneOr::One(item) => {
+                items.push_reserved(item);
+                None
+            }
+            OneOr::Many(remade) => Some(remade.unload(items)),
+        }
     }
 }

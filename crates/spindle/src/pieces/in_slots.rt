@@ -1,40 +1,85 @@
-//! The pieces of a round in the slots of its table: the leader puts each into its slot, and after the round takes the outputs of
-//! each out of it.
-//!
-//! That each slot holds the answer to its piece follows from the table's rule. Nothing is looked for, and nothing compared.
-ghost use Rattle.std.specs.Prelude.{◌≡◌, ◌<◌, ◌≤◌, [], length, vec_capacity, IfOk, OnOk, OnErr, IsErrOf};
-ghost use Rattle.std.specs.List.{AllZip};
-ghost use Rattle.spindle_rounds.specs.Seating.{IsSeatAt, IsSameSeat, HasSlots, slots_of};
-ghost use Rattle.spindle_rounds.specs.SlotHands.{AnsweredAs, WaitsAs};
+//! The items of a round on their way into the slots of its table: the leader puts each piece into the slot of its number.
+ghost use Rattle.std.specs.Prelude.{◌≡◌, ◌<◌, ◌≤◌, [], IfOk, OnOk, OnErr, IsErrOf, vec_len, vec_capacity};
+ghost use Rattle.spindle_rounds.specs.Seating.{IsSeatAt, IsSameSeat};
+ghost use Rattle.spindle_rounds.specs.SlotHands.{WaitsAs};
 ghost use Rattle.spindle_rounds.specs.SlotLoops.{HoldsEach, IsEmpty, Turning};
-ghost use Rattle.spindle.specs.SlotRounds.{IsAnswerTo, IsPieceOf};
+ghost use Rattle.spindle.specs.SlotPieces.{IsItemOf, IsPieceOf, all_items, pieces_of};
 
 use crate::crew::slot_tables::SlotTables;
+use crate::pieces::items::Items;
 use crate::pieces::of_kind::PieceOf;
 use crate::pieces::rooms::Rooms;
+use crate::pieces::slot_piece::{Batch, OneOr};
 use spindle_parts::fault::Fault;
 use spindle_rounds::round_table::Seat;
-use spindle_rounds::round_table::pieces::Pieces;
+use spindle_rounds::round_table::pieces::{Answers, Pieces};
 use spindle_trays::job::Job;
-use spindle_trays::pieces::ready::Ready;
 use spindle_trays::pieces::runs;
 use std::alloc::{AllocError, Global};
 
 // The piece of a number, with this room for its outputs.
-fn ready<J: Job>(
-    pieces: &runs::Pieces<J::In>,
+fn batch<T: Drop, U: Drop>(
+    pieces: &runs::Pieces<T>,
     number: usize,
-    room: Vec<J::Out>,
-) -> Result<Ready<J>, AllocError>
+    room: Vec<U>,
+) -> Result<OneOr<T, Batch<T, U>>, AllocError>
     requires { number < pieces.now.count }
     ensures { IfOk result (IsPieceOf pieces.now.items pieces.now.count number) }
 {
-    Ready::new(number, pieces.run(number)?, room)
+    Ok(OneOr::Many(Batch::new(pieces.run(number)?, room)?))
+}
+
+impl<'t, T: Drop, M: Drop, A: Answers<Piece = OneOr<T, M>>> SlotTables<'t, Pieces<A>> {
+    /// Puts each item into a slot of its own, in order. The list keeps its room.
+    pub(crate) fn fill_each(&self, seat: &mut Seat<Pieces<A>>, items: &mut Vec<T>)
+        requires seated { IsSeatAt self.now.tables.now.round.init seat.old }
+        requires held { HoldsEach IsEmpty self.now.slots seat.old.me.1 }
+        requires few { vec_len items.old ≤ self.now.slots }
+        ensures seat { IsSameSeat seat.old seat.new × (seat.new.me.0 ≡ seat.old.me.0) }
+        ensures put { Turning IsEmpty (WaitsAs (IsItemOf items.old.items))
+            self.now.slots (vec_len items.old) seat.new.me.1 }
+        ensures items { (items.new.items ≡ [])
+            × (vec_capacity items.new ≡ vec_capacity items.old) }
+    {
+        items.reverse();
+        for slot in 0..items.len() {
+            let item = items.take_last();
+            self.tables.round.put_piece(seat, slot, OneOr::One(item));
+        }
+    }
 }
 
 impl<'t, J: Job> SlotTables<'t, Pieces<PieceOf<J>>> {
-    /// Puts each piece into the slot of its number, with the room that is kept for it. After a refusal all slots are empty.
+    /// Puts each piece of the items into the slot of its number: a sole item itself, a run with the room that is kept for its outputs.
+    /// After a refusal all slots are empty.
     pub(crate) fn fill(
+        &self,
+        alloc: Global,
+        seat: &mut Seat<Pieces<PieceOf<J>>>,
+        items: &mut Items<J::In>,
+        rooms: &mut Rooms<J::Out>,
+    ) -> Result<(), Fault>
+        requires seated { IsSeatAt self.now.tables.now.round.init seat.old }
+        requires held { HoldsEach IsEmpty self.now.slots seat.old.me.1 }
+        requires few { pieces_of items.old ≤ self.now.slots }
+        ensures seat { IsSameSeat seat.old seat.new × (seat.new.me.0 ≡ seat.old.me.0) }
+        ensures put { OnOk result
+            (Turning IsEmpty (WaitsAs (IsPieceOf (all_items items.old) (pieces_of items.old)))
+            self.now.slots (pieces_of items.old) seat.new.me.1) }
+        ensures empty { OnErr result (HoldsEach IsEmpty self.now.slots seat.new.me.1) }
+        ensures memory { OnErr result (IsErrOf result Fault.Memory) }
+    {
+        match items {
+            Items::Each(items) => {
+                self.fill_each(seat, items);
+                Ok(())
+            }
+            Items::Runs(pieces) => self.fill_runs(alloc, seat, pieces, rooms),
+        }
+    }
+
+    // Puts the runs into slots, in order, each with the room that is kept for its outputs.
+    fn fill_runs(
         &self,
         alloc: Global,
         seat: &mut Seat<Pieces<PieceOf<J>>>,
@@ -55,7 +100,7 @@ impl<'t, J: Job> SlotTables<'t, Pieces<PieceOf<J>>> {
         let round = &self.tables.round;
         for slot in 0..pieces.count() {
             let room = rooms.take(alloc, slot);
-            let Ok(piece) = ready(pieces, slot, room) else {
+            let Ok(piece) = batch(pieces, slot, room) else {
                 round.turn_slots(seat, slot, self.slots);
                 round.empty_slots(seat, self.slots);
                 return Err(Fault::Memory);
@@ -63,33 +108,5 @@ impl<'t, J: Job> SlotTables<'t, Pieces<PieceOf<J>>> {
             round.put_piece(seat, slot, piece);
         }
         Ok(())
-    }
-
-    /// Moves the outputs of the pieces out of their slots to the end of the list, in order, and leaves all slots empty. The rooms
-    /// of the outputs are kept.
-    pub(crate) fn collect(
-        &self,
-        seat: &mut Seat<Pieces<PieceOf<J>>>,
-        pieces: &runs::Pieces<J::In>,
-        rooms: &mut Rooms<J::Out>,
-        outputs: &mut Vec<J::Out>,
-    )
-        requires seated { IsSeatAt self.now.tables.now.round.init seat.old }
-        requires held { HoldsEach (AnsweredAs (IsPieceOf pieces.now.items pieces.now.count)
-            (IsAnswerTo J.meets) pieces.now.count) self.now.slots seat.old.me.1 }
-        requires few { pieces.now.count ≤ self.now.slots }
-        requires empty { outputs.old.items ≡ [] }
-        requires room { length pieces.now.items ≤ vec_capacity outputs.old }
-        ensures seat { IsSameSeat seat.old seat.new × (seat.new.me.0 ≡ seat.old.me.0) }
-        ensures held { HoldsEach IsEmpty self.now.slots seat.new.me.1 }
-        ensures answered { AllZip J.meets pieces.now.items outputs.new.items }
-    {
-        let round = &self.tables.round;
-        for slot in 0..pieces.count() {
-            let mut finished = round.take_answer(seat, slot);
-            finished.move_outputs(outputs);
-            rooms.keep(slot, finished.into_outputs());
-        }
-        round.turn_slots(seat, pieces.count(), self.slots);
     }
 }

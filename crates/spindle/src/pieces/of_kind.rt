@@ -1,25 +1,22 @@
 //! The pieces of a lock with slots, and what answers one.
-ghost use Rattle.std.specs.List.{AllZip};
-ghost use Rattle.spindle.specs.SlotRounds.{IsAnswerTo};
+ghost use Rattle.spindle.specs.SlotPieces.{IsAnswerTo};
 
 use crate::job::remake::Remakes;
 use crate::pieces::chunk::{Chunk, Remade};
+use crate::pieces::slot_piece::{Batch, OneOr, Outputs};
 use spindle_rounds::round_table::pieces::Answers;
 use spindle_trays::job::Job;
-use spindle_trays::pieces::finished::Finished;
-use spindle_trays::pieces::ready::Ready;
 use std::marker::PhantomData;
 
-/// A piece of a kind of job is answered by the same piece, run: under its number, with its inputs, and with an output for each
-/// of them that meets the job's relation.
+/// A piece of a kind of job is answered by an output for each of its items that meets the job's relation.
 pub struct PieceOf<J: Job> {
     kind: PhantomData<J>,
 }
 
 impl<J: Job> Answers for PieceOf<J> {
-    type Piece = Ready<J>;
+    type Piece = OneOr<J::In, Batch<J::In, J::Out>>;
 
-    type Answer = Finished<J>;
+    type Answer = OneOr<J::Out, Outputs<J::Out>>;
 
     ghost answers = { IsAnswerTo J.meets };
 }
@@ -30,9 +27,9 @@ pub struct ChunkOf<J: Remakes> {
 }
 
 impl<J: Remakes> Answers for ChunkOf<J> {
-    type Piece = Chunk<J::Item>;
+    type Piece = OneOr<J::Item, Chunk<J::Item>>;
 
-    type Answer = Remade<J::Item>;
+    type Answer = OneOr<J::Item, Remade<J::Item>>;
 
-    ghost answers = { AllZip J.remade };
+    ghost answers = { IsAnswerTo J.remade };
 }

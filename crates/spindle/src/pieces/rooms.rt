@@ -34,9 +34,11 @@ impl<T: Drop> Rooms<T> {
         }
     }
 
-    /// Keeps the room of a slot.
-    pub(crate) fn keep(&mut self, slot: usize, room: Vec<T>) {
-        if let Some(place) = self.lists.get_mut(slot) {
+    /// Keeps the room of a slot, where its piece had any.
+    pub(crate) fn keep(&mut self, slot: usize, room: Option<Vec<T>>) {
+        if let Some(room) = room
+            && let Some(place) = self.lists.get_mut(slot)
+        {
             *place = room;
         }
     }

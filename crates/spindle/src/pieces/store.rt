@@ -99,10 +99,12 @@ impl<T: Drop> Store<T> {
         let _ = self.spare.push(room);
     }
 
-    /// Keeps the room of the next chunk of a round, ready for the chunk of that number in the next round. Where there is no memory
-    /// to keep it in, it goes.
-    pub(crate) fn keep_ready(&mut self, room: Room<T>) {
-        let _ = self.ready.push(room);
+    /// Keeps the room of the next chunk of a round, if there is any, ready for the chunk of that number in the next round. Where
+    /// there is no memory to keep it in, it goes.
+    pub(crate) fn keep_ready(&mut self, room: Option<Room<T>>) {
+        if let Some(room) = room {
+            let _ = self.ready.push(room);
+        }
     }
 }
 

@@ -8,12 +8,14 @@ ghost use Rattle.spindle_rounds.specs.Seating.{IsSameSeat};
 ghost use Rattle.spindle_rounds.specs.Holding.{Keeps};
 ghost use Rattle.spindle_rounds.specs.Working.{OnTask, PlayedRound};
 ghost use Rattle.spindle.specs.InPlace.{IsReady};
+ghost use Rattle.spindle.specs.SlotPieces.{IsAnswerTo};
 ghost use Rattle.spindle.specs.SlotRounds.{LeadsIn};
 
 use crate::crew::slot_tables::SlotTables;
 use crate::job::remake::Remakes;
 use crate::pieces::chunk::{Chunk, Remade};
 use crate::pieces::of_kind::ChunkOf;
+use crate::pieces::slot_piece::OneOr;
 use crate::pieces::store::Store;
 use spindle_rounds::barrier::Barrier;
 use spindle_rounds::round::claim::Claimed;
@@ -66,8 +68,8 @@ pub(crate) fn take_part_in_place<J: Remakes, G: Gate, H: Threads + Wait + Sync>(
 }
 
 impl<'t, J: Remakes> SlotTables<'t, Pieces<ChunkOf<J>>> {
-    /// A leader's round in place, for which all room is ready: the items go into the slots, are remade, and come out of the slots,
-    /// in order.
+    /// A leader's round in place, for which all room is ready that it needs: the items go into the slots, are remade, and come out of
+    /// the slots, in order.
     pub(crate) fn remake<G: Gate, H: Threads + Wait + Sync>(
         &self,
         rt: &H,
@@ -81,8 +83,8 @@ impl<'t, J: Remakes> SlotTables<'t, Pieces<ChunkOf<J>>> {
         requires leads { LeadsIn self.now.tables.now barrier.old }
         requires counted { (2 ≤ jobs) × (jobs ≤ 4294967295) × (jobs ≤ self.now.slots)
             × (jobs ≤ vec_len items.old) }
-        requires ready { IsReady (vec_len items.old) jobs store.old.ready.items
-            store.old.chunks.items (vec_capacity store.old.chunks) }
+        requires ready { jobs < vec_len items.old → IsReady (vec_len items.old) jobs
+            store.old.ready.items store.old.chunks.items (vec_capacity store.old.chunks) }
         ensures leads { LeadsIn self.now.tables.now barrier.new }
         ensures same { Keeps barrier.old barrier.new }
         ensures remade { AllZip J.remade items.old.items items.new.items }
@@ -98,8 +100,8 @@ impl<'t, J: Remakes> SlotTables<'t, Pieces<ChunkOf<J>>> {
         };
         self.play_held(rt, barrier, jobs as u64, work);
         for slot in 0..jobs {
-            let remade = round.take_answer(&mut barrier.seat, slot);
-            store.keep_ready(remade.unload(items));
+            let answer = round.take_answer(&mut barrier.seat, slot);
+            store.keep_ready(answer.unload(items));
         }
         round.turn_slots(&mut barrier.seat, jobs, self.slots);
     }
@@ -117,16 +119,59 @@ impl<'r, 'a, J: Remakes, G: Gate> Work<Pieces<ChunkOf<J>>> for PlaceWork<'r, 'a,
         seat: &mut Seat<Pieces<ChunkOf<J>>>,
         claimed: Claimed,
     ) {
-        let chunk = party.round.take_piece(seat, &claimed);
-        let index = self.runner.site.index;
-        let number = claimed.number() as usize;
-        let remade = remake_chunk(rt, self.alloc, self.runner, number, index, chunk);
-        party.round.finish_taken(seat, claimed, remade);
+        let piece = party.round.take_piece(seat, &claimed);
+        let answer = self.remake_piece(rt, claimed.number() as usize, piece);
+        party.round.finish_taken(seat, claimed, answer);
     }
 
     ghost keeps_same = { λ work. refl };
 
     ghost keeps_then = { λ old then new a b. b ∙ a };
+}
+
+impl<'r, 'a, J: Remakes, G: Gate> PlaceWork<'r, 'a, J, G> {
+    // Remakes the piece of a number.
+    fn remake_piece<H: Threads + Wait + Sync>(
+        &mut self,
+        rt: &H,
+        number: usize,
+        piece: OneOr<J::Item, Chunk<J::Item>>,
+    ) -> OneOr<J::Item, Remade<J::Item>>
+        ensures answers { IsAnswerTo J.remade piece result }
+        ensures leads { self.new.leads ≡ self.old.leads }
+    {
+        let (alloc, index) = (self.alloc, self.runner.site.index);
+        match piece {
+            OneOr::One(item) => {
+                OneOr::One(remake_one(rt, alloc, self.runner, number, index, item))
+            }
+            OneOr::Many(chunk) => {
+                OneOr::Many(remake_chunk(rt, alloc, self.runner, number, index, chunk))
+            }
+        }
+    }
+}
+
+// Remakes an item, between the two calls of the gate.
+fn remake_one<J: Remakes, G: Gate, H: Threads + Wait + Sync>(
+    rt: &H,
+    alloc: Global,
+    runner: &mut Runner<'_, J, G>,
+    number: usize,
+    index: Option<usize>,
+    item: J::Item,
+) -> J::Item
+    requires index { ForSome index (λ i. i < runner.old.site.crew.most) }
+    ensures remade { J.remade item result }
+    ensures site { runner.new.site ≡ runner.old.site }
+{
+    let site = runner.site.under(index);
+    let notices = runner.notices.another();
+    let mut context = JobCx::new(Some(runner.slots), notices, site);
+    runner.gate.begun(number);
+    let remade = J::remake(rt, alloc, &mut Some(item), &mut context);
+    runner.gate.done(number);
+    remade
 }
 
 /// Remakes the items of a chunk, between the two calls of the gate.

@@ -7,11 +7,14 @@ ghost use Rattle.spindle_rounds.specs.Seating.{IsSameSeat};
 ghost use Rattle.spindle_rounds.specs.Holding.{Keeps};
 ghost use Rattle.spindle_rounds.specs.Working.{OnTask, PlayedRound};
 ghost use Rattle.spindle_rounds.specs.SlotLoops.{IsEmpty, IsPiece, Turning};
-ghost use Rattle.spindle.specs.SlotRounds.{IsAnswerTo, LeadsAt, LeadsIn, PlayedPieces};
+ghost use Rattle.spindle.specs.SlotPieces.{IsAnswerTo, all_items, pieces_of};
+ghost use Rattle.spindle.specs.SlotRounds.{LeadsAt, LeadsIn, PlayedPieces};
 
 use crate::crew::slot_tables::SlotTables;
+use crate::pieces::items::Items;
 use crate::pieces::of_kind::PieceOf;
 use crate::pieces::rooms::Rooms;
+use crate::pieces::slot_piece::{Batch, OneOr, Outputs};
 use spindle_parts::fault::Fault;
 use spindle_rounds::barrier::Barrier;
 use spindle_rounds::round::claim::Claimed;
@@ -23,9 +26,6 @@ use spindle_trays::crew::phases::end_round;
 use spindle_trays::crew::post::Post;
 use spindle_trays::job::Job;
 use spindle_trays::job::gate::Gate;
-use spindle_trays::pieces::finished::Finished;
-use spindle_trays::pieces::ready::Ready;
-use spindle_trays::pieces::runs;
 use spindle_trays::work::runner::Runner;
 use std::alloc::Global;
 use std::sync::Wait;
@@ -108,41 +108,46 @@ impl<'t, A: Answers> SlotTables<'t, Pieces<A>> {
 }
 
 impl<'t, J: Job> SlotTables<'t, Pieces<PieceOf<J>>> {
-    /// A leader's round: the pieces go into the slots, are played, and their outputs come out of the slots, in order. Memory is
-    /// refused before the publish alone.
+    /// A leader's round: the pieces of the items go into the slots, are played, and their outputs come out of the slots, in order.
+    /// Memory is refused before the publish alone.
     pub(crate) fn play<G: Gate, H: Threads + Wait + Sync>(
         &self,
         rt: &H,
         alloc: Global,
         barrier: &mut Barrier<'_, Pieces<PieceOf<J>>>,
         runner: &mut Runner<'_, J, G>,
-        pieces: &runs::Pieces<J::In>,
+        items: &mut Items<J::In>,
         rooms: &mut Rooms<J::Out>,
         outputs: &mut Vec<J::Out>,
     ) -> Result<(), Fault>
         requires leads { LeadsIn self.now.tables.now barrier.old }
-        requires counted { (2 ≤ pieces.now.count) × (pieces.now.count ≤ 4294967295) }
-        requires few { pieces.now.count ≤ self.now.slots }
+        requires counted { (2 ≤ pieces_of items.old) × (pieces_of items.old ≤ 4294967295) }
+        requires few { pieces_of items.old ≤ self.now.slots }
         requires empty { outputs.old.items ≡ [] }
-        requires room { length pieces.now.items ≤ vec_capacity outputs.old }
+        requires room { length (all_items items.old) ≤ vec_capacity outputs.old }
         ensures leads { LeadsIn self.now.tables.now barrier.new }
         ensures same { Keeps barrier.old barrier.new }
-        ensures answered { OnOk result (AllZip J.meets pieces.now.items outputs.new.items) }
+        ensures answered { OnOk result (AllZip J.meets (all_items items.old) outputs.new.items) }
         ensures played { OnOk result
-            (PlayedRound pieces.now.count barrier.old.seat.me.0 barrier.new.seat.me.0) }
+            (PlayedRound (pieces_of items.old) barrier.old.seat.me.0 barrier.new.seat.me.0) }
         ensures left { OnErr result (barrier.new.seat.me.0 ≡ barrier.old.seat.me.0) }
         ensures memory { OnErr result (IsErrOf result Fault.Memory) }
     {
-        self.fill(alloc, &mut barrier.seat, pieces, rooms)?;
+        let pieces = items.pieces();
+        self.fill(alloc, &mut barrier.seat, items, rooms)?;
         runner.notices.end_rest();
         let work = SlotWork {
             runner,
             alloc,
             leads: true,
         };
-        let jobs = pieces.count() as u64;
-        self.play_held(rt, barrier, jobs, work);
-        self.collect(&mut barrier.seat, pieces, rooms, outputs);
+        self.play_held(rt, barrier, pieces as u64, work);
+        let round = &self.tables.round;
+        for slot in 0..pieces {
+            let answer = round.take_answer(&mut barrier.seat, slot);
+            rooms.keep(slot, answer.unload(outputs));
+        }
+        round.turn_slots(&mut barrier.seat, pieces, self.slots);
         Ok(())
     }
 }
@@ -160,8 +165,8 @@ impl<'r, 'a, J: Job, G: Gate> Work<Pieces<PieceOf<J>>> for SlotWork<'r, 'a, J, G
         claimed: Claimed,
     ) {
         let piece = party.round.take_piece(seat, &claimed);
-        let finished = self.run_piece(rt, piece);
-        party.round.finish_taken(seat, claimed, finished);
+        let answer = self.run_piece(rt, claimed.number() as usize, piece);
+        party.round.finish_taken(seat, claimed, answer);
     }
 
     ghost keeps_same = { λ work. refl };
@@ -170,17 +175,26 @@ impl<'r, 'a, J: Job, G: Gate> Work<Pieces<PieceOf<J>>> for SlotWork<'r, 'a, J, G
 }
 
 impl<'r, 'a, J: Job, G: Gate> SlotWork<'r, 'a, J, G> {
-    // Runs a piece.
-    fn run_piece<H: Threads + Wait + Sync>(&mut self, rt: &H, piece: Ready<J>) -> Finished<J>
+    // Runs the piece of a number.
+    fn run_piece<H: Threads + Wait + Sync>(
+        &mut self,
+        rt: &H,
+        number: usize,
+        piece: OneOr<J::In, Batch<J::In, J::Out>>,
+    ) -> OneOr<J::Out, Outputs<J::Out>>
         ensures answers { IsAnswerTo J.meets piece result }
         ensures leads { self.new.leads ≡ self.old.leads }
     {
-        let number = piece.number();
-        let (inputs, mut outputs) = piece.into_parts();
-        let index = self.runner.site.index;
-        let items = inputs.as_slice();
-        self.runner
-            .run(rt, self.alloc, number, index, items, &mut outputs);
-        Finished::new(number, inputs, outputs)
+        let (alloc, index) = (self.alloc, self.runner.site.index);
+        match piece {
+            OneOr::One(item) => OneOr::One(self.runner.run_one(rt, alloc, number, index, &item)),
+            OneOr::Many(batch) => {
+                let (inputs, mut outputs) = batch.into_parts();
+                let items = inputs.as_slice();
+                self.runner
+                    .run(rt, alloc, number, index, items, &mut outputs);
+                OneOr::Many(Outputs::new(outputs))
+            }
+        }
     }
 }

@@ -64,6 +64,28 @@ impl<'a, J: Job, G: Gate> Runner<'a, J, G> {
         run_each::<J, H>(rt, alloc, items, &mut context, outputs);
         self.gate.done(number);
     }
+
+    /// Runs a job of one item, and answers its output.
+    pub fn run_one<H: Threads + Wait + Sync>(
+        &mut self,
+        rt: &H,
+        alloc: Global,
+        number: usize,
+        index: Option<usize>,
+        item: &J::In,
+    ) -> J::Out
+        requires index { ForSome index (λ i. i < self.old.site.crew.most) }
+        ensures answered { J.meets item.now result }
+        ensures site { self.new.site ≡ self.old.site }
+    {
+        let site = self.site.under(index);
+        let notices = self.notices.another();
+        let mut context = JobCx::new(Some(self.slots), notices, site);
+        self.gate.begun(number);
+        let output = J::run(rt, alloc, item, &mut context);
+        self.gate.done(number);
+        output
+    }
 }
 
 /// Runs the items one after the other, and puts their outputs at the end of the list.

@@ -3,13 +3,14 @@ use Rattle.std.proofs.Common.{◌≡◌, ◌-◌}
 use Rattle.spindle_rounds.specs.Seating.{IsSameSeat}
 use Rattle.spindle_rounds.specs.SlotHands.{WaitsAs}
 use Rattle.spindle_rounds.specs.SlotLoops.{IsEmpty, Turning}
-use Rattle.spindle.specs.InPlace.{IsChunkOf, last_pieces}
+use Rattle.spindle.specs.InPlace.{last_pieces}
+use Rattle.spindle.specs.SlotPieces.{IsPieceOf}
 use Rattle.spindle.proofs.pieces.in_place.SlotTables+Pieces+ChunkOf+J.fill_in_place.Given as goal
 
 abbrev pub invariant-loop-slot : goal.invariant-loop-slot
 invariant-loop-slot g l = record {
   seat : IsSameSeat l.fn.seat l.seat;
   view : l.seat.me.0 ≡ l.fn.seat.me.0;
-  hand : Turning IsEmpty (WaitsAs (IsChunkOf l.fn.items.items l.jobs)) l.self.slots l.slot l.seat.me.1;
+  hand : Turning IsEmpty (WaitsAs (IsPieceOf l.fn.items.items l.jobs)) l.self.slots l.slot l.seat.me.1;
   chunks : l.store.chunks.items ≡ last_pieces l.fn.items.items l.jobs (l.jobs - l.slot);
 }

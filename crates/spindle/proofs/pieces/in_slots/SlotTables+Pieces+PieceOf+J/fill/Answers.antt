@@ -1,32 +1,14 @@
--- Each turn puts a piece into the slot at the hand; where one is refused, all slots are emptied.
-use Rattle.std.proofs.Common.{◌+◌, refl, ap, ◌∙◌, sym, subst, arith}
-use Rattle.spindle_rounds.specs.RoundPieces.{IsAtHand}
+-- Where each item is a piece, the slots hold the pieces.
+use Rattle.std.proofs.Common.{ℕ, length, refl, sym, subst}
 use Rattle.spindle_rounds.specs.SlotHands.{WaitsAs}
-use Rattle.spindle_rounds.specs.SlotLoops.{IsAny, IsEmpty, HoldsEach, Turning}
-use Rattle.spindle_rounds.proofs.SlotHands.{settled}
-use Rattle.spindle_rounds.proofs.SlotLoops.{turning_first, turning_head, turning_next}
-use Rattle.spindle.specs.SlotRounds.{IsPieceOf}
+use Rattle.spindle_rounds.specs.SlotLoops.{IsEmpty, Turning}
+use Rattle.spindle.specs.SlotPieces.{IsItemOf, IsPieceOf, all_items, pieces_of}
+use Rattle.spindle.proofs.SlotRounds.{items_are_pieces}
 use Rattle.spindle.proofs.pieces.in_slots.SlotTables+Pieces+PieceOf+J.fill.Goals as goal
 
-pub loop-slot-init : goal.loop-slot-init
-loop-slot-init g c = let p = c.args.pieces.now in
-    record { seat = (refl, refl); view = refl; hand = turning_first IsEmpty (WaitsAs (IsPieceOf p.items p.count)) c.args.self.now.slots _ c.requires.held }
-
-pub put_piece-requires-clause-head : goal.put_piece-requires-clause-head
-put_piece-requires-clause-head g c = let few = c.requires.few in let p = c.args.pieces.now in
-    let h = turning_head IsEmpty (WaitsAs (IsPieceOf p.items p.count)) c.args.self.now.slots c.loop-slot.slot _ c.loop-slot.invariant.hand (omega arith) in
-    subst (λ y. IsAtHand c.loop-slot.slot y c.loop-slot.seat.me.1) h.2 h.1
-
-pub loop-slot-preserved : goal.loop-slot-preserved
-loop-slot-preserved g c = let i = c.loop-slot.invariant in let e = c.put_piece.ensures in let few = c.requires.few in let p = c.args.pieces.now in record {
-  seat = (e.seat.0 ∙ i.seat.0, e.seat.1 ∙ i.seat.1);
-  view = ap (λ m. m.0) e.behind ∙ i.view;
-  hand = subst (λ m. Turning IsEmpty (WaitsAs (IsPieceOf p.items p.count)) c.args.self.now.slots (c.loop-slot.slot + 1) m.1) (sym e.behind)
-      (turning_next IsEmpty (WaitsAs (IsPieceOf p.items p.count)) c.args.self.now.slots c.loop-slot.slot _ _ i.hand (omega arith) (_, refl, c.in-Ok.ensures));
-}
-
-pub empty_slots-requires-clause-held : goal.empty_slots-requires-clause-held
-empty_slots-requires-clause-held g c = let p = c.args.pieces.now in let few = c.requires.few in
-    subst (λ m. HoldsEach IsAny c.args.self.now.slots m.1) (sym c.turn_slots.ensures.turned)
-    (settled IsEmpty (WaitsAs (IsPieceOf p.items p.count)) IsAny c.args.self.now.slots c.loop-slot.slot c.loop-slot.seat.me.1 c.loop-slot.invariant.hand
-    (λ k y le e. tt {0}) (λ k y lt w. tt {0}))
+pub returns-in-Each-clause-put : goal.returns-in-Each-clause-put
+returns-in-Each-clause-put g c = let q = c.in-Each.items in let n : ℕ = length q.items in let s : ℕ = c.args.self.now.slots in
+    let hand = c.fill_each.new.seat.me.1 in
+    let each = subst (λ (k : ℕ). Turning IsEmpty (WaitsAs (IsItemOf q.items)) s k hand) q.ok.0 c.fill_each.ensures.put in
+    subst (λ z. Turning IsEmpty (WaitsAs (IsPieceOf (all_items z) (pieces_of z))) s (pieces_of z) hand) (sym c.in-Each.is)
+    (items_are_pieces q.items n s hand refl each)

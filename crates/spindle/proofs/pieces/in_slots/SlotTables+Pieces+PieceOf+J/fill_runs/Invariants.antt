@@ -3,8 +3,8 @@ use Rattle.std.proofs.Common.{◌≡◌}
 use Rattle.spindle_rounds.specs.Seating.{IsSameSeat}
 use Rattle.spindle_rounds.specs.SlotHands.{WaitsAs}
 use Rattle.spindle_rounds.specs.SlotLoops.{IsEmpty, Turning}
-use Rattle.spindle.specs.SlotRounds.{IsPieceOf}
-use Rattle.spindle.proofs.pieces.in_slots.SlotTables+Pieces+PieceOf+J.fill.Given as goal
+use Rattle.spindle.specs.SlotPieces.{IsPieceOf}
+use Rattle.spindle.proofs.pieces.in_slots.SlotTables+Pieces+PieceOf+J.fill_runs.Given as goal
 
 abbrev pub invariant-loop-slot : goal.invariant-loop-slot
 invariant-loop-slot g l = record {
