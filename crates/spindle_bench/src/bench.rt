@@ -2,12 +2,13 @@
 ghost use Rattle.std.specs.Prelude.{◌≡◌};
 
 use crate::locks::{
-    add_in_place, in_slots, in_trays, smooth_in_place, square_in_place, stir_in_place,
+    add_in_place, in_slots, in_trays, leave_in_place, smooth_in_place, square_in_place,
+    stir_in_place,
 };
 use crate::rounds::maps::{MapPlaceRounds, MapRounds};
 use crate::rounds::nested::NestedRounds;
 use crate::rounds::products::ProductRounds;
-use crate::rounds::small::{EmptyRounds, TinyPlaceRounds, TinyRounds, TryRounds};
+use crate::rounds::small::{EmptyPlaceRounds, EmptyRounds, TinyPlaceRounds, TinyRounds, TryRounds};
 use crate::rounds::smooth::{SmoothPlaceRounds, SmoothRounds};
 use crate::rounds::stencils::{StencilPlaceRounds, StencilRounds};
 use spindle_timing::line::Line;
@@ -89,7 +90,7 @@ fn run_in_trays<H: Threads + Wait + Sync + Clock + Print + Alloc<A = Global>>(
     }
 }
 
-// Runs a shape in a lock whose rounds are played in place: tiny8, the stencils and map have such a line.
+// Runs a shape in a lock whose rounds are played in place: empty, tiny8, the stencils and map have such a line.
 fn run_in_place<H: Threads + Wait + Sync + Clock + Print + Alloc<A = Global>>(
     rt: &H,
     settings: &Settings,
@@ -98,6 +99,7 @@ fn run_in_place<H: Threads + Wait + Sync + Clock + Print + Alloc<A = Global>>(
     let alloc = rt.alloc();
     let jobs = shape.jobs(settings.threads);
     match shape {
+        Shape::Empty => leave_in_place(rt, settings, shape, EmptyPlaceRounds::new(alloc, jobs)?),
         Shape::Tiny8 => stir_in_place(rt, settings, shape, TinyPlaceRounds::new(alloc, jobs)?),
         Shape::Map => square_in_place(rt, settings, shape, MapPlaceRounds::new(alloc, jobs)?),
         Shape::Stencil4k => add_in_place(

@@ -38,6 +38,26 @@ impl Job for Nothing {
     ghost equal_is_same = { Prim.search rules };
 }
 
+/// Does nothing with its number, which stays.
+pub struct NothingInPlace;
+
+impl Remake for NothingInPlace {
+    type Item = usize;
+
+    type Inner = End;
+
+    ghost remade = { λ old new. new ≡ old };
+
+    fn run<H: Threads + Wait + Sync>(
+        _rt: &H,
+        _alloc: Global,
+        item: usize,
+        _cx: &mut JobCx<End>,
+    ) -> usize {
+        item
+    }
+}
+
 /// Stirs its number by dependent arithmetic.
 pub struct Stir;
 

@@ -2,9 +2,9 @@
 ghost use Rattle.std.specs.Prelude.{◌≡◌, ◌*◌, ◌<◌, ◌≤◌};
 ghost use denote.Param.Send.{IsSync};
 
-use crate::jobs::{AddOneInPlace, SmoothInPlace, SquareInPlace, StirInPlace};
+use crate::jobs::{AddOneInPlace, NothingInPlace, SmoothInPlace, SquareInPlace, StirInPlace};
 use crate::rounds::maps::MapPlaceRounds;
-use crate::rounds::small::TinyPlaceRounds;
+use crate::rounds::small::{EmptyPlaceRounds, TinyPlaceRounds};
 use crate::rounds::smooth::SmoothPlaceRounds;
 use crate::rounds::stencils::StencilPlaceRounds;
 use crate::rounds::{PlaceRounds, Rounds, SlotRounds, TrayRounds};
@@ -130,6 +130,25 @@ fn led_in_trays<S: TrayRounds, H: Threads + Wait + Sync + Clock + Print + Alloc<
         { rounds.in_trays(rt, alloc, leader) },
     )?;
     finish(rt, settings, Line::Trays, shape, &rounds, &times)
+}
+
+/// Runs the rounds of jobs that do nothing in a lock with a slot for each of their jobs, in place.
+pub fn leave_in_place<H: Threads + Wait + Sync + Clock + Print + Alloc<A = Global>>(
+    rt: &H,
+    settings: &Settings,
+    shape: Shape,
+    rounds: EmptyPlaceRounds,
+) -> Result<(), Stop> {
+    with_slots_in_place::<InPlace<NothingInPlace>, NoGate, Result<(), Stop>, _, _, H>(
+        rt,
+        rt.alloc(),
+        &pool(settings),
+        settings.threads,
+        shape.jobs(settings.threads),
+        |leader| -> Result<(), Stop>
+            requires { IsSync H.row }
+        { led_in_place(rt, settings, shape, leader, rounds) },
+    )?
 }
 
 /// Runs the rounds of a stencil that adds one in a lock with a slot for each of their jobs, in place.

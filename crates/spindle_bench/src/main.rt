@@ -4,10 +4,10 @@
 //! there, runs rounds in it, checks what came out, and prints a line `NAME SHAPE THREADS best median p10 p90`, as
 //! `spindle_timing` says. NAME is `zuflanto` for a lock that `with_slots` opens, with a slot for each job of the round,
 //! `zuflanto-trays` for one that `with_lock` opens, and `zuflanto-place` for one that `with_slots_in_place` opens, whose rounds are
-//! `remake_each`: `tiny8`, the stencils and `map` have such a line. `try8`, `nested` and the products run with trays alone.
+//! `remake_each`: `empty`, `tiny8`, the stencils and `map` have such a line. `try8`, `nested` and the products run with trays alone.
 //!
 //! - `empty`: as many numbers as threads; a job does nothing. With trays by `for_each_raw`, with slots by `for_each` over a list
-//!   that is made as `for_each_raw` makes it.
+//!   that is made as `for_each_raw` makes it. In place the numbers stay from round to round.
 //! - `tiny8`: the same for eight numbers a thread; a job is about 50 ns of dependent arithmetic. In place an item is a number with
 //!   what comes out of it, which a job writes down there.
 //! - `try8`: `tiny8` by `try_for_each_into`: the same list of numbers, no job fails, and what comes out is one report, round after round.

@@ -2,7 +2,7 @@
 ghost use Rattle.std.specs.Prelude.{◌≡◌};
 ghost use denote.Param.Send.{IsSync};
 
-use crate::jobs::{Nothing, Stir, StirInPlace, Stirring};
+use crate::jobs::{Nothing, NothingInPlace, Stir, StirInPlace, Stirring};
 use crate::rounds::{PlaceRounds, Rounds, SlotRounds, TrayRounds};
 use spindle::lock::{InPlace, Leader, NoGate, PlacePost, Report, SlotLeader};
 use spindle_timing::kernels::stirred;
@@ -74,6 +74,46 @@ impl TrayRounds for EmptyRounds {
         leader: &mut Leader<Nothing, NoGate>,
     ) -> Result<(), Stop> {
         self.outputs = leader.for_each_raw(rt, alloc, self.jobs)?;
+        Ok(())
+    }
+}
+
+/// Rounds of jobs that do nothing with numbers, which stay.
+#[derive(Drop)]
+pub struct EmptyPlaceRounds {
+    items: Vec<usize>,
+}
+
+impl EmptyPlaceRounds {
+    /// Rounds of so many jobs.
+    pub fn new(alloc: Global, jobs: usize) -> Result<EmptyPlaceRounds, Stop> {
+        Ok(EmptyPlaceRounds {
+            items: numbers(alloc, jobs)?,
+        })
+    }
+}
+
+impl Rounds for EmptyPlaceRounds {
+    fn is_right(&self, _rounds: u64) -> bool {
+        (0..self.items.len()).zip(&self.items).all(|(a, b)| a == *b)
+    }
+}
+
+impl PlaceRounds for EmptyPlaceRounds {
+    type Kind = NothingInPlace;
+
+    fn in_place<H: Threads + Wait + Sync>(
+        &mut self,
+        rt: &H,
+        alloc: Global,
+        leader: &mut SlotLeader<
+            InPlace<NothingInPlace>,
+            NoGate,
+            PlacePost<InPlace<NothingInPlace>>,
+        >,
+    ) -> Result<(), Stop> {
+        let jobs = self.items.len();
+        leader.remake_each(rt, alloc, jobs, &mut self.items)?;
         Ok(())
     }
 }
