@@ -6,7 +6,7 @@ use Rattle.std.specs.Prelude.{◌≡◌, ℕ, min}
 use Rattle.spindle_parts.specs.declared.requests.plays.Account.{Account}
 use Rattle.spindle_trays.specs.Accounts as accounts
 use Rattle.spindle_trays.specs.Notices as notices
-use Rattle.spindle.specs.declared.lock.piece_post.PiecePost.{PiecePost}
+use Rattle.spindle.specs.declared.lock.kept_post.KeptPost.{KeptPost}
 use Rattle.spindle.specs.declared.lock.slot_leader.SlotLeader.{SlotLeader}
 use Rattle.spindle_rounds.specs.declared.round_table.view.View.{View}
 use Rattle.spindle_rounds.specs.RoundConditions.{MayFill}
@@ -40,7 +40,7 @@ abbrev pub slots_of : {J G P I O N S : Type 0} → (P → ℕ) → SlotLeader J 
 slots_of slot_count leader = slot_count leader.post
 
 -- the slots of a lock whose leader has its kind of job's own post, as every caller's has
-abbrev pub lock_slots : {J G K A B C D I O N S : Type 0} → SlotLeader J G (PiecePost K A B C D) I O N S → ℕ
+abbrev pub lock_slots : {J G K A B C I O N S : Type 0} → SlotLeader J G (KeptPost K A B C) I O N S → ℕ
 lock_slots leader = leader.post.post.slots
 
 -- f may be called with each leader whose lock has so many slots

@@ -2,10 +2,11 @@
 //! out here.
 //!
 //! Locks with slots: `slot_root` and `place_root` have how they open, `slot_leader` what both kinds of their leader share,
-//! `slot_rounds` and `place_rounds` their rounds, `slot_workspace` what they know their posts by, and `piece_post` and `place_post` their posts. Locks for one
+//! `slot_rounds` and `place_rounds` their rounds, `slot_workspace` what they know their posts by, `kept_post` their posts, and `piece_post` and `place_post` how they play a round. Locks for one
 //! call: `one_round` opens one for a round, `folds` for the total of a list.
 
 mod folds;
+mod kept_post;
 mod one_round;
 mod piece_post;
 mod place_post;
@@ -18,6 +19,7 @@ mod slot_rounds;
 mod slot_workspace;
 
 pub use self::folds::{Combine, Folds, reduce};
+pub use self::kept_post::KeptPost;
 pub use self::one_round::run_one;
 pub use self::piece_post::{PiecePost, PlaysPieces};
 pub use self::place_post::{PlacePost, PlaysInPlace};
@@ -27,7 +29,7 @@ pub use self::slot_leader::SlotLeader;
 pub use self::slot_root::with_slots;
 pub use self::slot_workspace::{MakesSlots, OpensSlots, SlotWorkspace};
 pub use crate::job::remake::{InPlace, Remake, Remakes};
-pub use crate::pieces::of_kind::{ChunkOf, PieceOf};
+pub use crate::pieces::of_kind::{ChunkOf, Keeps, PieceOf};
 pub use spindle_trays::crew::limits::Limits;
 pub use spindle_trays::job::context::JobCx;
 pub use spindle_trays::job::gate::{Gate, NoGate};

@@ -2,3 +2,4 @@
 
 pub mod in_place;
 pub mod in_slots;
+pub mod over_lists;

@@ -1,9 +1,10 @@
 //! Rows of rounds in place: what becomes of each item stands in its place, and a refusal leaves the items as they were.
-ghost use Rattle.std.specs.Prelude.{◌<◌};
+ghost use Rattle.std.specs.Prelude.{◌<◌, ◌≤◌};
 
 use crate::checks::is;
+use crate::jobs::{Calls, Counting};
 use crate::sevens::seven_items;
-use spindle::lock::{End, InPlace, JobCx, Limits, NoGate, Pool, Remake};
+use spindle::lock::{End, Gate, InPlace, JobCx, Limits, NoGate, Pool, Remake};
 use spindle::{Fault, with_slots_in_place};
 use std::alloc::Global;
 use std::sync::Wait;
@@ -50,6 +51,38 @@ fn have_stepped(list: &[usize], steps: usize) -> bool {
     true
 }
 
+// What becomes of the numbers from 0 up, so many, in so many rounds of one lock of so many slots.
+fn step_often<G: Gate + Sync, H: Threads + Wait + Sync>(
+    rt: &H,
+    alloc: Global,
+    pool: &Pool<G>,
+    slots: usize,
+    jobs: usize,
+    count: usize,
+    rounds: usize,
+) -> Result<Vec<usize>, Fault>
+    requires slots { (1 ≤ slots) × (slots ≤ 4294967295) }
+    requires jobs { 0 < jobs }
+{
+    let mut list = numbers(alloc, count)?;
+    with_slots_in_place::<InPlace<Step>, _, _, _, _, _>(
+        rt,
+        alloc,
+        pool,
+        4,
+        slots,
+        |leader|
+            requires { 0 < jobs }
+        {
+            for _ in 0..rounds {
+                leader.remake_each(rt, alloc, jobs, &mut list)?;
+            }
+            Ok::<(), Fault>(())
+        },
+    )??;
+    Ok(list)
+}
+
 #[test]
 fn two_hundred_rounds_in_place_are_as_a_plain_loop(rt: HostRuntime) -> Result<(), Fault> {
     let alloc = rt.alloc();
@@ -64,22 +97,32 @@ fn two_hundred_rounds_in_place_are_as_a_plain_loop(rt: HostRuntime) -> Result<()
     ] {
         for threads in [1, 4] {
             let pool = Pool::new(threads, Limits::new(), NoGate);
-            let mut list = numbers(alloc, count)?;
-            with_slots_in_place::<InPlace<Step>, _, _, _, _, _>(
-                &rt,
-                alloc,
-                &pool,
-                4,
-                slots,
-                |leader| {
-                    for _ in 0..200 {
-                        leader.remake_each(&rt, alloc, jobs.max(1), &mut list)?;
-                    }
-                    Ok::<(), Fault>(())
-                },
-            )??;
+            let list = step_often(&rt, alloc, &pool, slots, jobs, count, 200)?;
             is(&rt, list.len(), count);
             assert!(rt; have_stepped(list.as_slice(), 200));
+        }
+    }
+    Ok(())
+}
+
+// A round has the least of jobs, slots and items as jobs, each of which is announced once before it begins and once after it.
+#[test]
+fn each_job_in_place_passes_the_gate_once(rt: HostRuntime) -> Result<(), Fault> {
+    let alloc = rt.alloc();
+    for (slots, jobs, count, wanted) in [
+        (8, 8, 8, 8),
+        (8, 8, 5, 5),
+        (8, 3, 8, 3),
+        (3, 8, 8, 3),
+        (8, 1, 8, 1),
+    ] {
+        for threads in [1, 4] {
+            let calls = Calls::new();
+            let pool = Pool::new(threads, Limits::new(), Counting { calls: &calls });
+            let list = step_often(&rt, alloc, &pool, slots, jobs, count, 1)?;
+            assert!(rt; have_stepped(list.as_slice(), 1));
+            is(&rt, calls.in_all(), (wanted, wanted));
+            is(&rt, calls.of_job(0), (1, 1));
         }
     }
     Ok(())

@@ -7,38 +7,25 @@ ghost use Rattle.spindle_trays.specs.SlotPosts.{view_in};
 ghost use Rattle.spindle_rounds.specs.RoundConditions.{MayFill};
 ghost use Rattle.spindle_rounds.specs.Working.{PlayedRound};
 
-use crate::crew::slot_post::{Newcomer, SlotPost};
+use crate::crew::slot_post::SlotPost;
 use crate::crew::slot_tables::SlotTables;
-use crate::lock::sealed::HasPost;
-use crate::lock::slot_workspace::{MakesSlots, OpensSlots, SlotWorkspace};
+use crate::lock::kept_post::KeptPost;
+use crate::lock::slot_workspace::OpensSlots;
 use crate::pieces::items::Items;
 use crate::pieces::of_kind::PieceOf;
 use crate::pieces::rooms::Rooms;
-use crate::pieces::slot_piece::{Batch, OneOr};
-use crate::work::in_slots::take_part_in_slots;
 use spindle_parts::fault::Fault;
-use spindle_rounds::round::Round;
-use spindle_rounds::round::task::Task;
-use spindle_rounds::round_table::Seat;
 use spindle_rounds::round_table::pieces::Pieces;
-use spindle_trays::crew::members::Members;
-use spindle_trays::crew::post::Post;
 use spindle_trays::crew::tables::Tables;
 use spindle_trays::job::Job;
 use spindle_trays::job::gate::Gate;
-use spindle_trays::job::nest::Nest;
-use spindle_trays::lock::part::TakesPart;
 use spindle_trays::work::runner::Runner;
 use std::alloc::Global;
 use std::sync::Wait;
 use std::thread::Threads;
 
-/// The post of a leader that plays rounds over lists, with the rooms that it keeps for their outputs.
-#[derive(Drop)]
-pub struct PiecePost<J: Job> {
-    post: SlotPost<PieceOf<J>>,
-    rooms: Option<Rooms<J::Out>>,
-}
+/// The post of a leader that plays rounds over lists. It keeps rooms for their outputs.
+pub type PiecePost<J> = KeptPost<PieceOf<J>>;
 
 /// The kinds of jobs whose leader with a post of type P plays rounds over lists of items.
 pub trait PlaysPieces<P>: OpensSlots<P> {
@@ -68,75 +55,11 @@ pub trait PlaysPieces<P>: OpensSlots<P> {
             ≡ Self.OpensSlots.slot_count post.old };
 }
 
-impl<J: Job> HasPost<PiecePost<J>> for J {}
-
-impl<J: Job> TakesPart<J, Pieces<PieceOf<J>>> for SlotWorkspace<J> {
-    fn children(&self) -> &<J::Inner as Nest>::Slots {
-        &self.children
-    }
-
-    fn members<'a>(tables: &'a Tables<Pieces<PieceOf<J>>>) -> Members<'a> {
-        Members::Present(&tables.present)
-    }
-
-    fn take_part<'a, G: Gate, H: Threads + Wait + Sync>(
-        &self,
-        rt: &H,
-        alloc: Global,
-        post: &mut Post<'a, Pieces<PieceOf<J>>>,
-        runner: &mut Runner<'_, J, G>,
-        task: Task,
-    ) {
-        take_part_in_slots(rt, alloc, post, runner, task);
-    }
-}
-
-impl<J: Job> MakesSlots<PiecePost<J>, Pieces<PieceOf<J>>, SlotWorkspace<J>> for J {
-    fn workspace(alloc: Global, threads: usize) -> Result<SlotWorkspace<J>, Fault> {
-        let children = <J::Inner as Nest>::make(alloc, threads)?;
-        Ok(SlotWorkspace { children })
-    }
-
-    fn rounds(
-        alloc: Global,
-        threads: usize,
-        slots: usize,
-    ) -> Result<(Round<Pieces<PieceOf<J>>>, Seat<Pieces<PieceOf<J>>>), Fault> {
-        Round::with_slots(alloc, threads, slots)
-    }
-
-    fn settle(newcomer: &mut Option<Newcomer<Pieces<PieceOf<J>>>>) -> PiecePost<J> {
-        let Some(newcomer) = newcomer.take() else {
-            unreachable!()
-        };
-        PiecePost {
-            post: SlotPost::new(newcomer),
-            rooms: None,
-        }
-    }
-}
-
-impl<J: Job> OpensSlots<PiecePost<J>> for J {
-    type Note = OneOr<J::In, Batch<J::In, J::Out>>;
-
-    ghost view = { λ post. view_in post.post.stance };
-
-    ghost slot_count = { λ post. post.post.slots };
-
-    fn slots(post: &PiecePost<J>) -> usize {
-        post.post.slots()
-    }
-
-    fn wake<H: Wait>(rt: &H, post: &PiecePost<J>) {
-        post.post.tables.sleep.wake(rt);
-    }
-}
-
-impl<J: Job> PlaysPieces<PiecePost<J>> for J {
+impl<J: Job> PlaysPieces<KeptPost<PieceOf<J>>> for J {
     fn play<'a, G: Gate, H: Threads + Wait + Sync>(
         rt: &H,
         alloc: Global,
-        post: &mut PiecePost<J>,
+        post: &mut KeptPost<PieceOf<J>>,
         runner: &mut Runner<'a, J, G>,
         items: &mut Items<J::In>,
         outputs: &mut Vec<J::Out>,
@@ -145,17 +68,17 @@ impl<J: Job> PlaysPieces<PiecePost<J>> for J {
         let played = post
             .post
             .play(rt, alloc, runner, items, &mut rooms, outputs);
-        post.rooms = Some(rooms);
+        post.kept = Some(rooms);
         played
     }
 }
 
-impl<J: Job> PiecePost<J> {
+impl<J: Job> KeptPost<PieceOf<J>> {
     // The rooms that were kept, or none yet.
     fn rooms(&mut self, alloc: Global) -> Rooms<J::Out>
         ensures { self.new.post ≡ self.old.post }
     {
-        match self.rooms.take() {
+        match self.kept.take() {
             Some(rooms) => rooms,
             None => Rooms::new(alloc),
         }

@@ -7,38 +7,25 @@ ghost use Rattle.spindle_trays.specs.SlotPosts.{view_in};
 ghost use Rattle.spindle_rounds.specs.RoundConditions.{MayFill};
 ghost use Rattle.spindle_rounds.specs.Working.{PlayedRound};
 
-use crate::crew::slot_post::{Newcomer, SlotPost};
+use crate::crew::slot_post::SlotPost;
 use crate::crew::slot_tables::SlotTables;
 use crate::job::remake::Remakes;
-use crate::lock::sealed::HasPost;
-use crate::lock::slot_workspace::{MakesSlots, OpensSlots, SlotWorkspace};
-use crate::pieces::chunk::Chunk;
+use crate::lock::kept_post::KeptPost;
+use crate::lock::slot_workspace::OpensSlots;
 use crate::pieces::of_kind::ChunkOf;
-use crate::pieces::slot_piece::OneOr;
 use crate::pieces::store::Store;
-use crate::work::in_place::{remake_chunk, take_part_in_place};
+use crate::work::in_place::remake_chunk;
 use spindle_parts::fault::Fault;
-use spindle_rounds::round::Round;
-use spindle_rounds::round::task::Task;
-use spindle_rounds::round_table::Seat;
 use spindle_rounds::round_table::pieces::Pieces;
-use spindle_trays::crew::members::Members;
-use spindle_trays::crew::post::Post;
 use spindle_trays::crew::tables::Tables;
 use spindle_trays::job::gate::Gate;
-use spindle_trays::job::nest::Nest;
-use spindle_trays::lock::part::TakesPart;
 use spindle_trays::work::runner::Runner;
 use std::alloc::Global;
 use std::sync::Wait;
 use std::thread::Threads;
 
-/// The post of a leader that plays rounds in place, with the room that it keeps for them.
-#[derive(Drop)]
-pub struct PlacePost<J: Remakes> {
-    post: SlotPost<ChunkOf<J>>,
-    store: Option<Store<J::Item>>,
-}
+/// The post of a leader that plays rounds in place. It keeps room for chunks.
+pub type PlacePost<J> = KeptPost<ChunkOf<J>>;
 
 /// The kinds of jobs whose leader with a post of type P plays rounds in place.
 pub trait PlaysInPlace<P>: OpensSlots<P> + Remakes {
@@ -83,75 +70,11 @@ pub trait PlaysInPlace<P>: OpensSlots<P> + Remakes {
             ≡ Self.OpensSlots.slot_count post.old };
 }
 
-impl<J: Remakes> HasPost<PlacePost<J>> for J {}
-
-impl<J: Remakes> TakesPart<J, Pieces<ChunkOf<J>>> for SlotWorkspace<J> {
-    fn children(&self) -> &<J::Inner as Nest>::Slots {
-        &self.children
-    }
-
-    fn members<'a>(tables: &'a Tables<Pieces<ChunkOf<J>>>) -> Members<'a> {
-        Members::Present(&tables.present)
-    }
-
-    fn take_part<'a, G: Gate, H: Threads + Wait + Sync>(
-        &self,
-        rt: &H,
-        alloc: Global,
-        post: &mut Post<'a, Pieces<ChunkOf<J>>>,
-        runner: &mut Runner<'_, J, G>,
-        task: Task,
-    ) {
-        take_part_in_place(rt, alloc, post, runner, task);
-    }
-}
-
-impl<J: Remakes> OpensSlots<PlacePost<J>> for J {
-    type Note = OneOr<J::Item, Chunk<J::Item>>;
-
-    ghost view = { λ post. view_in post.post.stance };
-
-    ghost slot_count = { λ post. post.post.slots };
-
-    fn slots(post: &PlacePost<J>) -> usize {
-        post.post.slots()
-    }
-
-    fn wake<H: Wait>(rt: &H, post: &PlacePost<J>) {
-        post.post.tables.sleep.wake(rt);
-    }
-}
-
-impl<J: Remakes> MakesSlots<PlacePost<J>, Pieces<ChunkOf<J>>, SlotWorkspace<J>> for J {
-    fn workspace(alloc: Global, threads: usize) -> Result<SlotWorkspace<J>, Fault> {
-        let children = <J::Inner as Nest>::make(alloc, threads)?;
-        Ok(SlotWorkspace { children })
-    }
-
-    fn rounds(
-        alloc: Global,
-        threads: usize,
-        slots: usize,
-    ) -> Result<(Round<Pieces<ChunkOf<J>>>, Seat<Pieces<ChunkOf<J>>>), Fault> {
-        Round::with_slots(alloc, threads, slots)
-    }
-
-    fn settle(newcomer: &mut Option<Newcomer<Pieces<ChunkOf<J>>>>) -> PlacePost<J> {
-        let Some(newcomer) = newcomer.take() else {
-            unreachable!()
-        };
-        PlacePost {
-            post: SlotPost::new(newcomer),
-            store: None,
-        }
-    }
-}
-
-impl<J: Remakes> PlaysInPlace<PlacePost<J>> for J {
+impl<J: Remakes> PlaysInPlace<KeptPost<ChunkOf<J>>> for J {
     fn play_in_place<'a, G: Gate, H: Threads + Wait + Sync>(
         rt: &H,
         alloc: Global,
-        post: &mut PlacePost<J>,
+        post: &mut KeptPost<ChunkOf<J>>,
         runner: &mut Runner<'a, J, G>,
         jobs: usize,
         items: &mut Vec<J::Item>,
@@ -161,14 +84,14 @@ impl<J: Remakes> PlaysInPlace<PlacePost<J>> for J {
             store.prepare(alloc, items.len(), jobs)?;
         }
         post.post.remake(rt, alloc, runner, &mut store, jobs, items);
-        post.store = Some(store);
+        post.kept = Some(store);
         Ok(())
     }
 
     fn play_alone<'a, G: Gate, H: Threads + Wait + Sync>(
         rt: &H,
         alloc: Global,
-        post: &mut PlacePost<J>,
+        post: &mut KeptPost<ChunkOf<J>>,
         runner: &mut Runner<'a, J, G>,
         items: &mut Vec<J::Item>,
     ) -> Result<(), Fault> {
@@ -178,17 +101,17 @@ impl<J: Remakes> PlaysInPlace<PlacePost<J>> for J {
         let chunk = room.load(items, 0);
         let remade = remake_chunk(rt, alloc, runner, 0, None, chunk);
         store.keep(remade.unload(items));
-        post.store = Some(store);
+        post.kept = Some(store);
         Ok(())
     }
 }
 
-impl<J: Remakes> PlacePost<J> {
+impl<J: Remakes> KeptPost<ChunkOf<J>> {
     // The room that was kept, or none yet.
     fn room(&mut self, alloc: Global) -> Store<J::Item>
         ensures { self.new.post ≡ self.old.post }
     {
-        match self.store.take() {
+        match self.kept.take() {
             Some(store) => store,
             None => Store::new(alloc),
         }

@@ -11,19 +11,50 @@ ghost use Rattle.spindle_rounds.specs.RoundSteps.{outsider};
 
 use crate::crew::slot_post::Newcomer;
 use crate::lock::sealed::HasPost;
+use crate::work::in_slots::{RunsPieces, take_part_in_slots};
 use spindle_parts::fault::Fault;
 use spindle_rounds::round::Round;
+use spindle_rounds::round::task::Task;
 use spindle_rounds::round_table::Seat;
+use spindle_rounds::round_table::pieces::Pieces;
 use spindle_rounds::round_table::slots::Slots;
+use spindle_trays::crew::members::Members;
+use spindle_trays::crew::post::Post;
+use spindle_trays::crew::tables::Tables;
 use spindle_trays::job::Job;
+use spindle_trays::job::gate::Gate;
 use spindle_trays::job::nest::Nest;
+use spindle_trays::lock::part::TakesPart;
+use spindle_trays::work::runner::Runner;
 use std::alloc::Global;
 use std::sync::Wait;
+use std::thread::Threads;
 
 /// What the threads of a lock with slots over jobs of kind J share beside its tables.
 #[derive(Drop)]
 pub struct SlotWorkspace<J: Job> {
     pub(crate) children: <J::Inner as Nest>::Slots,
+}
+
+impl<J: Job, A: RunsPieces<J>> TakesPart<J, Pieces<A>> for SlotWorkspace<J> {
+    fn children(&self) -> &<J::Inner as Nest>::Slots {
+        &self.children
+    }
+
+    fn members<'a>(tables: &'a Tables<Pieces<A>>) -> Members<'a> {
+        Members::Present(&tables.present)
+    }
+
+    fn take_part<'a, G: Gate, H: Threads + Wait + Sync>(
+        &self,
+        rt: &H,
+        alloc: Global,
+        post: &mut Post<'a, Pieces<A>>,
+        runner: &mut Runner<'_, J, G>,
+        task: Task,
+    ) {
+        take_part_in_slots::<J, A, G, H>(rt, alloc, post, runner, task);
+    }
 }
 
 /// The kinds of jobs whose locks with slots have a leader's post of type P. Each kind of job has one, `PiecePost<J>`,

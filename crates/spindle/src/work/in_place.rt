@@ -1,14 +1,10 @@
-//! The work of one thread in a round in place: whoever begins a number has its chunk, and puts back what became of the items.
-ghost use Rattle.std.specs.Prelude.{◌≡◌, ◌≤◌, ◌<◌, ℕ, [], true, false, length, vec_len, vec_capacity};
+//! Rounds in place: a thread remakes the items of its piece, and puts back what became of them.
+ghost use Rattle.std.specs.Prelude.{◌≡◌, ◌≤◌, ◌<◌, true, vec_len, vec_capacity};
 ghost use Rattle.std.specs.List.{AllZip};
 ghost use Rattle.std.specs.Option.{ForSome};
-ghost use Rattle.std.proofs.Common.{refl, ◌∙◌};
-ghost use Rattle.spindle_rounds.specs.RoundConditions.{IsDone};
-ghost use Rattle.spindle_rounds.specs.Seating.{IsSameSeat};
 ghost use Rattle.spindle_rounds.specs.Holding.{Keeps};
-ghost use Rattle.spindle_rounds.specs.Working.{OnTask, PlayedRound};
+ghost use Rattle.spindle_rounds.specs.Working.{PlayedRound};
 ghost use Rattle.spindle.specs.InPlace.{IsReady};
-ghost use Rattle.spindle.specs.SlotPieces.{IsAnswerTo};
 ghost use Rattle.spindle.specs.SlotRounds.{LeadsIn};
 
 use crate::crew::slot_tables::SlotTables;
@@ -17,55 +13,15 @@ use crate::pieces::chunk::{Chunk, Remade};
 use crate::pieces::of_kind::ChunkOf;
 use crate::pieces::slot_piece::OneOr;
 use crate::pieces::store::Store;
+use crate::work::in_slots::{RunsPieces, SlotWork};
 use spindle_rounds::barrier::Barrier;
-use spindle_rounds::round::claim::Claimed;
-use spindle_rounds::round::party::{Party, Work};
-use spindle_rounds::round::task::Task;
-use spindle_rounds::round_table::Seat;
 use spindle_rounds::round_table::pieces::Pieces;
-use spindle_trays::crew::post::Post;
 use spindle_trays::job::context::JobCx;
 use spindle_trays::job::gate::Gate;
 use spindle_trays::work::runner::Runner;
 use std::alloc::Global;
 use std::sync::Wait;
 use std::thread::Threads;
-
-/// What remakes the chunks of slots. The leader holds no other slot meanwhile.
-#[derive(Drop)]
-struct PlaceWork<'r, 'a, J: Remakes, G: Gate> {
-    runner: &'r mut Runner<'a, J, G>,
-    alloc: Global,
-    leads: bool,
-}
-
-/// Runs the jobs of a published round that are left for the thread of this post.
-pub(crate) fn take_part_in_place<J: Remakes, G: Gate, H: Threads + Wait + Sync>(
-    rt: &H,
-    alloc: Global,
-    post: &mut Post<'_, Pieces<ChunkOf<J>>>,
-    runner: &mut Runner<'_, J, G>,
-    task: Task,
-)
-    requires task { OnTask task.jobs task.may_stop post.old.barrier.seat.me.0 }
-    requires helper { post.old.barrier.seat.me.0.leader ≡ false }
-    ensures post { (post.new.tables ≡ post.old.tables) × (post.new.thread ≡ post.old.thread) }
-    ensures leader { post.new.barrier.seat.me.0.leader ≡ false }
-    ensures done { IsDone post.new.barrier.seat.me.0 }
-    ensures seat { IsSameSeat post.old.barrier.seat post.new.barrier.seat }
-{
-    let party = Party {
-        round: &post.tables.round,
-        thread: post.thread,
-        task,
-    };
-    let work = PlaceWork {
-        runner,
-        alloc,
-        leads: false,
-    };
-    drop(party.work(rt, &mut post.barrier.seat, work));
-}
 
 impl<'t, J: Remakes> SlotTables<'t, Pieces<ChunkOf<J>>> {
     /// A leader's round in place, for which all room is ready that it needs: the items go into the slots, are remade, and come out of
@@ -93,7 +49,7 @@ impl<'t, J: Remakes> SlotTables<'t, Pieces<ChunkOf<J>>> {
         let round = &self.tables.round;
         self.fill_in_place(&mut barrier.seat, store, jobs, items);
         runner.notices.end_rest();
-        let work = PlaceWork {
+        let work = SlotWork {
             runner,
             alloc,
             leads: true,
@@ -107,47 +63,23 @@ impl<'t, J: Remakes> SlotTables<'t, Pieces<ChunkOf<J>>> {
     }
 }
 
-impl<'r, 'a, J: Remakes, G: Gate> Work<Pieces<ChunkOf<J>>> for PlaceWork<'r, 'a, J, G> {
-    ghost holds = { λ work hands. work.leads ≡ true → hands ≡ [] };
-
-    ghost keeps = { λ old new. new.leads ≡ old.leads };
-
-    fn run<H: Threads + Wait + Sync>(
-        &mut self,
+impl<J: Remakes> RunsPieces<J> for ChunkOf<J> {
+    fn run_piece<G: Gate, H: Threads + Wait + Sync>(
         rt: &H,
-        party: &Party<'_, Pieces<ChunkOf<J>>>,
-        seat: &mut Seat<Pieces<ChunkOf<J>>>,
-        claimed: Claimed,
-    ) {
-        let piece = party.round.take_piece(seat, &claimed);
-        let answer = self.remake_piece(rt, claimed.number() as usize, piece);
-        party.round.finish_taken(seat, claimed, answer);
-    }
-
-    ghost keeps_same = { λ work. refl };
-
-    ghost keeps_then = { λ old then new a b. b ∙ a };
-}
-
-impl<'r, 'a, J: Remakes, G: Gate> PlaceWork<'r, 'a, J, G> {
-    // Remakes the piece of a number.
-    fn remake_piece<H: Threads + Wait + Sync>(
-        &mut self,
-        rt: &H,
+        alloc: Global,
+        runner: &mut Runner<'_, J, G>,
         number: usize,
-        piece: OneOr<J::Item, Chunk<J::Item>>,
-    ) -> OneOr<J::Item, Remade<J::Item>>
-        ensures answers { IsAnswerTo J.remade piece result }
-        ensures leads { self.new.leads ≡ self.old.leads }
-    {
-        let (alloc, index) = (self.alloc, self.runner.site.index);
+        piece: &mut Option<OneOr<J::Item, Chunk<J::Item>>>,
+    ) -> OneOr<J::Item, Remade<J::Item>> {
+        let index = runner.site.index;
+        let Some(piece) = piece.take() else {
+            unreachable!()
+        };
         match piece {
-            OneOr::One(item) => {
-                OneOr::One(remake_one(rt, alloc, self.runner, number, index, item))
-            }
-            OneOr::Many(chunk) => {
-                OneOr::Many(remake_chunk(rt, alloc, self.runner, number, index, chunk))
-            }
+            OneOr::One(item) => OneOr::One(remake_one(rt, alloc, runner, number, index, item)),
+            OneOr::Many(chunk) => OneOr::Many(remake_chunk(
+                rt, alloc, runner, number, index, chunk,
+            )),
         }
     }
 }

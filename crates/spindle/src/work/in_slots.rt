@@ -1,21 +1,17 @@
 //! The work of one thread in a round whose pieces stand in the slots of the round table: whoever begins a number has its piece.
-ghost use Rattle.std.specs.Prelude.{◌≡◌, ◌≤◌, ℕ, List, [], true, false, length, vec_capacity, OnOk, OnErr, IsErrOf};
-ghost use Rattle.std.specs.List.{AllZip};
+ghost use Rattle.std.specs.Prelude.{◌≡◌, ◌≤◌, ℕ, List, [], true, false, IsSome};
+ghost use Rattle.std.specs.Option.{ForSome};
 ghost use Rattle.std.proofs.Common.{refl, ◌∙◌};
+ghost use denote.Param.Send.{IsSync};
 ghost use Rattle.spindle_rounds.specs.RoundConditions.{IsDone};
 ghost use Rattle.spindle_rounds.specs.Seating.{IsSameSeat};
 ghost use Rattle.spindle_rounds.specs.Holding.{Keeps};
 ghost use Rattle.spindle_rounds.specs.Working.{OnTask, PlayedRound};
 ghost use Rattle.spindle_rounds.specs.SlotLoops.{IsEmpty, IsPiece, Turning};
-ghost use Rattle.spindle.specs.SlotPieces.{IsAnswerTo, all_items, pieces_of};
-ghost use Rattle.spindle.specs.SlotRounds.{LeadsAt, LeadsIn, PlayedPieces};
+ghost use Rattle.spindle.specs.SlotRounds.{LeadsAt, PlayedPieces};
 
 use crate::crew::slot_tables::SlotTables;
-use crate::pieces::items::Items;
-use crate::pieces::of_kind::PieceOf;
-use crate::pieces::rooms::Rooms;
-use crate::pieces::slot_piece::{Batch, OneOr, Outputs};
-use spindle_parts::fault::Fault;
+use crate::pieces::of_kind::Keeps;
 use spindle_rounds::barrier::Barrier;
 use spindle_rounds::round::claim::Claimed;
 use spindle_rounds::round::party::{Party, Work};
@@ -31,22 +27,39 @@ use std::alloc::Global;
 use std::sync::Wait;
 use std::thread::Threads;
 
+/// Pieces that jobs of kind J run.
+pub trait RunsPieces<J: Job>: Keeps {
+    /// Runs the piece of a number, which it takes, between the two calls of the gate.
+    fn run_piece<G: Gate, H: Threads + Wait + Sync>(
+        rt: &H,
+        alloc: Global,
+        runner: &mut Runner<'_, J, G>,
+        number: usize,
+        piece: &mut Option<Self::Piece>,
+    ) -> Self::Answer
+        requires sync { IsSync H.row }
+        requires there { IsSome piece.old }
+        ensures answers { ForSome piece.old (λ given. Self.Answers.answers given result) }
+        ensures site { runner.new.site ≡ runner.old.site };
+}
+
 /// What runs the pieces of slots. The leader holds no other slot meanwhile.
 #[derive(Drop)]
-struct SlotWork<'r, 'a, J: Job, G: Gate> {
-    runner: &'r mut Runner<'a, J, G>,
-    alloc: Global,
-    leads: bool,
+pub(crate) struct SlotWork<'r, 'a, J: Job, G: Gate> {
+    pub(crate) runner: &'r mut Runner<'a, J, G>,
+    pub(crate) alloc: Global,
+    pub(crate) leads: bool,
 }
 
 /// Runs the jobs of a published round that are left for the thread of this post.
-pub(crate) fn take_part_in_slots<J: Job, G: Gate, H: Threads + Wait + Sync>(
+pub(crate) fn take_part_in_slots<J: Job, A: RunsPieces<J>, G: Gate, H: Threads + Wait + Sync>(
     rt: &H,
     alloc: Global,
-    post: &mut Post<'_, Pieces<PieceOf<J>>>,
+    post: &mut Post<'_, Pieces<A>>,
     runner: &mut Runner<'_, J, G>,
     task: Task,
 )
+    requires sync { IsSync H.row }
     requires task { OnTask task.jobs task.may_stop post.old.barrier.seat.me.0 }
     requires helper { post.old.barrier.seat.me.0.leader ≡ false }
     ensures post { (post.new.tables ≡ post.old.tables) × (post.new.thread ≡ post.old.thread) }
@@ -107,52 +120,7 @@ impl<'t, A: Answers> SlotTables<'t, Pieces<A>> {
     }
 }
 
-impl<'t, J: Job> SlotTables<'t, Pieces<PieceOf<J>>> {
-    /// A leader's round: the pieces of the items go into the slots, are played, and their outputs come out of the slots, in order.
-    /// Memory is refused before the publish alone.
-    pub(crate) fn play<G: Gate, H: Threads + Wait + Sync>(
-        &self,
-        rt: &H,
-        alloc: Global,
-        barrier: &mut Barrier<'_, Pieces<PieceOf<J>>>,
-        runner: &mut Runner<'_, J, G>,
-        items: &mut Items<J::In>,
-        rooms: &mut Rooms<J::Out>,
-        outputs: &mut Vec<J::Out>,
-    ) -> Result<(), Fault>
-        requires leads { LeadsIn self.now.tables.now barrier.old }
-        requires counted { (2 ≤ pieces_of items.old) × (pieces_of items.old ≤ 4294967295) }
-        requires few { pieces_of items.old ≤ self.now.slots }
-        requires empty { outputs.old.items ≡ [] }
-        requires room { length (all_items items.old) ≤ vec_capacity outputs.old }
-        ensures leads { LeadsIn self.now.tables.now barrier.new }
-        ensures same { Keeps barrier.old barrier.new }
-        ensures answered { OnOk result (AllZip J.meets (all_items items.old) outputs.new.items) }
-        ensures played { OnOk result
-            (PlayedRound (pieces_of items.old) barrier.old.seat.me.0 barrier.new.seat.me.0) }
-        ensures left { OnErr result (barrier.new.seat.me.0 ≡ barrier.old.seat.me.0) }
-        ensures memory { OnErr result (IsErrOf result Fault.Memory) }
-    {
-        let pieces = items.pieces();
-        self.fill(alloc, &mut barrier.seat, items, rooms)?;
-        runner.notices.end_rest();
-        let work = SlotWork {
-            runner,
-            alloc,
-            leads: true,
-        };
-        self.play_held(rt, barrier, pieces as u64, work);
-        let round = &self.tables.round;
-        for slot in 0..pieces {
-            let answer = round.take_answer(&mut barrier.seat, slot);
-            rooms.keep(slot, answer.unload(outputs));
-        }
-        round.turn_slots(&mut barrier.seat, pieces, self.slots);
-        Ok(())
-    }
-}
-
-impl<'r, 'a, J: Job, G: Gate> Work<Pieces<PieceOf<J>>> for SlotWork<'r, 'a, J, G> {
+impl<'r, 'a, J: Job, G: Gate, A: RunsPieces<J>> Work<Pieces<A>> for SlotWork<'r, 'a, J, G> {
     ghost holds = { λ work hands. work.leads ≡ true → hands ≡ [] };
 
     ghost keeps = { λ old new. new.leads ≡ old.leads };
@@ -160,41 +128,17 @@ impl<'r, 'a, J: Job, G: Gate> Work<Pieces<PieceOf<J>>> for SlotWork<'r, 'a, J, G
     fn run<H: Threads + Wait + Sync>(
         &mut self,
         rt: &H,
-        party: &Party<'_, Pieces<PieceOf<J>>>,
-        seat: &mut Seat<Pieces<PieceOf<J>>>,
+        party: &Party<'_, Pieces<A>>,
+        seat: &mut Seat<Pieces<A>>,
         claimed: Claimed,
     ) {
-        let piece = party.round.take_piece(seat, &claimed);
-        let answer = self.run_piece(rt, claimed.number() as usize, piece);
+        let number = claimed.number() as usize;
+        let mut piece = Some(party.round.take_piece(seat, &claimed));
+        let answer = A::run_piece(rt, self.alloc, self.runner, number, &mut piece);
         party.round.finish_taken(seat, claimed, answer);
     }
 
     ghost keeps_same = { λ work. refl };
 
     ghost keeps_then = { λ old then new a b. b ∙ a };
-}
-
-impl<'r, 'a, J: Job, G: Gate> SlotWork<'r, 'a, J, G> {
-    // Runs the piece of a number.
-    fn run_piece<H: Threads + Wait + Sync>(
-        &mut self,
-        rt: &H,
-        number: usize,
-        piece: OneOr<J::In, Batch<J::In, J::Out>>,
-    ) -> OneOr<J::Out, Outputs<J::Out>>
-        ensures answers { IsAnswerTo J.meets piece result }
-        ensures leads { self.new.leads ≡ self.old.leads }
-    {
-        let (alloc, index) = (self.alloc, self.runner.site.index);
-        match piece {
-            OneOr::One(item) => OneOr::One(self.runner.run_one(rt, alloc, number, index, &item)),
-            OneOr::Many(batch) => {
-                let (inputs, mut outputs) = batch.into_parts();
-                let items = inputs.as_slice();
-                self.runner
-                    .run(rt, alloc, number, index, items, &mut outputs);
-                OneOr::Many(Outputs::new(outputs))
-            }
-        }
-    }
 }

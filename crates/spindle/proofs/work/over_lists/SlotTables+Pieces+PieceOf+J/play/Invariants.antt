@@ -8,7 +8,7 @@ use Rattle.spindle_trays.specs.PieceRuns.{items_before}
 use Rattle.spindle.specs.SlotPieces.{all_items}
 use Rattle.spindle.specs.SlotRounds.{LeadsAt}
 use Rattle.spindle.proofs.SlotRounds.{Held}
-use Rattle.spindle.proofs.work.in_slots.SlotTables+Pieces+PieceOf+J.play.Given as goal
+use Rattle.spindle.proofs.work.over_lists.SlotTables+Pieces+PieceOf+J.play.Given as goal
 
 abbrev pub invariant-loop-slot : goal.invariant-loop-slot
 invariant-loop-slot g l = let all = all_items l.fn.items in record {

@@ -1,6 +1,6 @@
 -- The post is between two rounds, whether it has played one or was refused.
 use Rattle.spindle.proofs.SlotPosts.{may_begin}
-use Rattle.spindle.proofs.lock.place_post.AnyPlaysInPlacePlacePost.play_in_place.Goals as goal
+use Rattle.spindle.proofs.lock.place_post.AnyPlaysInPlaceKeptPostChunkOf.play_in_place.Goals as goal
 
 pub returns-in_err-prepare-clause-between : goal.returns-in_err-prepare-clause-between
 returns-in_err-prepare-clause-between g c = let p = c.room-store.new.self.post in may_begin p.tables.value p.stance p.there p.stands

@@ -14,7 +14,7 @@ use Rattle.spindle_trays.proofs.Outputs.{AllZip-AddsAnswers}
 use Rattle.spindle_trays.proofs.PieceRuns.{before_end, before_first, items_more, next_fits}
 use Rattle.spindle.specs.SlotPieces.{IsAnswerTo, IsPieceOf, all_items, all_of, pieces_of}
 use Rattle.spindle.proofs.SlotRounds.{Held, answers_held, found_answer, still_leads}
-use Rattle.spindle.proofs.work.in_slots.SlotTables+Pieces+PieceOf+J.play.Goals as goal
+use Rattle.spindle.proofs.work.over_lists.SlotTables+Pieces+PieceOf+J.play.Goals as goal
 
 pub fill-requires-clause-held : goal.fill-requires-clause-held
 fill-requires-clause-held g c = subst (λ (k : ℕ). HoldsEach IsEmpty k c.args.barrier.now.seat.me.1) c.args.self.now.many c.requires.leads.hand
