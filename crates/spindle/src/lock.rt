@@ -1,7 +1,7 @@
 //! Locks: a caller opens one for a kind of job, and hands lists of items to its rounds. All that a user names of locks is given
 //! out here.
 //!
-//! Locks with slots: `slot_root` and `place_root` have how they open, `slot_leader` what both kinds of their leader share,
+//! Locks with slots: `slot_root` has the calls that open them and `slot_opening` how, `slot_leader` what both kinds of their leader share,
 //! `slot_rounds` and `place_rounds` their rounds, `slot_workspace` what they know their posts by, `kept_post` their posts, and `piece_post` and `place_post` how they play a round. Locks for one
 //! call: `one_round` opens one for a round, `folds` for the total of a list.
 
@@ -10,10 +10,10 @@ mod kept_post;
 mod one_round;
 mod piece_post;
 mod place_post;
-mod place_root;
 mod place_rounds;
 mod sealed;
 mod slot_leader;
+mod slot_opening;
 mod slot_root;
 mod slot_rounds;
 mod slot_workspace;
@@ -23,10 +23,9 @@ pub use self::kept_post::KeptPost;
 pub use self::one_round::run_one;
 pub use self::piece_post::{PiecePost, PlaysPieces};
 pub use self::place_post::{PlacePost, PlaysInPlace};
-pub use self::place_root::with_slots_in_place;
 pub use self::place_rounds::PlaceLeader;
 pub use self::slot_leader::SlotLeader;
-pub use self::slot_root::with_slots;
+pub use self::slot_root::{with_slots, with_slots_in_place};
 pub use self::slot_workspace::{MakesSlots, OpensSlots, SlotWorkspace};
 pub use crate::job::remake::{InPlace, Remake, Remakes};
 pub use crate::pieces::of_kind::{ChunkOf, Keeps, PieceOf};

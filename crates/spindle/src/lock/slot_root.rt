@@ -1,35 +1,23 @@
-//! Opening a lock with slots: as a lock without, with a table that has a slot for each job of a round.
+//! Opening a lock with slots in a thread that is in none: over lists, and in place.
 ghost use Rattle.std.specs.Prelude.{◌≡◌, ◌<◌, ◌≤◌, IfOk, OnErr, IsErrOf};
 ghost use Rattle.std.specs.Fn.{FnOnceReturnsAtMut};
-ghost use Rattle.std.specs.Arc.{arc_value};
-ghost use denote.Param.Send.{IsSync};
 ghost use Rattle.spindle_trays.specs.Locks.{lock_threads};
-ghost use Rattle.spindle_trays.specs.Opening.{AreSeatsAt};
-ghost use Rattle.spindle.specs.SlotLeaders.{TakesLeaders, IsLeaderOf, threads_of};
-ghost use Rattle.spindle_rounds.specs.Seating.{HasSlots};
+ghost use Rattle.spindle.specs.SlotLeaders.{TakesLeaders, threads_of};
 
-use crate::crew::slot_post::Newcomer;
+use crate::job::remake::Remakes;
 use crate::lock::slot_leader::SlotLeader;
+use crate::lock::slot_opening::open;
 use crate::lock::slot_workspace::{MakesSlots, SlotWorkspace};
-use crate::pieces::of_kind::PieceOf;
+use crate::pieces::of_kind::{ChunkOf, PieceOf};
 use spindle_parts::fault::Fault;
 use spindle_rounds::round_table::pieces::Pieces;
-use spindle_rounds::round_table::slots::Slots;
-use spindle_trays::crew::Crew;
-use spindle_trays::crew::limits::Limits;
-use spindle_trays::crew::seats::Seats;
-use spindle_trays::crew::tables::Tables;
 use spindle_trays::job::Job;
 use spindle_trays::job::gate::Gate;
 use spindle_trays::job::nest::Nest;
-use spindle_trays::lock::opening::muster;
-use spindle_trays::lock::part::TakesPart;
 use spindle_trays::lock::pool::Pool;
-use spindle_trays::work::runner::Runner;
 use std::alloc::Global;
-use std::sync::{Arc, Wait};
-use std::thread;
-use std::thread::{Scope, Threads};
+use std::sync::Wait;
+use std::thread::Threads;
 
 /// Opens a lock over jobs of kind J whose rounds have at most so many jobs, runs f with its leader, and closes the lock.
 ///
@@ -58,150 +46,34 @@ where
         × FnOnceReturnsAtMut F.FnOnce f old r new) }
     ensures memory { OnErr result (IsErrOf result Fault.Memory) }
 {
-    let crew = Crew::new(pool.max_num_threads(), max_threads);
-    let workspace = J::workspace(alloc, crew.threads())?;
-    let (tables, seats) = make::<J, _, SlotWorkspace<J>, P>(alloc, crew, pool.limits(), slots)?;
-    let tables = Arc::new(alloc, tables)?;
-    let entrant = Entrant {
-        tables: &*tables,
-        workspace: &workspace,
-        pool,
-        share: Arc::try_clone(&tables)?,
-        seats,
-        slots,
-    };
-    Ok(scoped(rt, alloc, entrant, f))
+    open::<J, PieceOf<J>, SlotWorkspace<J>, G, R, F, P, H>(rt, alloc, pool, max_threads, slots, f)
 }
 
-/// What the leader of a lock with slots comes to: the lock's tables, with a share of its own, what stands beside them, its pool,
-/// and its seats.
-#[derive(Drop)]
-pub(crate) struct Entrant<'s, D: Slots, G: Gate, L> {
-    pub(crate) tables: &'s Tables<D>,
-    pub(crate) workspace: &'s L,
-    pub(crate) pool: &'s Pool<G>,
-    pub(crate) share: Arc<Tables<D>>,
-    pub(crate) seats: Seats<D>,
-    pub(crate) slots: usize,
-    ghost same: { arc_value share ≡ tables.now },
-    ghost seated: { AreSeatsAt tables.now seats },
-    ghost many: { HasSlots tables.now.round.init slots },
-    ghost few: { (1 ≤ slots) × (slots ≤ 4294967295) },
-}
-
-impl<'s, D: Slots + Send + 's, G: Gate + Sync, L: Send + Sync> Entrant<'s, D, G, L> {
-    // Starts the helpers. The leader joins its barrier, and runs jobs with what comes beside.
-    pub(crate) fn muster<E, J: Job + Send + 's, H: Threads + Wait + Sync + 's>(
-        self,
-        scope: &Scope<'s, E>,
-        rt: &'s H,
-        alloc: Global,
-    ) -> (Newcomer<D>, Runner<'s, J, G>)
-    where
-        D::Slot: Send,
-        D::Note: Send,
-        J::In: Send + Sync,
-        J::Out: Send,
-        J::Inner: Send,
-        <J::Inner as Nest>::Slots: Send + Sync,
-        L: TakesPart<J, D>,
-        ensures slots { result.0.slots ≡ self.entry.slots }
-        ensures crew { result.1.site.crew ≡ self.entry.tables.now.crew }
-    {
-        let Entrant {
-            tables,
-            workspace,
-            pool,
-            share,
-            seats,
-            slots,
-        } = self;
-        let (post, runner) = muster::<E, D, J, G, L, H>(
-            scope, rt, alloc, tables, workspace, pool, seats,
-        );
-        (Newcomer::new(share, post, slots), runner)
-    }
-}
-
-// The tables of such a lock, and the leader's seats at them.
-pub(crate) fn make<J: MakesSlots<P, D, L>, D: Slots, L, P>(
-    alloc: Global,
-    crew: Crew,
-    limits: Limits,
-    slots: usize,
-) -> Result<(Tables<D>, Seats<D>), Fault>
-    ensures made { IfOk result (λ t. (t.0.crew ≡ crew) × AreSeatsAt t.0 t.1
-        × HasSlots t.0.round.init slots) }
-    ensures memory { OnErr result (IsErrOf result Fault.Memory) }
-{
-    let (round, seat) = J::rounds(alloc, crew.threads(), slots)?;
-    let child_slots = J::Inner::slot_count(crew.threads());
-    Tables::new(alloc, crew, limits, child_slots, round, seat)
-}
-
-// Opens the scope of the helpers' threads, which joins them at its end.
-fn scoped<
-    J: MakesSlots<P, Pieces<PieceOf<J>>, SlotWorkspace<J>> + Send,
+/// Opens a lock whose rounds remake lists in place, in at most so many jobs, runs f with its leader, and closes the lock.
+///
+/// J is `InPlace<M>` for a kind M of remaking. It is a lock as `with_slots` opens it, and a refusal hasn't run f.
+pub fn with_slots_in_place<
+    J: MakesSlots<P, Pieces<ChunkOf<J>>, SlotWorkspace<J>> + Remakes + Send,
     G: Gate + Sync,
     R,
     F: FnOnce(&mut SlotLeader<J, G, P>) -> R,
     P: Drop,
     H: Threads + Wait + Sync,
->(rt: &H, alloc: Global, entrant: Entrant<'_, Pieces<PieceOf<J>>, G, SlotWorkspace<J>>, f: F) -> R
+>(rt: &H, alloc: Global, pool: &Pool<G>, max_threads: usize, slots: usize, f: F) -> Result<R, Fault>
 where
     J::In: Send + Sync,
     J::Out: Send,
+    J::Item: Send,
     J::Inner: Send,
     <J::Inner as Nest>::Slots: Send + Sync,
-    requires callable { TakesLeaders J.OpensSlots.slot_count entrant.slots F.FnOnce f }
-    ensures { let of = entrant.entry in (old : _) × (new : _)
-        × IsLeaderOf J.OpensSlots.slot_count of.tables.now.crew.most of.slots old
-        × FnOnceReturnsAtMut F.FnOnce f old result new }
+    requires some { 0 < max_threads }
+    requires slots { (1 ≤ slots) × (slots ≤ 4294967295) }
+    requires callable { TakesLeaders J.OpensSlots.slot_count slots F.FnOnce f }
+    ensures promise { IfOk result (λ r. (old : _) × (new : _)
+        × (threads_of old ≡ lock_threads pool.now.threads max_threads)
+        × (J.OpensSlots.slot_count old.post ≡ slots)
+        × FnOnceReturnsAtMut F.FnOnce f old r new) }
+    ensures memory { OnErr result (IsErrOf result Fault.Memory) }
 {
-    thread::scope(
-        thread::scope_env(),
-        rt,
-        |scope| -> R
-            requires callable { TakesLeaders J.OpensSlots.slot_count entrant.slots F.FnOnce f }
-            requires sync { IsSync H.row }
-            ensures { let of = entrant.entry in (old : _) × (new : _)
-                × IsLeaderOf J.OpensSlots.slot_count of.tables.now.crew.most of.slots old
-                × FnOnceReturnsAtMut F.FnOnce f old result new }
-        { lead::<_, J, G, R, F, P, H>(scope, rt, alloc, entrant, f) },
-    )
-}
-
-// Starts the helpers, runs f, and dismisses them.
-fn lead<
-    's,
-    E,
-    J: MakesSlots<P, Pieces<PieceOf<J>>, SlotWorkspace<J>> + Send + 's,
-    G: Gate + Sync,
-    R,
-    F: FnOnce(&mut SlotLeader<J, G, P>) -> R,
-    P: Drop,
-    H: Threads + Wait + Sync + 's,
->(
-    scope: &Scope<'s, E>,
-    rt: &'s H,
-    alloc: Global,
-    entrant: Entrant<'s, Pieces<PieceOf<J>>, G, SlotWorkspace<J>>,
-    f: F,
-) -> R
-where
-    J::In: Send + Sync,
-    J::Out: Send,
-    J::Inner: Send,
-    <J::Inner as Nest>::Slots: Send + Sync,
-    requires callable { TakesLeaders J.OpensSlots.slot_count entrant.slots F.FnOnce f }
-    ensures { let of = entrant.entry in (old : _) × (new : _)
-        × IsLeaderOf J.OpensSlots.slot_count of.tables.now.crew.most of.slots old
-        × FnOnceReturnsAtMut F.FnOnce f old result new }
-{
-    let (newcomer, runner) = entrant.muster::<E, J, H>(scope, rt, alloc);
-    let mut newcomer = Some(newcomer);
-    let mut leader = SlotLeader::new(runner, J::settle(&mut newcomer));
-    let answer = f(&mut leader);
-    leader.dismiss(rt);
-    answer
+    open::<J, ChunkOf<J>, SlotWorkspace<J>, G, R, F, P, H>(rt, alloc, pool, max_threads, slots, f)
 }

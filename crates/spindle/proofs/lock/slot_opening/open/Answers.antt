@@ -4,7 +4,7 @@ use Rattle.spindle_trays.specs.Locks.{lock_threads}
 use Rattle.spindle_trays.specs.Opening.{AreSeatsAt}
 use Rattle.spindle_trays.specs.declared.crew.Crew.{Crew}
 use Rattle.spindle_rounds.specs.Seating.{slots_of}
-use Rattle.spindle.proofs.lock.slot_root.with_slots.Goals as goal
+use Rattle.spindle.proofs.lock.slot_opening.open.Goals as goal
 
 pub invariant_of-entrant-clause-seated : goal.invariant_of-entrant-clause-seated
 invariant_of-entrant-clause-seated g c =

@@ -1,7 +1,7 @@
 -- The leader of the closure is one of this lock, with its slots.
 use Rattle.std.proofs.Common.{ap, refl, ◌∙◌}
 use Rattle.spindle_trays.specs.declared.crew.Crew.{Crew}
-use Rattle.spindle.proofs.lock.place_root.lead.Goals as goal
+use Rattle.spindle.proofs.lock.slot_opening.lead.Goals as goal
 
 pub f-answer-requires : goal.f-answer-requires
 f-answer-requires g c = c.requires.callable c.new-leader.result
