@@ -1,10 +1,7 @@
 //! The lines of each shape in turn.
 ghost use Rattle.std.specs.Prelude.{◌≡◌};
 
-use crate::locks::{
-    add_in_place, in_slots, in_trays, leave_in_place, smooth_in_place, square_in_place,
-    stir_in_place,
-};
+use crate::locks::{in_place, in_slots, in_trays};
 use crate::rounds::maps::{MapPlaceRounds, MapRounds};
 use crate::rounds::nested::NestedRounds;
 use crate::rounds::products::ProductRounds;
@@ -99,27 +96,22 @@ fn run_in_place<H: Threads + Wait + Sync + Clock + Print + Alloc<A = Global>>(
     let alloc = rt.alloc();
     let jobs = shape.jobs(settings.threads);
     match shape {
-        Shape::Empty => leave_in_place(rt, settings, shape, EmptyPlaceRounds::new(alloc, jobs)?),
-        Shape::Tiny8 => stir_in_place(rt, settings, shape, TinyPlaceRounds::new(alloc, jobs)?),
-        Shape::Map => square_in_place(rt, settings, shape, MapPlaceRounds::new(alloc, jobs)?),
-        Shape::Stencil4k => add_in_place(
+        Shape::Empty => in_place(rt, settings, shape, EmptyPlaceRounds::new(alloc, jobs)?),
+        Shape::Tiny8 => in_place(rt, settings, shape, TinyPlaceRounds::new(alloc, jobs)?),
+        Shape::Map => in_place(rt, settings, shape, MapPlaceRounds::new(alloc, jobs)?),
+        Shape::Stencil4k => in_place(
             rt,
             settings,
             shape,
             StencilPlaceRounds::new(alloc, 4096, jobs)?,
         ),
-        Shape::Stencil256k => add_in_place(
+        Shape::Stencil256k => in_place(
             rt,
             settings,
             shape,
             StencilPlaceRounds::new(alloc, 262144, jobs)?,
         ),
-        Shape::Stencil100 => smooth_in_place(
-            rt,
-            settings,
-            shape,
-            SmoothPlaceRounds::new(alloc, jobs)?,
-        ),
+        Shape::Stencil100 => in_place(rt, settings, shape, SmoothPlaceRounds::new(alloc, jobs)?),
         _ => Ok(()),
     }
 }

@@ -2,13 +2,8 @@
 ghost use Rattle.std.specs.Prelude.{◌≡◌, ◌*◌, ◌<◌, ◌≤◌};
 ghost use denote.Param.Send.{IsSync};
 
-use crate::jobs::{AddOneInPlace, NothingInPlace, SmoothInPlace, SquareInPlace, StirInPlace};
-use crate::rounds::maps::MapPlaceRounds;
-use crate::rounds::small::{EmptyPlaceRounds, TinyPlaceRounds};
-use crate::rounds::smooth::SmoothPlaceRounds;
-use crate::rounds::stencils::StencilPlaceRounds;
 use crate::rounds::{PlaceRounds, Rounds, SlotRounds, TrayRounds};
-use spindle::lock::{InPlace, Job, Leader, Limits, Nest, NoGate, PlacePost, Pool, SlotLeader};
+use spindle::lock::{Job, Leader, Limits, Nest, NoGate, PlacePost, Pool, Remakes, SlotLeader};
 use spindle::{with_lock, with_slots, with_slots_in_place};
 use spindle_timing::line::Line;
 use spindle_timing::settings::Settings;
@@ -132,90 +127,22 @@ fn led_in_trays<S: TrayRounds, H: Threads + Wait + Sync + Clock + Print + Alloc<
     finish(rt, settings, Line::Trays, shape, &rounds, &times)
 }
 
-/// Runs the rounds of jobs that do nothing in a lock with a slot for each of their jobs, in place.
-pub fn leave_in_place<H: Threads + Wait + Sync + Clock + Print + Alloc<A = Global>>(
+/// Runs a shape's rounds in a lock with a slot for each of their jobs, in place.
+pub fn in_place<S: PlaceRounds, H: Threads + Wait + Sync + Clock + Print + Alloc<A = Global>>(
     rt: &H,
     settings: &Settings,
     shape: Shape,
-    rounds: EmptyPlaceRounds,
-) -> Result<(), Stop> {
-    with_slots_in_place::<InPlace<NothingInPlace>, NoGate, Result<(), Stop>, _, _, H>(
-        rt,
-        rt.alloc(),
-        &pool(settings),
-        settings.threads,
-        shape.jobs(settings.threads),
-        |leader| -> Result<(), Stop>
-            requires { IsSync H.row }
-        { led_in_place(rt, settings, shape, leader, rounds) },
-    )?
-}
-
-/// Runs the rounds of a stencil that adds one in a lock with a slot for each of their jobs, in place.
-pub fn add_in_place<H: Threads + Wait + Sync + Clock + Print + Alloc<A = Global>>(
-    rt: &H,
-    settings: &Settings,
-    shape: Shape,
-    rounds: StencilPlaceRounds,
-) -> Result<(), Stop> {
-    with_slots_in_place::<InPlace<AddOneInPlace>, NoGate, Result<(), Stop>, _, _, H>(
-        rt,
-        rt.alloc(),
-        &pool(settings),
-        settings.threads,
-        shape.jobs(settings.threads),
-        |leader| -> Result<(), Stop>
-            requires { IsSync H.row }
-        { led_in_place(rt, settings, shape, leader, rounds) },
-    )?
-}
-
-/// Runs the rounds of the stencil of many passes in a lock with a slot for each of their jobs, in place.
-pub fn smooth_in_place<H: Threads + Wait + Sync + Clock + Print + Alloc<A = Global>>(
-    rt: &H,
-    settings: &Settings,
-    shape: Shape,
-    rounds: SmoothPlaceRounds,
-) -> Result<(), Stop> {
-    with_slots_in_place::<InPlace<SmoothInPlace>, NoGate, Result<(), Stop>, _, _, H>(
-        rt,
-        rt.alloc(),
-        &pool(settings),
-        settings.threads,
-        shape.jobs(settings.threads),
-        |leader| -> Result<(), Stop>
-            requires { IsSync H.row }
-        { led_in_place(rt, settings, shape, leader, rounds) },
-    )?
-}
-
-/// Runs the rounds of small jobs in a lock with a slot for each of their jobs, in place.
-pub fn stir_in_place<H: Threads + Wait + Sync + Clock + Print + Alloc<A = Global>>(
-    rt: &H,
-    settings: &Settings,
-    shape: Shape,
-    rounds: TinyPlaceRounds,
-) -> Result<(), Stop> {
-    with_slots_in_place::<InPlace<StirInPlace>, NoGate, Result<(), Stop>, _, _, H>(
-        rt,
-        rt.alloc(),
-        &pool(settings),
-        settings.threads,
-        shape.jobs(settings.threads),
-        |leader| -> Result<(), Stop>
-            requires { IsSync H.row }
-        { led_in_place(rt, settings, shape, leader, rounds) },
-    )?
-}
-
-/// Runs the rounds that square numbers in a lock with a slot for each of their jobs, in place.
-pub fn square_in_place<H: Threads + Wait + Sync + Clock + Print + Alloc<A = Global>>(
-    rt: &H,
-    settings: &Settings,
-    shape: Shape,
-    rounds: MapPlaceRounds,
-) -> Result<(), Stop> {
-    with_slots_in_place::<InPlace<SquareInPlace>, NoGate, Result<(), Stop>, _, _, H>(
+    rounds: S,
+) -> Result<(), Stop>
+where
+    S::Kind: Send,
+    <S::Kind as Job>::In: Send + Sync,
+    <S::Kind as Job>::Out: Send,
+    <S::Kind as Job>::Inner: Send,
+    <<S::Kind as Job>::Inner as Nest>::Slots: Send + Sync,
+    <S::Kind as Remakes>::Item: Send,
+{
+    with_slots_in_place::<S::Kind, NoGate, Result<(), Stop>, _, _, H>(
         rt,
         rt.alloc(),
         &pool(settings),
@@ -232,7 +159,7 @@ fn led_in_place<S: PlaceRounds, H: Threads + Wait + Sync + Clock + Print + Alloc
     rt: &H,
     settings: &Settings,
     shape: Shape,
-    leader: &mut SlotLeader<InPlace<S::Kind>, NoGate, PlacePost<InPlace<S::Kind>>>,
+    leader: &mut SlotLeader<S::Kind, NoGate, PlacePost<S::Kind>>,
     mut rounds: S,
 ) -> Result<(), Stop>
     requires { IsSync H.row }

@@ -9,7 +9,7 @@ pub mod small;
 pub mod smooth;
 pub mod stencils;
 
-use spindle::lock::{End, InPlace, Job, Leader, NoGate, PlacePost, Remake, SlotLeader};
+use spindle::lock::{Job, Leader, NoGate, PlacePost, Remakes, SlotLeader};
 use spindle_timing::stop::Stop;
 use std::alloc::Global;
 use std::sync::Wait;
@@ -53,15 +53,15 @@ pub trait TrayRounds: Rounds {
 
 /// A shape's rounds in a lock whose rounds are played in place.
 pub trait PlaceRounds: Rounds {
-    /// The kind of remaking; its jobs open no locks.
-    type Kind: Remake<Inner = End>;
+    /// The kind of job, `InPlace<M>` for a kind M of remaking.
+    type Kind: Remakes;
 
     /// Runs one round.
     fn in_place<H: Threads + Wait + Sync>(
         &mut self,
         rt: &H,
         alloc: Global,
-        leader: &mut SlotLeader<InPlace<Self::Kind>, NoGate, PlacePost<InPlace<Self::Kind>>>,
+        leader: &mut SlotLeader<Self::Kind, NoGate, PlacePost<Self::Kind>>,
     ) -> Result<(), Stop>
         requires { IsSync H.row };
 }

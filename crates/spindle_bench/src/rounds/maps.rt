@@ -128,7 +128,7 @@ impl Rounds for MapPlaceRounds {
 }
 
 impl PlaceRounds for MapPlaceRounds {
-    type Kind = SquareInPlace;
+    type Kind = InPlace<SquareInPlace>;
 
     fn in_place<H: Threads + Wait + Sync>(
         &mut self,

@@ -100,7 +100,7 @@ impl Rounds for EmptyPlaceRounds {
 }
 
 impl PlaceRounds for EmptyPlaceRounds {
-    type Kind = NothingInPlace;
+    type Kind = InPlace<NothingInPlace>;
 
     fn in_place<H: Threads + Wait + Sync>(
         &mut self,
@@ -204,7 +204,7 @@ impl Rounds for TinyPlaceRounds {
 }
 
 impl PlaceRounds for TinyPlaceRounds {
-    type Kind = StirInPlace;
+    type Kind = InPlace<StirInPlace>;
 
     fn in_place<H: Threads + Wait + Sync>(
         &mut self,

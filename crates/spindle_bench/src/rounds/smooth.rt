@@ -117,7 +117,7 @@ impl Rounds for SmoothPlaceRounds {
 }
 
 impl PlaceRounds for SmoothPlaceRounds {
-    type Kind = SmoothInPlace;
+    type Kind = InPlace<SmoothInPlace>;
 
     fn in_place<H: Threads + Wait + Sync>(
         &mut self,

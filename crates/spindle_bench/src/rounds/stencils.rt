@@ -108,7 +108,7 @@ impl Rounds for StencilPlaceRounds {
 }
 
 impl PlaceRounds for StencilPlaceRounds {
-    type Kind = AddOneInPlace;
+    type Kind = InPlace<AddOneInPlace>;
 
     fn in_place<H: Threads + Wait + Sync>(
         &mut self,
