@@ -4,8 +4,10 @@ ghost use Rattle.std.specs.Prelude.{◌<◌, ◌≤◌};
 use crate::checks::is;
 use crate::jobs::{Calls, Counting};
 use crate::sevens::seven_items;
-use spindle::lock::{End, Gate, InPlace, JobCx, Limits, NoGate, Pool, Remake};
-use spindle::{Fault, with_slots_in_place};
+use spindle::lock::{
+    End, Gate, InPlace, JobCx, Limits, NoGate, PlaceLeader, Pool, Remake, RoundsInPlace,
+};
+use spindle::{Fault, play_in_place, with_slots_in_place};
 use std::alloc::Global;
 use std::sync::Wait;
 use std::thread::Threads;
@@ -39,6 +41,33 @@ fn numbers(alloc: Global, count: usize) -> Result<Vec<usize>, Fault> {
         list.push(number)?;
     }
     Ok(list)
+}
+
+/// So many rounds over a list of numbers, as a value.
+#[derive(Drop)]
+struct Steps {
+    list: Vec<usize>,
+    rounds: usize,
+}
+
+impl RoundsInPlace for Steps {
+    ghost use Rattle.std.specs.Prelude.{◌≡◌};
+
+    type Kind = InPlace<Step>;
+
+    ghost played = { λ old new. new.rounds ≡ old.rounds };
+
+    fn play<G: Gate, H: Threads + Wait + Sync>(
+        &mut self,
+        rt: &H,
+        alloc: Global,
+        leader: &mut PlaceLeader<Step, G>,
+    ) -> Result<(), Fault> {
+        for _ in 0..self.rounds {
+            leader.remake_each(rt, alloc, 4, &mut self.list)?;
+        }
+        Ok(())
+    }
 }
 
 // Whether each number from 0 up has made so many steps.
@@ -125,6 +154,24 @@ fn each_job_in_place_passes_the_gate_once(rt: HostRuntime) -> Result<(), Fault> 
             is(&rt, calls.of_job(0), (1, 1));
         }
     }
+    Ok(())
+}
+
+#[test]
+fn refused_rounds_as_a_value_are_played_when_asked_again(rt: HostRuntime) -> Result<(), Fault> {
+    let alloc = rt.alloc();
+    let pool = Pool::new(4, Limits::new(), NoGate);
+    let mut played = 0usize;
+    for _ in 0..2 {
+        let list = seven_items(alloc)?;
+        let steps = Steps { list, rounds: 50 };
+        if let Ok(steps) = play_in_place(&rt, alloc, &pool, 4, 3, steps) {
+            is(&rt, (steps.list.len(), steps.rounds), (7, 50));
+            assert!(rt; have_stepped(steps.list.as_slice(), 50));
+            played = played.wrapping_add(1);
+        }
+    }
+    assert!(rt; 0 < played);
     Ok(())
 }
 
