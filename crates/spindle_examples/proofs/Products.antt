@@ -3,7 +3,7 @@ use Rattle.std.proofs.Common.{◌≡◌, ℕ, zero, suc, ◌+◌, ◌*◌, ◌<�
 use Rattle.std.specs.List.{AllZip}
 use Rattle.spindle_parts.specs.Pieces.{joined}
 use Rattle.spindle_examples.specs.Product.{dot, row_of, product}
-use Rattle.spindle_examples.specs.Blocks.{rows_and_columns, IsFilled}
+use Rattle.spindle_examples.specs.Blocks.{IsFilled}
 use Rattle.spindle_examples.specs.declared.block.Block.{Block}
 
 -- one place more
@@ -45,18 +45,19 @@ product_runs [] columns = refl
 product_runs (run ∷ runs) columns =
     ap (λ l. product run columns ++ l) (product_runs runs columns) ∙ sym (product_append run (joined runs) columns)
 
--- and what blocks make
-made_of : (blocks : List Block)
-    → joined (map (λ block. product block.rows block.columns) blocks)
-    ≡ joined (map (λ (input : List (List ℕ) × List ℕ). product input.0 input.1) (map rows_and_columns blocks))
-made_of [] = refl
-made_of (block ∷ blocks) = ap (λ l. product block.rows block.columns ++ l) (made_of blocks)
+-- and what blocks or tiles make, which have such parts
+made_of : {B : Type 0} (parts : B → List (List ℕ) × List ℕ) (blocks : List B)
+    → joined (map (λ block. product (parts block).0 (parts block).1) blocks)
+    ≡ joined (map (λ (input : List (List ℕ) × List ℕ). product input.0 input.1) (map parts blocks))
+made_of parts [] = refl
+made_of parts (block ∷ blocks) = ap (λ l. product (parts block).0 (parts block).1 ++ l) (made_of parts blocks)
 
--- blocks of the runs make the product
-pub product_blocks : (blocks : List Block) (runs : List (List (List ℕ))) (columns : List ℕ) → map rows_and_columns blocks ≡ map (λ rows. (rows, columns)) runs
-    → joined (map (λ block. product block.rows block.columns) blocks) ≡ product (joined runs) columns
-product_blocks blocks runs columns same =
-    made_of blocks
+-- those of the runs make the product
+pub product_parts : {B : Type 0} (parts : B → List (List ℕ) × List ℕ) (blocks : List B) (runs : List (List (List ℕ))) (columns : List ℕ)
+    → map parts blocks ≡ map (λ rows. (rows, columns)) runs
+    → joined (map (λ block. product (parts block).0 (parts block).1) blocks) ≡ product (joined runs) columns
+product_parts parts blocks runs columns same =
+    made_of parts blocks
     ∙ ap (λ inputs. joined (map (λ (input : List (List ℕ) × List ℕ). product input.0 input.1) inputs)) same
     ∙ product_runs runs columns
 

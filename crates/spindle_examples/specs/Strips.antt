@@ -1,6 +1,5 @@
 -- The stencil's values in strips, each of which knows the value before it and the one behind it.
 use Rattle.std.specs.Prelude.{◌≡◌, ℕ, ◌+◌, ◌*◌, ◌/◌, List, [], ◌∷◌, map, get_or}
-use Rattle.std.specs.declared.alloc.Global.{Global}
 use Rattle.spindle_parts.specs.Pieces.{joined}
 use Rattle.spindle_examples.specs.declared.strip.Strip.{Strip}
 

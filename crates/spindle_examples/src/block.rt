@@ -1,46 +1,42 @@
 //! The blocks of a matrix product: some rows of the left matrix each, all columns of the right one, and the list of their entries,
-//! which a job fills where it stands. A round in place compares nothing, so a block may name all columns for the price of a pointer.
+//! which a job puts in its place. A round in place compares nothing, so a block may name all columns for the price of a pointer.
 ghost use Rattle.std.specs.Prelude.{◌≡◌, IfOk, map};
 ghost use Rattle.spindle_examples.specs.Blocks.{rows_and_columns, IsFilled};
 
-use crate::entries::filled;
-use spindle::lock::{End, JobCx, Remake};
+use crate::tile::{MultiplyTile, worked};
+use spindle::lock::{JobCx, Remake, Under};
 use spindle::{Fault, ListRun, SharedList};
 use std::alloc::{AllocError, Global};
 use std::sync::Wait;
 use std::thread::Threads;
 
-/// A block of the product: its rows of the left matrix, the columns, which stand one behind the other, and its entries, where
-/// there was memory for them.
+/// A block of the product: its rows of the left matrix, the columns, which stand one behind the other, and its entries, unless the
+/// round over its tiles was refused.
 #[derive(Drop)]
 pub struct Block {
     rows: ListRun<SharedList<u64>>,
     columns: SharedList<u64>,
-    entries: Result<Vec<u64>, AllocError>,
+    entries: Result<Vec<u64>, Fault>,
 }
 
-/// Fills in the entries of a block.
+/// Fills in the entries of a block, tile by tile in a round of its own.
 pub struct Multiply;
 
 impl Remake for Multiply {
     type Item = Block;
 
-    type Inner = End;
+    type Inner = Under<MultiplyTile>;
 
     ghost remade = { IsFilled };
 
     fn run<H: Threads + Wait + Sync>(
-        _rt: &H,
-        _alloc: Global,
+        rt: &H,
+        alloc: Global,
         item: Block,
-        _cx: &mut JobCx<End>,
+        cx: &mut JobCx<Under<MultiplyTile>>,
     ) -> Block {
-        let Block {
-            rows,
-            columns,
-            entries,
-        } = item;
-        let entries = filled(entries, rows.as_slice(), columns.as_slice());
+        let Block { rows, columns, .. } = item;
+        let entries = worked(rt, alloc, &rows, &columns, cx);
         Block {
             rows,
             columns,
@@ -73,7 +69,7 @@ pub fn blocks_of(
 pub fn entries_of(
     alloc: Global,
     blocks: Vec<Block>,
-) -> Result<Vec<Result<Vec<u64>, AllocError>>, AllocError>
+) -> Result<Vec<Result<Vec<u64>, Fault>>, AllocError>
     ensures { IfOk result (λ lists. lists.items ≡ map (λ block. block.entries) blocks.items) }
 {
     let mut lists = Vec::new(alloc);

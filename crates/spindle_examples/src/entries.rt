@@ -5,18 +5,17 @@ ghost use Rattle.spindle_examples.specs.Product.{dot, row_of, product};
 ghost use Rattle.spindle_examples.specs.Wrapping.{wrapped};
 
 use spindle::SharedList;
-use std::alloc::AllocError;
+use std::alloc::{AllocError, Global};
 
-/// The entries of these rows, row by row, in the list that stands there, unless memory for it was refused before.
+/// The entries of these rows, row by row.
 pub fn filled(
-    entries: Result<Vec<u64>, AllocError>,
+    alloc: Global,
     rows: &[SharedList<u64>],
     columns: &[u64],
 ) -> Result<Vec<u64>, AllocError>
     ensures { IfOk result (λ entries. entries.items ≡ product rows.now columns.now) }
 {
-    let mut entries = entries?;
-    entries.clear();
+    let mut entries = Vec::new(alloc);
     for row in rows {
         add_row(&mut entries, row.as_slice(), columns)?;
     }

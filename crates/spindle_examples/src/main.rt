@@ -1,6 +1,6 @@
 //! Programs of the users' fields, each a few dozen lines over the public calls of `spindle`, with its contract in its own
 //! terms: a batch that loses nothing, one that a failure stops, prefix sums in two rounds, a matrix product in blocks that
-//! stand in place, a stencil of many passes, in place too, keys looked up in a table that all jobs are lent, and a game evaluated by rounds
+//! stand in place and in tiles of these, a stencil of many passes, in place too, keys looked up in a table that all jobs are lent, and a game evaluated by rounds
 //! in rounds.
 //!
 //! The program runs each once over fixed numbers, and prints what comes out. The tests compute the same plainly. Where the
@@ -25,6 +25,7 @@ mod strip;
 mod sums;
 #[cfg(test)]
 mod tests;
+mod tile;
 mod trace;
 
 use crate::batch::Order;

@@ -1,12 +1,13 @@
-//! A matrix product in blocks, by one round in place over them. The rows and the columns are shared lists, so nobody copies them.
+//! A matrix product in blocks, by one round in place over them, whose jobs run rounds of their own over the tiles of their block. The
+//! rows and the columns are shared lists, so nobody copies them.
 ghost use Rattle.std.specs.Prelude.{◌≡◌, ◌≤◌, IfOk, map};
 ghost use Rattle.std.specs.List.{AllZip};
 ghost use Rattle.spindle_examples.specs.Product.{product};
 ghost use Rattle.spindle_examples.specs.Blocks.{IsFilled};
 
 use crate::block::{Block, Multiply, blocks_of, entries_of};
-use spindle::lock::{Gate, InPlace, PlaceLeader, Pool};
-use spindle::{Fault, SharedList, gathered, with_slots_in_place};
+use spindle::lock::{Gate, InPlace, PlaceLeader, Pool, RoundsInPlace};
+use spindle::{Fault, SharedList, gathered, play_in_place};
 use std::alloc::Global;
 use std::sync::Wait;
 use std::thread::Threads;
@@ -29,8 +30,9 @@ pub fn multiplied<G: Gate + Sync, H: Threads + Wait + Sync>(
     let rows = SharedList::from_vec(alloc, shared(alloc, rows)?)?;
     let runs = rows.share_out_evenly(alloc, blocks)?;
     let unfilled = blocks_of(alloc, runs, &columns)?;
-    let filled = fill(rt, alloc, pool, blocks, unfilled)?;
-    let lists = entries_of(alloc, filled)?;
+    let unfilled = Filling { blocks: unfilled };
+    let filled = play_in_place(rt, alloc, pool, pool.max_num_threads(), blocks, unfilled)?;
+    let lists = entries_of(alloc, filled.blocks)?;
     Ok(gathered(alloc, lists)??)
 }
 
@@ -45,36 +47,24 @@ fn shared(alloc: Global, rows: Vec<Vec<u64>>) -> Result<Vec<SharedList<u64>>, Fa
     Ok(lists)
 }
 
-// The round of a lock.
-fn round<G: Gate, H: Threads + Wait + Sync>(
-    rt: &H,
-    alloc: Global,
-    leader: &mut PlaceLeader<Multiply, G>,
-    mut blocks: Vec<Block>,
-) -> Result<Vec<Block>, Fault>
-    ensures { IfOk result (λ new. AllZip IsFilled blocks.items new.items) }
-{
-    leader.remake_each(rt, alloc, blocks.len(), &mut blocks)?;
-    Ok(blocks)
+/// The round over the blocks of a product.
+#[derive(Drop)]
+struct Filling {
+    blocks: Vec<Block>,
 }
 
-// Fills in all blocks, in at most so many jobs.
-fn fill<G: Gate + Sync, H: Threads + Wait + Sync>(
-    rt: &H,
-    alloc: Global,
-    pool: &Pool<G>,
-    jobs: usize,
-    blocks: Vec<Block>,
-) -> Result<Vec<Block>, Fault>
-    requires { (1 ≤ jobs) × (jobs ≤ 4294967295) }
-    ensures { IfOk result (λ new. AllZip IsFilled blocks.items new.items) }
-{
-    with_slots_in_place::<InPlace<Multiply>, _, _, _, _, _>(
-        rt,
-        alloc,
-        pool,
-        pool.max_num_threads(),
-        jobs,
-        |leader| { round(rt, alloc, leader, blocks) },
-    )?
+impl RoundsInPlace for Filling {
+    type Kind = InPlace<Multiply>;
+
+    ghost played = { λ old new. AllZip IsFilled old.blocks.items new.blocks.items };
+
+    fn play<G: Gate, H: Threads + Wait + Sync>(
+        &mut self,
+        rt: &H,
+        alloc: Global,
+        leader: &mut PlaceLeader<Multiply, G>,
+    ) -> Result<(), Fault> {
+        let jobs = self.blocks.len();
+        leader.remake_each(rt, alloc, jobs, &mut self.blocks)
+    }
 }

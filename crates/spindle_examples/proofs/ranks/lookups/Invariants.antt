@@ -1,6 +1,5 @@
 -- The keys so far, each with the table.
 use Rattle.std.proofs.Common.{◌≡◌, map}
-use Rattle.spindle_examples.specs.declared.ranks.Lookup.{Lookup}
 use Rattle.spindle_examples.proofs.ranks.lookups.Given as goal
 
 abbrev pub invariant-loop-key : goal.invariant-loop-key

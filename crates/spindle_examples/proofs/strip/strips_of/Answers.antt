@@ -1,5 +1,5 @@
 -- One strip more.
-use Rattle.std.proofs.Common.{List, ◌≡◌, ◌++◌, ◌∷◌, [], ap, sym, ◌∙◌, append_assoc, ℕ}
+use Rattle.std.proofs.Common.{List, ◌++◌, ap, sym, ◌∙◌, append_assoc, ℕ}
 use Rattle.std.specs.Slice.Iter.{chunks_rest}
 use Rattle.spindle_examples.specs.Strips.{values_of}
 use Rattle.spindle_examples.proofs.Passes.{values_snoc}
