@@ -2,6 +2,7 @@
 ghost use Rattle.std.specs.Prelude.{◌<◌, ◌≤◌};
 
 use crate::checks::is;
+use crate::gates::Meetings;
 use crate::jobs::{Calls, Counting};
 use crate::sevens::seven_items;
 use spindle::lock::{
@@ -151,6 +152,24 @@ fn each_job_in_place_passes_the_gate_once(rt: HostRuntime) -> Result<(), Fault> 
             is(&rt, calls.of_job(0), (1, 1));
         }
     }
+    Ok(())
+}
+
+// Three slots are three jobs, and of two threads each waits at the gate for the other's job.
+#[test]
+fn a_lock_for_rounds_as_a_value_has_the_slots_and_threads_asked_for(
+    rt: HostRuntime,
+) -> Result<(), Fault> {
+    let alloc = rt.alloc();
+    let calls = Calls::new();
+    let pool = Pool::new(4, Limits::new(), Counting { calls: &calls });
+    let list = seven_items(alloc)?;
+    play_in_place(&rt, alloc, &pool, 4, 3, Steps { list })?;
+    is(&rt, calls.in_all(), (3, 3));
+    let meetings = Meetings::new();
+    let list = numbers(alloc, 2)?;
+    play_in_place(&rt, alloc, &meetings.pool(2), 2, 2, Steps { list })?;
+    is(&rt, meetings.counts(), (2, 0));
     Ok(())
 }
 

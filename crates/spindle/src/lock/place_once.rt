@@ -1,5 +1,5 @@
 //! Rounds in place as a value: a lock is opened for it and plays it, where a closure can't be, since its jobs open locks too.
-ghost use Rattle.std.specs.Prelude.{◌≡◌, ◌<◌, ◌≤◌, IfOk, OnOk};
+ghost use Rattle.std.specs.Prelude.{◌≡◌, ◌<◌, ◌≤◌, IfOk, OnOk, OnErr, IsErrOf};
 ghost use denote.Param.Send.{IsSync};
 
 use crate::job::remake::Remakes;
@@ -23,7 +23,7 @@ pub trait RoundsInPlace: Drop {
     /// The relation between what the rounds begin with and what they leave.
     ghost played: { Self → Self → Type 0 };
 
-    /// Plays the rounds with the leader of their lock.
+    /// Plays the rounds with the leader of their lock. They are refused for memory alone, as each of them is.
     fn play<G: Gate, H: Threads + Wait + Sync>(
         &mut self,
         rt: &H,
@@ -31,11 +31,12 @@ pub trait RoundsInPlace: Drop {
         leader: &mut SlotLeader<Self::Kind, G, PlacePost<Self::Kind>>,
     ) -> Result<(), Fault>
         requires { IsSync H.row }
-        ensures { OnOk result (played self.old self.new) };
+        ensures played { OnOk result (played self.old self.new) }
+        ensures memory { OnErr result (IsErrOf result Fault.Memory) };
 }
 
-/// Opens a lock as `with_slots_in_place` does, plays the rounds with its leader, and closes the lock. After a refusal the rounds
-/// are given up, with what they hold.
+/// Opens a lock as `with_slots_in_place` does, plays the rounds with its leader, and closes the lock. It is refused for memory
+/// alone; then the rounds are given up, with what they hold.
 ///
 /// Where the jobs open locks themselves, the checker covers this call and not one with a closure.
 pub fn play_in_place<S: RoundsInPlace, G: Gate + Sync, H: Threads + Wait + Sync>(
@@ -55,7 +56,8 @@ where
     <<S::Kind as Job>::Inner as Nest>::Slots: Send + Sync,
     requires some { 0 < max_threads }
     requires slots { (1 ≤ slots) × (slots ≤ 4294967295) }
-    ensures { IfOk result (λ new. S.played rounds new) }
+    ensures played { IfOk result (λ new. S.played rounds new) }
+    ensures memory { OnErr result (IsErrOf result Fault.Memory) }
 {
     with_slots_in_place::<S::Kind, G, Result<S, Fault>, _, _, H>(
         rt,
@@ -65,7 +67,8 @@ where
         slots,
         |leader| -> Result<S, Fault>
             requires { IsSync H.row }
-            ensures { IfOk result (λ new. S.played rounds new) }
+            ensures played { IfOk result (λ new. S.played rounds new) }
+            ensures memory { OnErr result (IsErrOf result Fault.Memory) }
         {
             rounds.play(rt, alloc, leader)?;
             Ok(rounds)
