@@ -1,5 +1,5 @@
 -- The pieces of a round in the slots of its table.
-use Rattle.std.proofs.Common.{◌≡◌, ℕ, ◌+◌, ◌-◌, ◌*◌, ◌/◌, ◌%◌, ◌<◌, ◌≤◌, List, [], ◌∷◌, length, length-drop, take, drop, reverse, true, refl, ap, sym, ◌∙◌, subst, arith}
+use Rattle.std.proofs.Common.{◌≡◌, ℕ, zero, suc, ◌+◌, ◌-◌, ◌*◌, ◌/◌, ◌%◌, ◌<◌, ◌≤◌, List, [], ◌∷◌, length, length-drop, take, drop, reverse, true, refl, ap, sym, ◌∙◌, subst, arith}
 use Rattle.std.proofs.Math.Nat.{div_self, mod_self}
 use Rattle.std.proofs.lemmas.List.{length-take, reverse-append}
 use Rattle.std.specs.List.{AllZip}
@@ -19,6 +19,7 @@ use Rattle.spindle_rounds.proofs.PieceClients.{one_at_hand}
 use Rattle.spindle_rounds.specs.RoundSteps.{round_of}
 use Rattle.spindle_rounds.specs.RoundViews.{Onward}
 use Rattle.spindle_rounds.proofs.SlotHands.{laid_out, awaits, collected, turning_less}
+use Rattle.spindle_parts.specs.Pieces.{counted}
 use Rattle.spindle_trays.specs.PieceRuns.{piece_start, piece_at}
 use Rattle.spindle.specs.declared.pieces.slot_piece.OneOr.{OneOr}
 use Rattle.spindle.specs.SlotPieces.{IsAnswerTo, IsItemOf, IsPieceOf, all_of}
@@ -54,6 +55,12 @@ pub items_are_pieces : {A B : Type 0} (items : List A) (n slots : ℕ) (c : List
     → Turning IsEmpty (WaitsAs (IsItemOf items)) slots n c → Turning IsEmpty (WaitsAs (IsPieceOf items n)) slots n c
 items_are_pieces items n slots c many t = turning_less IsEmpty IsEmpty (WaitsAs (IsItemOf items)) (WaitsAs (IsPieceOf items n)) slots n c t (λ k y e. e)
     (λ k y w. (w.0, w.1, item_is_piece items n k w.0 many w.2))
+
+-- of the numbers from one on, the one at a place
+pub one_counted : (from n k : ℕ) → k < n → take 1 (drop k (counted from n)) ≡ (from + k) ∷ []
+one_counted from zero k lt = absurd (omega arith)
+one_counted from (suc n) zero lt = ap (λ (z : ℕ). z ∷ []) (omega arith)
+one_counted from (suc n) (suc k) lt = one_counted (from + 1) n k (omega arith) ∙ ap (λ (z : ℕ). z ∷ []) (omega arith)
 
 pub reverse_twice : {A : Type 0} (xs : List A) → reverse (reverse xs) ≡ xs
 reverse_twice [] = refl

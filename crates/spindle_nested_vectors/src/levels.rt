@@ -1,5 +1,5 @@
-//! Rows of three kinds of jobs, each under the next: a lock's jobs run rounds whose jobs run rounds of their own, of numbers that
-//! are doubled.
+//! Rows of three and four kinds of jobs, each under the next: a lock's jobs run rounds whose jobs run rounds of their own, of numbers
+//! that are doubled.
 ghost use Rattle.std.specs.Prelude.{◌<◌};
 ghost use Rattle.std.proofs.Common.{rules};
 ghost use denote.Param.Send.{IsSync};
@@ -15,6 +15,7 @@ use spindle_trays::job::nest::{Nest, Under};
 use spindle_trays::lock::pool::Pool;
 use spindle_trays::lock::root::with_lock;
 use std::alloc::Global;
+use std::marker::PhantomData;
 use std::process::Abort;
 use std::sync::Wait;
 use std::thread::Threads;
@@ -48,15 +49,21 @@ impl Job for OneLevel {
     ghost equal_is_same = { Prim.search rules };
 }
 
-/// Has three numbers answered by a round of `OneLevel`, and answers the sum.
-pub struct TwoLevels;
+/// Has three numbers answered by a round of jobs of kind K, and answers the sum.
+pub struct Above<K> {
+    below: PhantomData<K>,
+}
 
-impl Job for TwoLevels {
+impl<K: Job<In = u64, Out = Option<u128>> + Send> Job for Above<K>
+where
+    K::Inner: Send,
+    <K::Inner as Nest>::Slots: Send + Sync,
+{
     type In = u64;
 
     type Out = Option<u128>;
 
-    type Inner = Under<OneLevel>;
+    type Inner = Under<K>;
 
     ghost meets = { λ _ _. Unit {0} };
 
@@ -64,7 +71,7 @@ impl Job for TwoLevels {
         rt: &H,
         alloc: Global,
         number: &u64,
-        cx: &mut JobCx<Under<OneLevel>>,
+        cx: &mut JobCx<Under<K>>,
     ) -> Option<u128> {
         sum_of(&cx.for_each(rt, alloc, 3, below(alloc, *number)?).ok()?)
     }
@@ -87,7 +94,7 @@ fn sum_of(sums: &[Option<u128>]) -> Option<u128> {
     Some(all)
 }
 
-// So many rounds of three jobs in a lock of so many threads, each of whose jobs has nine doubled numbers below it.
+// So many rounds of three jobs in a lock of so many threads, with what they answer.
 //
 // The kind of its jobs is a parameter: where a function of so many statements names it, the check of the types that three kinds
 // make of each other takes too many steps.
@@ -96,6 +103,7 @@ fn sum_often<K: Job<In = u64, Out = Option<u128>> + Send, H: Threads + Wait + Ab
     alloc: Global,
     threads: usize,
     rounds: usize,
+    expected: [Option<u128>; 3],
 ) -> Result<(), Fault>
 where
     K::Inner: Send,
@@ -106,18 +114,44 @@ where
     with_lock::<K, _, _, _, _, _>(rt, alloc, &pool, threads, |leader| {
         for _ in 0..rounds {
             let sums = leader.for_each(rt, alloc, 3, Vec::from_array(alloc, [0, 1, 2])?)?;
-            are(rt, &sums, &[Some(72), Some(234), Some(396)]);
+            are(rt, &sums, &expected);
         }
         Ok::<(), Fault>(())
     })?
 }
 
+// The same of jobs two levels above those of a kind.
+fn sum_two_above<K: Job<In = u64, Out = Option<u128>> + Send, H: Threads + Wait + Abort + Sync>(
+    rt: &H,
+    alloc: Global,
+    threads: usize,
+    rounds: usize,
+    expected: [Option<u128>; 3],
+) -> Result<(), Fault>
+where
+    K::Inner: Send,
+    <K::Inner as Nest>::Slots: Send + Sync,
+    requires { 0 < threads }
+{
+    sum_often::<Above<Above<K>>, H>(rt, alloc, threads, rounds, expected)
+}
+
 #[test]
 fn three_kinds_of_jobs_by_two_threads(rt: HostRuntime) -> Result<(), Fault> {
-    sum_often::<TwoLevels, _>(&rt, rt.alloc(), 2, 20)
+    sum_often::<Above<OneLevel>, _>(&rt, rt.alloc(), 2, 20, [Some(72), Some(234), Some(396)])
 }
 
 #[test]
 fn three_kinds_of_jobs_by_eight_threads(rt: HostRuntime) -> Result<(), Fault> {
-    sum_often::<TwoLevels, _>(&rt, rt.alloc(), 8, 20)
+    sum_often::<Above<OneLevel>, _>(&rt, rt.alloc(), 8, 20, [Some(72), Some(234), Some(396)])
+}
+
+#[test]
+fn four_kinds_of_jobs_by_two_threads(rt: HostRuntime) -> Result<(), Fault> {
+    sum_two_above::<OneLevel, _>(&rt, rt.alloc(), 2, 20, [Some(702), Some(2160), Some(3618)])
+}
+
+#[test]
+fn four_kinds_of_jobs_by_eight_threads(rt: HostRuntime) -> Result<(), Fault> {
+    sum_two_above::<OneLevel, _>(&rt, rt.alloc(), 8, 20, [Some(702), Some(2160), Some(3618)])
 }

@@ -25,6 +25,7 @@ use Rattle.spindle_rounds.specs.RoundSteps.{noted, round_of}
 use Rattle.spindle_rounds.specs.SlotSteps.{numbered, board_out, board_back, IsDeed, IsSure, TakeOutTells, taking_out, GiveBackTells, giving_back}
 use Rattle.spindle_rounds.specs.RoundConditions.{MayTakeOut, MayPutAll, MayGiveBack}
 use Rattle.spindle_rounds.specs.RoundRuns.{PlainLoad}
+use Rattle.spindle_rounds.specs.Words.{published_at}
 use Rattle.spindle_rounds.specs.SpotPlaces.{spot_else}
 use Rattle.spindle_rounds.proofs.RoundMoves.{Rule, SeatOf, moves_with, still_laid}
 use Rattle.spindle_rounds.proofs.PlainRounds.{at_rest, was_shown, plain_finished}
@@ -136,13 +137,13 @@ module _ {X N : Type 0} (D : Discipline X N) (law : Lawful D) where
     loaded : (run : List Event) (s : table.State X (View N)) → Rule D t run s → (id : ℕ) (me : SeatOf D t) (q : ℕ) → get_elem? s.views id ≡ some me.0
         → AtLoad run s id me q → (x : Trace Kind) → (deed_of x.kind ≡ []) → (b : List (ℕ × Spot N)) (a : Act X)
         → (let w : View N = noted x (record me.0 { board = b }) in
-        D.clause (state run) (homes_after s.homes me.1 a) (set s.views 0 w) → Rule D t run (stepped s 8 (get_or s.words 8 0) id me.1 w a))
+        D.clause (state run) (homes_after s.homes me.1 a) (set s.views 0 w) → Rule D t run (stepped s published_at (get_or s.words published_at 0) id me.1 w a))
     loaded run s r id me q at l x none_done b a c = let S : State = state run in let shows = (r.seats id me.0 at).0 in
         let w : View N = noted x (record me.0 { board = b }) in
-        moves_with D t run s r 8 (get_or s.words 8 0) id me w a [] at tt r.is_run (subst (Words t S) (sym (set-get_or s.words 8 0)) r.words)
+        moves_with D t run s r published_at (get_or s.words published_at 0) id me w a [] at tt r.is_run (subst (Words t S) (sym (set-get_or s.words published_at 0)) r.words)
         record { stands = shows.stands; leads = shows.leads; claim = shows.claim; share = shows.share; inside = shows.inside }
         (ap (λ (d : List _). d ++ deeds_of me.0.trail) none_done ∙ (r.seats id me.0 at).1) refl
-        (still_laid D t run s r 8 (get_or s.words 8 0) id me w [] at (inr refl) refl refl (λ _. refl) (inl (omega arith, (λ _. refl), λ _ _. refl)))
+        (still_laid D t run s r published_at (get_or s.words published_at 0) id me w [] at (inr refl) refl refl (λ _. refl) (inl (omega arith, (λ _. refl), λ _ _. refl)))
         (subst (λ (z : ℕ). D.clause S (homes_after s.homes me.1 a) (set s.views z w)) (sym l.leads) c)
 
     sure_finished : (run : List Event) (s : table.State X (View N)) → Rule D t run s → (id : ℕ) (me : SeatOf D t) (q : ℕ) → get_elem? s.views id ≡ some me.0
@@ -153,16 +154,16 @@ module _ {X N : Type 0} (D : Discipline X N) (law : Lawful D) where
         let plain = was_shown false id run r.is_run j z.0 (subst (IsDeed (Showed j z.0 false)) (r.seats id me.0 at).1 z.2) in
         plain_finished (state run) (sound run r.is_run) l.hidden l.open_now j z.0 k plain z.1
 
-    pub takes_out : (slots id : ℕ) (me : SeatOf D t) → MayTakeOut D slots me.0 → PlainLoad D t slots id me 8 (TakeOutTells D)
+    pub takes_out : (slots id : ℕ) (me : SeatOf D t) → MayTakeOut D slots me.0 → PlainLoad D t slots id me published_at (TakeOutTells D)
     takes_out slots id me may = record {
       shows = λ run s r many at _. let q : ℕ = may.0.0.0 in let l = at_load run s r id me q at may.0.0.1 may.0.1 in let S : State = state run in
-          let x : ℕ = get_or s.words 8 0 in let w : View N = taking_out D slots x me.0 in
+          let x : ℕ = get_or s.words published_at 0 in let w : View N = taking_out D slots x me.0 in
           let calm = at_rest S (sound run r.is_run) l.hidden l.open_now in
           let d = takes_down S slots s.homes s.views me.0 me.1 calm r.slots l.at_0 (omega arith) may.1 w refl refl refl in (
             w,
             d.0,
             d.2,
-            loaded run s r id me q at l (trace 8 kind.TakeOut x x) refl (board_out slots me.0.board) d.0 d.5,
+            loaded run s r id me q at l (trace published_at kind.TakeOut x x) refl (board_out slots me.0.board) d.0 d.5,
             (
               d.1,
               d.3,
@@ -172,10 +173,10 @@ module _ {X N : Type 0} (D : Discipline X N) (law : Lawful D) where
           );
     }
 
-    pub gives_back : (slots id : ℕ) (me : SeatOf D t) → MayGiveBack D me → PlainLoad D t slots id me 8 (GiveBackTells D)
+    pub gives_back : (slots id : ℕ) (me : SeatOf D t) → MayGiveBack D me → PlainLoad D t slots id me published_at (GiveBackTells D)
     gives_back slots id me may = record {
       shows = λ run s r many at _. let q : ℕ = may.0 in let l = at_load run s r id me q at may.1 may.2 in let S : State = state run in
-          let x : ℕ = get_or s.words 8 0 in let w : View N = giving_back D x me.1 me.0 in
+          let x : ℕ = get_or s.words published_at 0 in let w : View N = giving_back D x me.1 me.0 in
           let calm = at_rest S (sound run r.is_run) l.hidden l.open_now in
           let here : round_of me.0.standing ≡ S.round = ap round_of may.1 ∙ sym l.round in
           let put = subst (λ (z : ℕ). MayPutAll D z me.1 me.0.board) (sym l.round) may.3 in
@@ -183,7 +184,7 @@ module _ {X N : Type 0} (D : Discipline X N) (law : Lawful D) where
             w,
             d.0,
             d.1,
-            loaded run s r id me q at l (trace 8 kind.GiveBack x x) refl (board_back D (round_of me.0.standing) me.1 me.0.board) d.0 d.3,
+            loaded run s r id me q at l (trace published_at kind.GiveBack x x) refl (board_back D (round_of me.0.standing) me.1 me.0.board) d.0 d.3,
             λ i. (
               w,
               d.2 i,

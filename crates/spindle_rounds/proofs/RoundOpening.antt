@@ -11,7 +11,7 @@ use Rattle.spindle_parts.specs.Runs.{state}
 use Rattle.spindle_rounds.specs.declared.round_table.view.View.{View}
 use Rattle.spindle_rounds.specs.RoundSlots.{Discipline, Lawful}
 use Rattle.spindle_rounds.specs.RoundRule.{Shows, Laid, deeds, deeds_of}
-use Rattle.spindle_rounds.specs.Words.{words_of}
+use Rattle.spindle_rounds.specs.Words.{barrier_at, published_at, words_of}
 use Rattle.spindle_rounds.specs.RoundSteps.{outsider}
 use Rattle.spindle_rounds.proofs.RoundMoves.{Rule}
 
@@ -47,8 +47,8 @@ module _ {X N : Type 0} (D : Discipline X N) (law : Lawful D) (t : ℕ) where
     is_run = tt;
     words = record {
       wide = wide;
-      barrier = zeros 0;
-      published = zeros 8;
+      barrier = zeros barrier_at;
+      published = zeros published_at;
       finished = λ n. absurd (n refl);
       stopped = λ n. absurd (n refl);
       counters = λ n e. absurd cc;

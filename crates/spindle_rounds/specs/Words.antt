@@ -12,7 +12,7 @@ barrier_at = 0
 
 -- the number of jobs published
 abbrev pub published_at : ℕ
-published_at = 8
+published_at = 1
 
 -- how many jobs of the round have finished
 abbrev pub finished_at : ℕ

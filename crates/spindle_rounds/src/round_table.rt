@@ -3,15 +3,16 @@
 //! | word | holds | changed by |
 //! |---|---|---|
 //! | 0 | the barrier word: bits 0 to 14 count the members that haven't arrived, bit 15 is 0, bits 16 to 30 count the members, bit 31 is the sense, the lowest bit of the number of ended rounds; the high half is 0 | join, arrive, leave, exit, end |
-//! | 8 | published: 0 for none, n for a round of n jobs, n + 2^32 for one that may stop | `publish`, `publish_try`; `clear` |
+//! | 1 | published: 0 for none, n for a round of n jobs, n + 2^32 for one that may stop | `publish`, `publish_try`; `clear` |
 //! | 16 | finished: how many jobs of the round have finished | `fill`; `finish` |
 //! | 24 | stopped: 1 once the round is stopped | `fill`; `stop` |
 //! | 32 | the remainder: v > 0 stands for job n - v | `fill`; `try_claim_rest` |
 //! | 40 + 8 i | the range of thread i: its start in the low 32 bits, its end, not included, in the high 32 | `fill`; `try_claim_own`, `try_steal`, `put_back` |
 //! | 40 + 8 (t + i) | the share of thread i: what is left of it, in the form of a range; nobody reads it | `next_of_share` |
 //!
-//! Words stand 64 bytes apart, on cache lines of their own. The words between them are unused. Specs call a word by its name in
-//! `specs/Words.antt`: `barrier_at` is word 0, `range_at i` is word 40 + 8 i.
+//! Words stand 64 bytes apart, on cache lines of their own, but for the first two: whoever ends a round changes both, and who waits
+//! for one of them has waited for the other. The words between are unused. Specs call a word by its name in `specs/Words.antt`:
+//! `barrier_at` is word 0, `range_at i` is word 40 + 8 i.
 //! A table with t = 0 has no ranges, and nothing can be published on it.
 ghost use Rattle.std.specs.Prelude.{◌≡◌, ◌+◌, ◌*◌, ◌≤◌, true};
 ghost use Rattle.spindle_rounds.specs.RoundRule.{Shown};
@@ -33,7 +34,7 @@ pub mod view;
 pub const BARRIER: usize = 0;
 
 /// The number of jobs published.
-pub const PUBLISHED: usize = 8;
+pub const PUBLISHED: usize = 1;
 
 /// How many jobs have finished.
 pub const FINISHED: usize = 16;

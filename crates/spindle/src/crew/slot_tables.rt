@@ -7,7 +7,7 @@ use spindle_trays::crew::tables::Tables;
 
 /// A lock's tables, with the number of its round table's slots.
 #[derive(Drop)]
-pub(crate) struct SlotTables<'t, D: Slots> {
+pub struct SlotTables<'t, D: Slots> {
     pub(crate) tables: &'t Tables<D>,
     pub(crate) slots: usize,
     ghost many: { HasSlots tables.now.round.init slots },

@@ -2,7 +2,6 @@
 ghost use Rattle.std.specs.Prelude.{◌≡◌, ◌≤◌, [], OnOk, OnErr, IsErrOf, vec_capacity, length};
 ghost use Rattle.std.specs.List.{AllZip};
 ghost use denote.Param.Send.{IsSync};
-ghost use Rattle.spindle.specs.SlotPieces.{all_items, pieces_of};
 ghost use Rattle.spindle_trays.specs.SlotPosts.{view_in};
 ghost use Rattle.spindle_rounds.specs.RoundConditions.{MayFill};
 ghost use Rattle.spindle_rounds.specs.Working.{PlayedRound};
@@ -11,7 +10,7 @@ use crate::crew::slot_post::SlotPost;
 use crate::crew::slot_tables::SlotTables;
 use crate::lock::kept_post::KeptPost;
 use crate::lock::slot_workspace::OpensSlots;
-use crate::pieces::items::Items;
+use crate::pieces::items::FillsSlots;
 use crate::pieces::of_kind::PieceOf;
 use crate::pieces::rooms::Rooms;
 use spindle_parts::fault::Fault;
@@ -30,23 +29,23 @@ pub type PiecePost<J> = KeptPost<PieceOf<J>>;
 /// The kinds of jobs whose leader with a post of type P plays rounds over lists of items.
 pub trait PlaysPieces<P>: OpensSlots<P> {
     /// A round over these items, whose outputs are put at the end of the list. Memory is refused before the publish alone.
-    fn play<'a, G: Gate, H: Threads + Wait + Sync>(
+    fn play<'a, S: FillsSlots<Self>, G: Gate, H: Threads + Wait + Sync>(
         rt: &H,
         alloc: Global,
         post: &mut P,
         runner: &mut Runner<'a, Self, G>,
-        items: &mut Items<Self::In>,
+        items: &mut S,
         outputs: &mut Vec<Self::Out>,
     ) -> Result<(), Fault>
         requires sync { IsSync H.row }
-        requires jobs { (2 ≤ pieces_of items.old)
-            × (pieces_of items.old ≤ Self.OpensSlots.slot_count post.old) }
+        requires jobs { (2 ≤ S.pieces items.old)
+            × (S.pieces items.old ≤ Self.OpensSlots.slot_count post.old) }
         requires empty { outputs.old.items ≡ [] }
-        requires room { length (all_items items.old) ≤ vec_capacity outputs.old }
+        requires room { length (S.items items.old) ≤ vec_capacity outputs.old }
         ensures answered { OnOk result
-            (AllZip Self.Job.meets (all_items items.old) outputs.new.items) }
+            (AllZip Self.Job.meets (S.items items.old) outputs.new.items) }
         ensures memory { OnErr result (IsErrOf result Fault.Memory) }
-        ensures played { OnOk result (PlayedRound (pieces_of items.old)
+        ensures played { OnOk result (PlayedRound (S.pieces items.old)
             (Self.OpensSlots.view post.old) (Self.OpensSlots.view post.new)) }
         ensures left { OnErr result
             (Self.OpensSlots.view post.new ≡ Self.OpensSlots.view post.old) }
@@ -56,52 +55,36 @@ pub trait PlaysPieces<P>: OpensSlots<P> {
 }
 
 impl<J: Job> PlaysPieces<KeptPost<PieceOf<J>>> for J {
-    fn play<'a, G: Gate, H: Threads + Wait + Sync>(
+    fn play<'a, S: FillsSlots<J>, G: Gate, H: Threads + Wait + Sync>(
         rt: &H,
         alloc: Global,
         post: &mut KeptPost<PieceOf<J>>,
         runner: &mut Runner<'a, J, G>,
-        items: &mut Items<J::In>,
+        items: &mut S,
         outputs: &mut Vec<J::Out>,
     ) -> Result<(), Fault> {
-        let mut rooms = post.rooms(alloc);
-        let played = post
-            .post
-            .play(rt, alloc, runner, items, &mut rooms, outputs);
-        post.kept = Some(rooms);
-        played
-    }
-}
-
-impl<J: Job> KeptPost<PieceOf<J>> {
-    // The rooms that were kept, or none yet.
-    fn rooms(&mut self, alloc: Global) -> Rooms<J::Out>
-        ensures { self.new.post ≡ self.old.post }
-    {
-        match self.kept.take() {
-            Some(rooms) => rooms,
-            None => Rooms::new(alloc),
-        }
+        let rooms = post.kept.get_or_insert_with(|| Rooms::new(alloc));
+        post.post.play(rt, alloc, runner, items, rooms, outputs)
     }
 }
 
 impl<J: Job> SlotPost<PieceOf<J>> {
     // Plays a round over items at its barrier.
-    fn play<G: Gate, H: Threads + Wait + Sync>(
+    fn play<S: FillsSlots<J>, G: Gate, H: Threads + Wait + Sync>(
         &mut self,
         rt: &H,
         alloc: Global,
         runner: &mut Runner<'_, J, G>,
-        items: &mut Items<J::In>,
+        items: &mut S,
         rooms: &mut Rooms<J::Out>,
         outputs: &mut Vec<J::Out>,
     ) -> Result<(), Fault>
-        requires jobs { (2 ≤ pieces_of items.old) × (pieces_of items.old ≤ self.old.slots) }
+        requires jobs { (2 ≤ S.pieces items.old) × (S.pieces items.old ≤ self.old.slots) }
         requires empty { outputs.old.items ≡ [] }
-        requires room { length (all_items items.old) ≤ vec_capacity outputs.old }
-        ensures answered { OnOk result (AllZip J.meets (all_items items.old) outputs.new.items) }
+        requires room { length (S.items items.old) ≤ vec_capacity outputs.old }
+        ensures answered { OnOk result (AllZip J.meets (S.items items.old) outputs.new.items) }
         ensures memory { OnErr result (IsErrOf result Fault.Memory) }
-        ensures played { OnOk result (PlayedRound (pieces_of items.old)
+        ensures played { OnOk result (PlayedRound (S.pieces items.old)
             (view_in self.old.stance) (view_in self.new.stance)) }
         ensures left { OnErr result (view_in self.new.stance ≡ view_in self.old.stance) }
         ensures slots { self.new.slots ≡ self.old.slots }

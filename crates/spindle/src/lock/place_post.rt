@@ -79,12 +79,11 @@ impl<J: Remakes> PlaysInPlace<KeptPost<ChunkOf<J>>> for J {
         jobs: usize,
         items: &mut Vec<J::Item>,
     ) -> Result<(), Fault> {
-        let mut store = post.room(alloc);
+        let store = post.kept.get_or_insert_with(|| Store::new(alloc));
         if jobs < items.len() {
             store.prepare(alloc, items.len(), jobs)?;
         }
-        post.post.remake(rt, alloc, runner, &mut store, jobs, items);
-        post.kept = Some(store);
+        post.post.remake(rt, alloc, runner, store, jobs, items);
         Ok(())
     }
 
@@ -95,26 +94,13 @@ impl<J: Remakes> PlaysInPlace<KeptPost<ChunkOf<J>>> for J {
         runner: &mut Runner<'a, J, G>,
         items: &mut Vec<J::Item>,
     ) -> Result<(), Fault> {
-        let mut store = post.room(alloc);
+        let store = post.kept.get_or_insert_with(|| Store::new(alloc));
         let mut room = store.take(alloc);
         room.reserve(items.len())?;
         let chunk = room.load(items, 0);
         let remade = remake_chunk(rt, alloc, runner, 0, None, chunk);
         store.keep(remade.unload(items));
-        post.kept = Some(store);
         Ok(())
-    }
-}
-
-impl<J: Remakes> KeptPost<ChunkOf<J>> {
-    // The room that was kept, or none yet.
-    fn room(&mut self, alloc: Global) -> Store<J::Item>
-        ensures { self.new.post ≡ self.old.post }
-    {
-        match self.kept.take() {
-            Some(store) => store,
-            None => Store::new(alloc),
-        }
     }
 }
 

@@ -2,7 +2,7 @@
 //!
 //! A round goes one way: items, pieces, slots, outputs. All memory that a round takes is taken before its first job, and want
 //! of memory is the only thing that it is refused for.
-ghost use Rattle.std.specs.Prelude.{◌≡◌, ◌<◌, ◌≤◌, [], refl, IfOk, OnOk, OnErr, IsOk, IsErrOf, vec_len};
+ghost use Rattle.std.specs.Prelude.{◌≡◌, ◌<◌, ◌≤◌, [], refl, IfOk, OnOk, OnErr, IsOk, IsErrOf, length, vec_len, vec_capacity};
 ghost use Rattle.std.specs.List.{AllZip};
 ghost use Rattle.spindle_parts.specs.Pieces.{counted};
 ghost use Rattle.spindle_parts.specs.declared.fault.Fault.TheVariants.{Memory};
@@ -10,7 +10,7 @@ ghost use Rattle.spindle.specs.SlotLeaders.{threads_of, slots_of, slot_jobs, IsA
 
 use crate::lock::piece_post::PlaysPieces;
 use crate::lock::slot_leader::SlotLeader;
-use crate::pieces::items::Items;
+use crate::pieces::items::{FillsSlots, Items, Numbers};
 use spindle_parts::fault::Fault;
 use spindle_trays::job::gate::Gate;
 use spindle_trays::lock::rounds::Rounds;
@@ -85,13 +85,39 @@ impl<'a, J: PlaysPieces<P>, G: Gate, P> SlotLeader<'a, J, G, P> {
             self.runner.run(rt, alloc, 0, None, inputs, outputs);
         } else {
             let mut items = Items::new(alloc, items, jobs)?;
-            let (runner, post) = (&mut self.runner, &mut self.post);
-            if let Err(fault) = J::play(rt, alloc, post, runner, &mut items, outputs) {
-                outputs.clear();
-                return Err(fault);
-            }
+            self.play(rt, alloc, &mut items, outputs)?;
         }
         Ok(())
+    }
+
+    // A round with the helpers. After a refusal the list of outputs is empty.
+    fn play<S: FillsSlots<J>, H: Threads + Wait + Sync>(
+        &mut self,
+        rt: &H,
+        alloc: Global,
+        items: &mut S,
+        outputs: &mut Vec<J::Out>,
+    ) -> Result<(), Fault>
+        requires jobs { (2 ≤ S.pieces items.old)
+            × (S.pieces items.old ≤ slots_of J.OpensSlots.slot_count self.old) }
+        requires empty { outputs.old.items ≡ [] }
+        requires room { length (S.items items.old) ≤ vec_capacity outputs.old }
+        ensures answer { OnOk result (AllZip J.meets (S.items items.old) outputs.new.items) }
+        ensures given_up { OnErr result (outputs.new.items ≡ []) }
+        ensures memory { OnErr result (IsErrOf result Fault.Memory) }
+        ensures played { OnOk result
+            (PlayedOnce J.OpensSlots.view (S.pieces items.old) self.old self.new) }
+        ensures left { OnErr result (IsAsBefore J.OpensSlots.view self.old self.new) }
+        ensures between { IsBetweenRounds J.OpensSlots.view self.new }
+        ensures lock { threads_of self.new ≡ threads_of self.old }
+        ensures slots { IsAsBefore J.OpensSlots.slot_count self.old self.new }
+    {
+        let (runner, post) = (&mut self.runner, &mut self.post);
+        let played = J::play(rt, alloc, post, runner, items, outputs);
+        if played.is_err() {
+            outputs.clear();
+        }
+        played
     }
 }
 
@@ -124,7 +150,7 @@ impl<'a, J: PlaysPieces<P>, G: Gate, P> Rounds<J> for SlotLeader<'a, J, G, P> {
 
 impl<'a, J: PlaysPieces<P, In = usize>, G: Gate, P> SlotLeader<'a, J, G, P> {
     /// Runs the numbers from 0 up to `n_jobs`, the end not included, as `for_each` runs items in so many jobs. There are as
-    /// many slots or more.
+    /// many slots or more. The numbers stand in no list.
     pub fn for_each_raw<H: Threads + Wait + Sync>(
         &mut self,
         rt: &H,
@@ -147,10 +173,12 @@ impl<'a, J: PlaysPieces<P, In = usize>, G: Gate, P> SlotLeader<'a, J, G, P> {
         if n_jobs == 0 {
             return Ok(Vec::new(alloc));
         }
-        let mut numbers = Vec::with_capacity(alloc, n_jobs)?;
-        for number in 0..n_jobs {
-            numbers.push_reserved(number);
+        let mut outputs = Vec::with_capacity(alloc, n_jobs)?;
+        if n_jobs == 1 {
+            outputs.push_reserved(self.runner.run_one(rt, alloc, 0, None, &0));
+            return Ok(outputs);
         }
-        self.for_each(rt, alloc, n_jobs, numbers)
+        self.play(rt, alloc, &mut Numbers::new(n_jobs), &mut outputs)?;
+        Ok(outputs)
     }
 }

@@ -3,10 +3,10 @@ ghost use Rattle.std.specs.Prelude.{◌≡◌, ◌<◌, ◌≤◌, [], IfOk, OnO
 ghost use Rattle.spindle_rounds.specs.Seating.{IsSeatAt, IsSameSeat};
 ghost use Rattle.spindle_rounds.specs.SlotHands.{WaitsAs};
 ghost use Rattle.spindle_rounds.specs.SlotLoops.{HoldsEach, IsEmpty, Turning};
-ghost use Rattle.spindle.specs.SlotPieces.{IsItemOf, IsPieceOf, all_items, pieces_of};
+ghost use Rattle.spindle_parts.specs.Pieces.{counted};
+ghost use Rattle.spindle.specs.SlotPieces.{IsItemOf, IsPieceOf};
 
 use crate::crew::slot_tables::SlotTables;
-use crate::pieces::items::Items;
 use crate::pieces::of_kind::PieceOf;
 use crate::pieces::rooms::Rooms;
 use crate::pieces::slot_piece::{Batch, OneOr};
@@ -49,37 +49,25 @@ impl<'t, T: Drop, M: Drop, A: Answers<Piece = OneOr<T, M>>> SlotTables<'t, Piece
     }
 }
 
-impl<'t, J: Job> SlotTables<'t, Pieces<PieceOf<J>>> {
-    /// Puts each piece of the items into the slot of its number: a sole item itself, a run with the room that is kept for its outputs.
-    /// After a refusal all slots are empty.
-    pub(crate) fn fill(
-        &self,
-        alloc: Global,
-        seat: &mut Seat<Pieces<PieceOf<J>>>,
-        items: &mut Items<J::In>,
-        rooms: &mut Rooms<J::Out>,
-    ) -> Result<(), Fault>
+impl<'t, M: Drop, A: Answers<Piece = OneOr<usize, M>>> SlotTables<'t, Pieces<A>> {
+    /// Puts the numbers from 0 up to a count into slots, each into its own.
+    pub(crate) fn fill_counted(&self, seat: &mut Seat<Pieces<A>>, count: usize)
         requires seated { IsSeatAt self.now.tables.now.round.init seat.old }
         requires held { HoldsEach IsEmpty self.now.slots seat.old.me.1 }
-        requires few { pieces_of items.old ≤ self.now.slots }
+        requires few { count ≤ self.now.slots }
         ensures seat { IsSameSeat seat.old seat.new × (seat.new.me.0 ≡ seat.old.me.0) }
-        ensures put { OnOk result
-            (Turning IsEmpty (WaitsAs (IsPieceOf (all_items items.old) (pieces_of items.old)))
-            self.now.slots (pieces_of items.old) seat.new.me.1) }
-        ensures empty { OnErr result (HoldsEach IsEmpty self.now.slots seat.new.me.1) }
-        ensures memory { OnErr result (IsErrOf result Fault.Memory) }
+        ensures put { Turning IsEmpty (WaitsAs (IsItemOf (counted 0 count)))
+            self.now.slots count seat.new.me.1 }
     {
-        match items {
-            Items::Each(items) => {
-                self.fill_each(seat, items);
-                Ok(())
-            }
-            Items::Runs(pieces) => self.fill_runs(alloc, seat, pieces, rooms),
+        for slot in 0..count {
+            self.tables.round.put_piece(seat, slot, OneOr::One(slot));
         }
     }
+}
 
-    // Puts the runs into slots, in order, each with the room that is kept for its outputs.
-    fn fill_runs(
+impl<'t, J: Job> SlotTables<'t, Pieces<PieceOf<J>>> {
+    /// Puts the runs into slots, in order, each with the room that is kept for its outputs. After a refusal all slots are empty.
+    pub(crate) fn fill_runs(
         &self,
         alloc: Global,
         seat: &mut Seat<Pieces<PieceOf<J>>>,

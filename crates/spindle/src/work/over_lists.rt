@@ -3,11 +3,10 @@ ghost use Rattle.std.specs.Prelude.{◌≡◌, ◌≤◌, [], true, length, vec_
 ghost use Rattle.std.specs.List.{AllZip};
 ghost use Rattle.spindle_rounds.specs.Holding.{Keeps};
 ghost use Rattle.spindle_rounds.specs.Working.{PlayedRound};
-ghost use Rattle.spindle.specs.SlotPieces.{all_items, pieces_of};
 ghost use Rattle.spindle.specs.SlotRounds.{LeadsIn};
 
 use crate::crew::slot_tables::SlotTables;
-use crate::pieces::items::Items;
+use crate::pieces::items::FillsSlots;
 use crate::pieces::of_kind::PieceOf;
 use crate::pieces::rooms::Rooms;
 use crate::pieces::slot_piece::{Batch, OneOr, Outputs};
@@ -25,31 +24,31 @@ use std::thread::Threads;
 impl<'t, J: Job> SlotTables<'t, Pieces<PieceOf<J>>> {
     /// A leader's round: the pieces of the items go into the slots, are played, and their outputs come out of the slots, in order.
     /// Memory is refused before the publish alone.
-    pub(crate) fn play<G: Gate, H: Threads + Wait + Sync>(
+    pub(crate) fn play<S: FillsSlots<J>, G: Gate, H: Threads + Wait + Sync>(
         &self,
         rt: &H,
         alloc: Global,
         barrier: &mut Barrier<'_, Pieces<PieceOf<J>>>,
         runner: &mut Runner<'_, J, G>,
-        items: &mut Items<J::In>,
+        items: &mut S,
         rooms: &mut Rooms<J::Out>,
         outputs: &mut Vec<J::Out>,
     ) -> Result<(), Fault>
         requires leads { LeadsIn self.now.tables.now barrier.old }
-        requires counted { (2 ≤ pieces_of items.old) × (pieces_of items.old ≤ 4294967295) }
-        requires few { pieces_of items.old ≤ self.now.slots }
+        requires counted { (2 ≤ S.pieces items.old) × (S.pieces items.old ≤ 4294967295) }
+        requires few { S.pieces items.old ≤ self.now.slots }
         requires empty { outputs.old.items ≡ [] }
-        requires room { length (all_items items.old) ≤ vec_capacity outputs.old }
+        requires room { length (S.items items.old) ≤ vec_capacity outputs.old }
         ensures leads { LeadsIn self.now.tables.now barrier.new }
         ensures same { Keeps barrier.old barrier.new }
-        ensures answered { OnOk result (AllZip J.meets (all_items items.old) outputs.new.items) }
+        ensures answered { OnOk result (AllZip J.meets (S.items items.old) outputs.new.items) }
         ensures played { OnOk result
-            (PlayedRound (pieces_of items.old) barrier.old.seat.me.0 barrier.new.seat.me.0) }
+            (PlayedRound (S.pieces items.old) barrier.old.seat.me.0 barrier.new.seat.me.0) }
         ensures left { OnErr result (barrier.new.seat.me.0 ≡ barrier.old.seat.me.0) }
         ensures memory { OnErr result (IsErrOf result Fault.Memory) }
     {
         let pieces = items.pieces();
-        self.fill(alloc, &mut barrier.seat, items, rooms)?;
+        items.fill(alloc, self, &mut barrier.seat, rooms)?;
         runner.notices.end_rest();
         let work = SlotWork {
             runner,

@@ -1,13 +1,8 @@
--- One more number stands at the end.
-use Rattle.std.proofs.Common.{◌++◌, ◌∷◌, [], rules, ap, zero-add}
-use Rattle.spindle_parts.proofs.Lists.{counted_snoc}
+-- There is room for an output for each number.
+use Rattle.std.proofs.Common.{ℕ, arith}
+use Rattle.spindle_parts.proofs.Deals.{length-counted}
 use Rattle.spindle.proofs.lock.slot_leader.SlotLeader.for_each_raw.Goals as goal
 
-pub loop-number-preserved : goal.loop-number-preserved
-loop-number-preserved g c =
-    record {
-      items = rw (c.push_reserved.ensures.items, counted_snoc 0 c.loop-number.number, zero-add c.loop-number.number)
-          (ap (λ t. t ++ (c.loop-number.number ∷ [])) c.loop-number.invariant.items);
-      len = search rules;
-      room = search rules;
-    }
+pub play-requires-clause-room : goal.play-requires-clause-room
+play-requires-clause-room g c = let count : ℕ = c.new-2.result.count in
+    omega (arith, length-counted 0 count, c.new-2.ensures, c.in_ok-outputs.ensures.capacity)

@@ -12,7 +12,7 @@ use Rattle.spindle_rounds.proofs.SlotLoops.{turning_first, turning_head, turning
 use Rattle.spindle_trays.specs.PieceRuns.{items_before, piece_at}
 use Rattle.spindle_trays.proofs.Outputs.{AllZip-AddsAnswers}
 use Rattle.spindle_trays.proofs.PieceRuns.{before_end, before_first, items_more, next_fits}
-use Rattle.spindle.specs.SlotPieces.{IsAnswerTo, IsPieceOf, all_items, all_of, pieces_of}
+use Rattle.spindle.specs.SlotPieces.{IsAnswerTo, IsPieceOf, all_of}
 use Rattle.spindle.proofs.SlotRounds.{Held, answers_held, found_answer, still_leads}
 use Rattle.spindle.proofs.work.over_lists.SlotTables+Pieces+PieceOf+J.play.Goals as goal
 
@@ -24,15 +24,15 @@ play_held-requires-clause-leads g c κs within = let f = c.fill.ensures.seat in
     still_leads c.args.self.now.tables.now c.args.barrier.now _ refl refl refl f.0 f.1 c.requires.leads.stands
 
 pub play_held-requires-clause-pieces : goal.play_held-requires-clause-pieces
-play_held-requires-clause-pieces g c κs within = let all = all_items c.args.items.now in let n : ℕ = pieces_of c.args.items.now in
+play_held-requires-clause-pieces g c κs within = let all = g.S.FillsSlots.items c.args.items.now in let n : ℕ = g.S.FillsSlots.pieces c.args.items.now in
     let s : ℕ = c.args.self.now.slots in let hand = c.fill.new.seat.me.1 in
     subst (λ (k : ℕ). Turning IsEmpty IsPiece s k hand) (sym c.pieces-pieces.ensures)
     (turning_less IsEmpty IsEmpty (WaitsAs (IsPieceOf all n)) IsPiece s n hand c.in_ok-fill.ensures.put (λ k y e. e) (λ k y w. (w.0, w.1)))
 
 pub loop-slot-init : goal.loop-slot-init
-loop-slot-init g c = let all = all_items c.args.items.now in let n : ℕ = c.pieces-pieces.result in let s : ℕ = c.args.self.now.slots in
+loop-slot-init g c = let all = g.S.FillsSlots.items c.args.items.now in let n : ℕ = c.pieces-pieces.result in let s : ℕ = c.args.self.now.slots in
     let M = g.J.Job.meets in let few = c.requires.few in let num = c.pieces-pieces.ensures in let le : n ≤ s = omega arith in
-    let after = c.play_held.new.barrier in let e = c.fill.ensures in let b = c.fill.new.seat.me in let p = pieces_of c.args.items.now in
+    let after = c.play_held.new.barrier in let e = c.fill.ensures in let b = c.fill.new.seat.me in let p = g.S.FillsSlots.pieces c.args.items.now in
     let put = subst (λ (k : ℕ). Turning IsEmpty (WaitsAs (IsPieceOf all k)) s k b.1) (sym num) c.in_ok-fill.ensures.put in
     let held = answers_held (IsAnswerTo M) s n b (IsPieceOf all n) after.seat.me put le c.play_held.ensures.answered in record {
       leads = c.play_held.ensures.leads;
@@ -45,13 +45,13 @@ loop-slot-init g c = let all = all_items c.args.items.now in let n : ℕ = c.pie
 
 pub take_answer-answer-requires-clause-head : goal.take_answer-answer-requires-clause-head
 take_answer-answer-requires-clause-head g c = let few = c.requires.few in let num = c.pieces-pieces.ensures in let k : ℕ = c.loop-slot.slot in
-    let n : ℕ = c.pieces-pieces.result in let all = all_items c.args.items.now in
+    let n : ℕ = c.pieces-pieces.result in let all = g.S.FillsSlots.items c.args.items.now in
     let h = turning_head (Held g.J.Job.meets all n) IsEmpty c.args.self.now.slots k _ c.loop-slot.invariant.hand (omega arith) in
     let d = h.2.done (omega arith) in (d.1, subst (λ y. IsAtHand k y c.loop-slot.barrier.seat.me.1) d.2 h.1)
 
 pub unload-requires : goal.unload-requires
 unload-requires g c = let few = c.requires.few in let num = c.pieces-pieces.ensures in let k : ℕ = c.loop-slot.slot in
-    let n : ℕ = c.pieces-pieces.result in let all = all_items c.args.items.now in let M = g.J.Job.meets in let i = c.loop-slot.invariant in
+    let n : ℕ = c.pieces-pieces.result in let all = g.S.FillsSlots.items c.args.items.now in let M = g.J.Job.meets in let i = c.loop-slot.invariant in
     let h = turning_head (Held M all n) IsEmpty c.args.self.now.slots k _ i.hand (omega arith) in let r = c.take_answer-answer.result in
     let z = found_answer M all n k c.loop-slot.barrier.seat.me.1 h.0 r h.1 (h.2.done (omega arith)) c.take_answer-answer.ensures.found in
     let long = AllZip-long M (piece_at all n k) (all_of r) z in let fits = next_fits M all n k c.loop-slot.outputs.items (omega arith) i.before in
@@ -59,7 +59,7 @@ unload-requires g c = let few = c.requires.few in let num = c.pieces-pieces.ensu
 
 pub loop-slot-preserved : goal.loop-slot-preserved
 loop-slot-preserved g c = let few = c.requires.few in let num = c.pieces-pieces.ensures in let k : ℕ = c.loop-slot.slot in
-    let n : ℕ = c.pieces-pieces.result in let all = all_items c.args.items.now in let s : ℕ = c.args.self.now.slots in let M = g.J.Job.meets in
+    let n : ℕ = c.pieces-pieces.result in let all = g.S.FillsSlots.items c.args.items.now in let s : ℕ = c.args.self.now.slots in let M = g.J.Job.meets in
     let i = c.loop-slot.invariant in let e = c.take_answer-answer.ensures in let b = c.loop-slot.barrier in let r = c.take_answer-answer.result in
     let h = turning_head (Held M all n) IsEmpty s k _ i.hand (omega arith) in
     let z = found_answer M all n k b.seat.me.1 h.0 r h.1 (h.2.done (omega arith)) e.found in let view = ap (λ m. m.0) e.behind in
@@ -76,7 +76,7 @@ loop-slot-preserved g c = let few = c.requires.few in let num = c.pieces-pieces.
     }
 
 pub returns-clause-leads : goal.returns-clause-leads
-returns-clause-leads g c = let few = c.requires.few in let num = c.pieces-pieces.ensures in let all = all_items c.args.items.now in
+returns-clause-leads g c = let few = c.requires.few in let num = c.pieces-pieces.ensures in let all = g.S.FillsSlots.items c.args.items.now in
     let n : ℕ = c.pieces-pieces.result in let s : ℕ = c.args.self.now.slots in let M = g.J.Job.meets in let i = c.loop-slot.invariant in
     let end : c.loop-slot.slot ≡ n = omega arith in let e = c.turn_slots.ensures in let b = c.loop-slot.barrier in
     let t = subst (λ (k : ℕ). Turning (Held M all n) IsEmpty s k b.seat.me.1) end i.hand in record {
@@ -97,7 +97,7 @@ returns-clause-same g c = let i = c.loop-slot.invariant in let e = c.turn_slots.
     )
 
 pub returns-clause-answered : goal.returns-clause-answered
-returns-clause-answered g c = let few = c.requires.counted in let num = c.pieces-pieces.ensures in let all = all_items c.args.items.now in
+returns-clause-answered g c = let few = c.requires.counted in let num = c.pieces-pieces.ensures in let all = g.S.FillsSlots.items c.args.items.now in
     let n : ℕ = c.pieces-pieces.result in let end : c.loop-slot.slot ≡ n = omega arith in let M = g.J.Job.meets in let done = c.loop-slot.outputs.items in
     subst (λ xs. AllZip M xs done) (before_end all n (omega arith)) (subst (λ (k : ℕ). AllZip M (items_before all n k) done) end c.loop-slot.invariant.before)
 

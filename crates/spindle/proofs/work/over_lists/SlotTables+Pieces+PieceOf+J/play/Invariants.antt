@@ -5,13 +5,12 @@ use Rattle.spindle_rounds.specs.Holding.{Keeps}
 use Rattle.spindle_rounds.specs.SlotLoops.{IsEmpty, Turning}
 use Rattle.spindle_rounds.specs.Working.{PlayedRound}
 use Rattle.spindle_trays.specs.PieceRuns.{items_before}
-use Rattle.spindle.specs.SlotPieces.{all_items}
 use Rattle.spindle.specs.SlotRounds.{LeadsAt}
 use Rattle.spindle.proofs.SlotRounds.{Held}
 use Rattle.spindle.proofs.work.over_lists.SlotTables+Pieces+PieceOf+J.play.Given as goal
 
 abbrev pub invariant-loop-slot : goal.invariant-loop-slot
-invariant-loop-slot g l = let all = all_items l.fn.items in record {
+invariant-loop-slot g l = let all = g.S.FillsSlots.items l.fn.items in record {
   leads : LeadsAt l.self.tables.now l.barrier;
   same : Keeps l.fn.barrier l.barrier;
   played : PlayedRound l.pieces l.fn.barrier.seat.me.0 l.barrier.seat.me.0;
