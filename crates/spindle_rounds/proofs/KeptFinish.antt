@@ -169,7 +169,7 @@ module _ {X N : Type 0} (D : Discipline X N) (law : Lawful D) (t : ℕ) where
               ((λ z. Ended (sym own z) (number_or (may.1 z)) ∷ (r.seats id me.0 at).1 z) ∙ sym
               (ap (λ (b : Bool). (if b then ended_in S.round (party S id).running else []) ++ deeds id run) (eq-eqb id id refl) ∙ ap
               (λ (o : Option ℕ). ended_in S.round o ++ deeds id run) runs)) refl
-              (still_laid D t run s r 16 ((x + 1) % 18446744073709551616) id me w (Finish id ∷ []) at (inr refl) refl refl (λ _. refl) (inr shown))
+              (still_laid D t run s r finished_at ((x + 1) % 18446744073709551616) id me w (Finish id ∷ []) at (inr refl) refl refl (λ _. refl) (inr shown))
               g.1,
           (refl, refl),
         );

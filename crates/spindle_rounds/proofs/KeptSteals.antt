@@ -105,5 +105,5 @@ module _ {X N : Type 0} (D : Discipline X N) (law : Lawful D) (t : ℕ) where
       → let k : ℕ = number_or me.0.known.number - old in Exchange D t slots id me remainder_at old (old - 1) (claim_of id k (only k)) (RemainderClaimTells D)
   remainder_claims slots id me old may some = let n : ℕ = number_or me.0.known.number in let is : n ≡ may.1.0 = ap number_or may.1.1 in
       begins_by D law t slots id me remainder_at old (old - 1) (claim_of id (n - old) (only (n - old))) (λ found. n - found) (claiming_remainder n)
-      (takes D law t slots id me may.0.0 may.1.0 32 old (old - 1) (n - old) me.0.from me.0.to (only (n - old))
+      (takes D law t slots id me may.0.0 may.1.0 remainder_at old (old - 1) (n - old) me.0.from me.0.to (only (n - old))
       (last_one t may.1.0 old me.0.from me.0.to (n - old) (ap (λ (z : ℕ). z - old) is) some may.0.3) may.0.1 may.1.1 may.0.2 may.0.3 may.2)

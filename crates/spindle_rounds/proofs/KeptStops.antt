@@ -45,7 +45,7 @@ module _ (S : State) (stop : Bool) (seen : ℕ → Bool) where
   free_back : (j : ℕ) → Free remarked j → Free S j
   free_back j f = (subst (λ (z : Round). j < z.jobs) its_round f.0, sym (ap (λ (z : Round). times j z.begun) its_round) ∙ f.1, f.2)
 
-  -- where the word 24 says whether it is stopped
+  -- where the word says whether it is stopped
   pub words_after : (t : ℕ) (ws : List ℕ) (x : ℕ) → Words t S ws → (stop ≡ true → x ≡ 1) → (stop ≡ false → x ≡ 0) → (stop ≡ false → (now S).stopped ≡ false)
       → Words t remarked (set ws stopped_at x)
   words_after t ws x w on off was = let wide = w.wide in let other : (j : ℕ) → j ≢ stopped_at → get_or (set ws stopped_at x) j 0 ≡ get_or ws j 0 =
@@ -102,7 +102,7 @@ module _ {X N : Type 0} (D : Discipline X N) (law : Lawful D) (t : ℕ) where
           w,
           keeps,
           tt,
-          subst (λ b. Rule D t ((if b then See id ∷ [] else []) ++ run) (stepped s 24 x id me.1 w keeps)) (sym (eq-eqb x 1 one))
+          subst (λ b. Rule D t ((if b then See id ∷ [] else []) ++ run) (stepped s stopped_at x id me.1 w keeps)) (sym (eq-eqb x 1 one))
               (moves D law t run s r stopped_at x id me w (See id ∷ []) at (refl, tt) (tt, tt) (refl, refl, refl) ((st.0, on), r.is_run)
               (subst (λ (z : Round). Words t record {
                 round = S.round;
@@ -123,7 +123,7 @@ module _ {X N : Type 0} (D : Discipline X N) (law : Lawful D) (t : ℕ) where
           w,
           keeps,
           tt,
-          subst (λ b. Rule D t ((if b then See id ∷ [] else []) ++ run) (stepped s 24 x id me.1 w keeps)) (sym (ap (λ (z : ℕ). z == 1) zero_read))
+          subst (λ b. Rule D t ((if b then See id ∷ [] else []) ++ run) (stepped s stopped_at x id me.1 w keeps)) (sym (ap (λ (z : ℕ). z == 1) zero_read))
               (stays D law t run s r stopped_at id me w at (refl, refl, refl)
               record {
                 stands = shows.stands;

@@ -55,7 +55,7 @@ module _ {S N : Type 0} (D : Discipline S N) (m w : Me S (View N)) (may : MayCla
   pub remainder_claimed : (n : ℕ) (r : Claim) → RemainderClaimedBy D n r m w → AfterClaim r m.0 w.0
   remainder_claimed n (claim.Job c) a = let v : View N = reading_remainder a.0 m.0 in let u : View N = recalling n v in
       let z : View N = claiming_remainder n a.0 a.1 u in subst (AfterClaim (claim.Job c) m.0) (sym a.2) (
-        onward_then m.0 v z (remainder_on a.0 m.0) (onward_then v u z (recalled_on n v) (began_on 32 (n - a.0) a.0 (a.0 - 1) a.1 u)),
+        onward_then m.0 v z (remainder_on a.0 m.0) (onward_then v u z (recalled_on n v) (began_on remainder_at (n - a.0) a.0 (a.0 - 1) a.1 u)),
         refl,
         (refl, refl),
         (inside, ap (λ (k : ℕ). Some k) (sym a.4)),
@@ -64,7 +64,7 @@ module _ {S N : Type 0} (D : Discipline S N) (m w : Me S (View N)) (may : MayCla
   remainder_claimed n claim.Again a = let v : View N = reading_remainder a.0 m.0 in let u : View N = recalling n v in
       let z : View N = missing remainder_at a.1 u in
       subst (AfterClaim claim.Again m.0) (sym (ap (λ y. y.0) a.2))
-      (onward_then m.0 v z (remainder_on a.0 m.0) (onward_then v u z (recalled_on n v) (missed_on 32 a.1 u)), refl, (refl, refl), may)
+      (onward_then m.0 v z (remainder_on a.0 m.0) (onward_then v u z (recalled_on n v) (missed_on remainder_at a.1 u)), refl, (refl, refl), may)
 
   -- the remainder was read as empty
   pub remainder_nothing : (n : ℕ) → RemainderClaimedBy D n claim.Nothing m w → IsListed w.0.threads w.0.known.emptied

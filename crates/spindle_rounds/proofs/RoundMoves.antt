@@ -135,7 +135,7 @@ stands_on t r r' ws ws' jobs begun same h k = let b = begun k in
     moved : (xs ys : List ℕ) → ((i : ℕ) → remainder_at ≤ i → get_or xs i 0 ≡ get_or ys i 0) → IsLeft t xs r.jobs k → IsLeft t ys r.jobs k
     moved xs ys e = ⊎_elim (λ (z : (i : ℕ) × (i < t) × InRange xs i k). inl
         (z.0, z.1, subst (λ (x : ℕ). (x % high_half ≤ k) × (k < x / high_half)) (e (range_at z.0) (omega arith)) z.2))
-        (λ (z : InRemainder xs r.jobs k). inr (subst (λ (x : ℕ). (r.jobs ≤ k + x) × (k < r.jobs)) (e 32 (omega arith)) z))
+        (λ (z : InRemainder xs r.jobs k). inr (subst (λ (x : ℕ). (r.jobs ≤ k + x) × (k < r.jobs)) (e remainder_at (omega arith)) z))
 
 module _ {X N : Type 0} (D : Discipline X N) (t : ℕ) where
   abbrev pub Rule : List Event → table.State X (View N) → Type 0

@@ -20,23 +20,23 @@ finished_at = 16
 
 -- whether the round was stopped
 abbrev pub stopped_at : ℕ
-stopped_at = 24
+stopped_at = 32
 
 -- the remainder
 abbrev pub remainder_at : ℕ
-remainder_at = 32
+remainder_at = 48
 
 -- the range of the thread i
 abbrev pub range_at : ℕ → ℕ
-range_at i = 40 + 8 * i
+range_at i = 64 + 16 * i
 
 -- the j-th word that `fill` stores: finished, stopped, the remainder, and then the ranges
 abbrev pub filled_at : ℕ → ℕ
-filled_at j = 16 + 8 * j
+filled_at j = 16 + 16 * j
 
 -- how many words a table of t threads has
 abbrev pub words_of : ℕ → ℕ
-words_of t = 40 + 16 * t
+words_of t = 64 + 32 * t
 
 -- one in the high half of a word: where a range's end starts,
 -- and the bit of a published word whose round may stop

@@ -5,14 +5,14 @@
 //! | 0 | the barrier word: bits 0 to 14 count the members that haven't arrived, bit 15 is 0, bits 16 to 30 count the members, bit 31 is the sense, the lowest bit of the number of ended rounds; the high half is 0 | join, arrive, leave, exit, end |
 //! | 1 | published: 0 for none, n for a round of n jobs, n + 2^32 for one that may stop | `publish`, `publish_try`; `clear` |
 //! | 16 | finished: how many jobs of the round have finished | `fill`; `finish` |
-//! | 24 | stopped: 1 once the round is stopped | `fill`; `stop` |
-//! | 32 | the remainder: v > 0 stands for job n - v | `fill`; `try_claim_rest` |
-//! | 40 + 8 i | the range of thread i: its start in the low 32 bits, its end, not included, in the high 32 | `fill`; `try_claim_own`, `try_steal`, `put_back` |
-//! | 40 + 8 (t + i) | the share of thread i: what is left of it, in the form of a range; nobody reads it | `next_of_share` |
+//! | 32 | stopped: 1 once the round is stopped | `fill`; `stop` |
+//! | 48 | the remainder: v > 0 stands for job n - v | `fill`; `try_claim_rest` |
+//! | 64 + 16 i | the range of thread i: its start in the low 32 bits, its end, not included, in the high 32 | `fill`; `try_claim_own`, `try_steal`, `put_back` |
+//! | 64 + 16 (t + i) | the share of thread i: what is left of it, in the form of a range; nobody reads it | `next_of_share` |
 //!
-//! Words stand 64 bytes apart, on cache lines of their own, but for the first two: whoever ends a round changes both, and who waits
-//! for one of them has waited for the other. The words between are unused. Specs call a word by its name in `specs/Words.antt`:
-//! `barrier_at` is word 0, `range_at i` is word 40 + 8 i.
+//! Words stand 128 bytes apart, since processors fetch cache lines of 64 bytes in pairs; only the first two share a line: whoever
+//! ends a round changes both, and who waits for one of them has waited for the other. The words between are unused. Specs call a
+//! word by its name in `specs/Words.antt`: `barrier_at` is word 0, `range_at i` is word 64 + 16 i.
 //! A table with t = 0 has no ranges, and nothing can be published on it.
 ghost use Rattle.std.specs.Prelude.{◌≡◌, ◌+◌, ◌*◌, ◌≤◌, true};
 ghost use Rattle.spindle_rounds.specs.RoundRule.{Shown};
@@ -40,16 +40,16 @@ pub const PUBLISHED: usize = 1;
 pub const FINISHED: usize = 16;
 
 /// Whether the round was stopped.
-pub const STOPPED: usize = 24;
+pub const STOPPED: usize = 32;
 
 /// The remainder.
-pub const REMAINDER: usize = 32;
+pub const REMAINDER: usize = 48;
 
 /// The first range.
-pub const RANGES: usize = 40;
+pub const RANGES: usize = 64;
 
 /// How far one word of a kind is from the next.
-pub const APART: usize = 8;
+pub const APART: usize = 16;
 
 /// One in the high half of a word: where the end of a range starts, and the bit of a published word whose round may stop.
 pub const HIGH: u64 = 4294967296;

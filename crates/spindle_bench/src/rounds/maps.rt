@@ -2,7 +2,8 @@
 ghost use Rattle.std.specs.Prelude.{◌≡◌, ◌<◌};
 ghost use denote.Param.Send.{IsSync};
 
-use crate::jobs::{Listed, SquareInPlace, Squares, Squaring};
+use crate::jobs::Listed;
+use crate::jobs::maps::{SquareInPlace, Squares, Squaring};
 use crate::rounds::{PlaceRounds, Rounds, SlotRounds, TrayRounds};
 use spindle::lock::{InPlace, Leader, NoGate, PlacePost, SlotLeader};
 use spindle::{Fault, SharedList};

@@ -2,7 +2,7 @@
 ghost use Rattle.std.specs.Prelude.{◌≡◌};
 ghost use denote.Param.Send.{IsSync};
 
-use crate::jobs::{AddInRounds, Part};
+use crate::jobs::nested::{AddInRounds, Part};
 use crate::rounds::{Rounds, TrayRounds};
 use spindle::SharedList;
 use spindle::lock::{Leader, NoGate};

@@ -2,7 +2,8 @@
 ghost use Rattle.std.specs.Prelude.{◌≡◌};
 ghost use denote.Param.Send.{IsSync};
 
-use crate::jobs::{Listed, Multiply};
+use crate::jobs::Listed;
+use crate::jobs::products::Multiply;
 use crate::rounds::{Rounds, TrayRounds};
 use spindle::lock::{Leader, NoGate};
 use spindle::{Fault, SharedList};

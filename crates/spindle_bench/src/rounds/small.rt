@@ -2,7 +2,7 @@
 ghost use Rattle.std.specs.Prelude.{◌≡◌};
 ghost use denote.Param.Send.{IsSync};
 
-use crate::jobs::{Nothing, NothingInPlace, Stir, StirInPlace, Stirring};
+use crate::jobs::small::{Nothing, NothingInPlace, Stir, StirInPlace, Stirring};
 use crate::rounds::{PlaceRounds, Rounds, SlotRounds, TrayRounds};
 use spindle::lock::{InPlace, Leader, NoGate, PlacePost, Report, SlotLeader};
 use spindle_timing::kernels::stirred;

@@ -2,7 +2,7 @@
 ghost use Rattle.std.specs.Prelude.{◌≡◌, ◌<◌};
 ghost use denote.Param.Send.{IsSync};
 
-use crate::jobs::{Smooth, SmoothInPlace};
+use crate::jobs::smooth::{Smooth, SmoothInPlace};
 use crate::rounds::{PlaceRounds, Rounds, SlotRounds, TrayRounds};
 use spindle::lock::{InPlace, Leader, NoGate, PlacePost, SlotLeader};
 use spindle::{Chunk, Fault, SharedList, gathered};

@@ -2,7 +2,7 @@
 ghost use Rattle.std.specs.Prelude.{◌≡◌, ◌<◌};
 ghost use denote.Param.Send.{IsSync};
 
-use crate::jobs::{AddOne, AddOneInPlace};
+use crate::jobs::stencils::{AddOne, AddOneInPlace};
 use crate::rounds::{PlaceRounds, Rounds, SlotRounds, TrayRounds};
 use spindle::SharedList;
 use spindle::lock::{InPlace, Leader, NoGate, PlacePost, SlotLeader};
