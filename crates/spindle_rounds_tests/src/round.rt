@@ -5,7 +5,7 @@ use crate::checks::is;
 use spindle_parts::fault::Fault;
 use spindle_rounds::round::Round;
 use spindle_rounds::round::stopping::PutBack;
-use spindle_rounds::round_table::PUBLISHED;
+use spindle_rounds::round_table::{APART, PUBLISHED, RANGES, REMAINDER, STOPPED};
 use std::test::Fail;
 
 mod coming_and_going;
@@ -41,11 +41,11 @@ fn a_round_of_ten_jobs_on_four_threads(rt: HostRuntime) -> Result<(), Fail> {
     };
     let seat = leader.seat();
     lead(&round, seat, 10);
-    is(&rt, word(&round, 40), 0x0000000200000000);
-    is(&rt, word(&round, 48), 0x0000000400000002);
-    is(&rt, word(&round, 56), 0x0000000600000004);
-    is(&rt, word(&round, 64), 0x0000000800000006);
-    is(&rt, word(&round, 32), 2);
+    is(&rt, word(&round, RANGES), 0x0000000200000000);
+    is(&rt, word(&round, RANGES + APART), 0x0000000400000002);
+    is(&rt, word(&round, RANGES + 2 * APART), 0x0000000600000004);
+    is(&rt, word(&round, RANGES + 3 * APART), 0x0000000800000006);
+    is(&rt, word(&round, REMAINDER), 2);
     is(&rt, own(&round, seat, 1), Some(2));
     is(&rt, own(&round, seat, 1), Some(3));
     is(&rt, own(&round, seat, 1), None);
@@ -81,9 +81,9 @@ fn a_thief_takes_the_last_half(rt: HostRuntime) -> Result<(), Fail> {
     };
     let seat = leader.seat();
     lead(&round, seat, 5);
-    is(&rt, word(&round, 40), 0x0000000500000000);
+    is(&rt, word(&round, RANGES), 0x0000000500000000);
     is(&rt, steal(&round, seat), Some((3, 1)));
-    is(&rt, word(&round, 40), 0x0000000300000000);
+    is(&rt, word(&round, RANGES), 0x0000000300000000);
     Ok(())
 }
 
@@ -97,9 +97,9 @@ fn a_thief_takes_the_only_number(rt: HostRuntime) -> Result<(), Fail> {
     lead(&round, seat, 16);
     assert!(rt; own_from_to(&round, seat, 0, 0, 7));
     assert!(rt; own_from_to(&round, seat, 1, 8, 16));
-    is(&rt, word(&round, 40), 0x0000000800000007);
+    is(&rt, word(&round, RANGES), 0x0000000800000007);
     is(&rt, steal(&round, seat), Some((7, 0)));
-    is(&rt, word(&round, 40), 0x0000000700000007);
+    is(&rt, word(&round, RANGES), 0x0000000700000007);
     is(&rt, steal(&round, seat), None);
     Ok(())
 }
@@ -114,9 +114,9 @@ fn a_thief_takes_from_the_longest_range(rt: HostRuntime) -> Result<(), Fail> {
     lead(&round, seat, 10);
     is(&rt, own(&round, seat, 0), Some(0));
     is(&rt, own(&round, seat, 1), Some(2));
-    is(&rt, word(&round, 56), 0x0000000600000004);
+    is(&rt, word(&round, RANGES + 2 * APART), 0x0000000600000004);
     is(&rt, steal(&round, seat), Some((5, 0)));
-    is(&rt, word(&round, 56), 0x0000000500000004);
+    is(&rt, word(&round, RANGES + 2 * APART), 0x0000000500000004);
     Ok(())
 }
 
@@ -128,14 +128,14 @@ fn a_share_goes_back_into_an_empty_range(rt: HostRuntime) -> Result<(), Fail> {
     };
     let seat = leader.seat();
     lead_try(&round, seat, 8);
-    is(&rt, word(&round, 8), 8 + 4294967296);
+    is(&rt, word(&round, PUBLISHED), 8 + 4294967296);
     assert!(rt; own_from_to(&round, seat, 0, 0, 4));
     is(
         &rt,
         steal_and_stop(&rt, &round, seat),
         Some((PutBack::Occupied, PutBack::Put, true)),
     );
-    is(&rt, word(&round, 24), 1);
+    is(&rt, word(&round, STOPPED), 1);
     is(&rt, round.left(seat, 0), 0x0000000800000007);
     is(&rt, round.left(seat, 1), 0x0000000600000004);
     is(&rt, round.left(seat, 2), 0);
