@@ -166,6 +166,24 @@ fn one_slot_is_one_direct_job(rt: HostRuntime) -> Result<(), Fault> {
 }
 
 #[test]
+fn a_sole_number_is_one_direct_job(rt: HostRuntime) -> Result<(), Fault> {
+    let alloc = rt.alloc();
+    let pool = Pool::with_starts(4, Limits::new(), NoGate, 0);
+    let places = with_slots::<Place, _, _, _, _, _>(
+        &rt,
+        alloc,
+        &pool,
+        16,
+        1,
+        |leader|
+            requires { lock_slots leader.old ≡ 1 }
+        { leader.for_each_raw(&rt, alloc, 1) },
+    )??;
+    are(&rt, &places, &[(None, 1, 4)]);
+    Ok(())
+}
+
+#[test]
 fn a_leader_alone_has_number_0_in_a_round_in_slots(rt: HostRuntime) -> Result<(), Fault> {
     let pool = Pool::new(16, Limits::new(), NoGate);
     let places = places(&rt, rt.alloc(), &pool, 1, 2)?;
