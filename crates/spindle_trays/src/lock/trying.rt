@@ -16,7 +16,6 @@ use crate::work::rooms::make_rooms;
 use crate::work::tally::Tally;
 use spindle_lists::shared::SharedList;
 use spindle_parts::fault::Fault;
-use spindle_rounds::round::task::Task;
 use std::alloc::Global;
 use std::mem;
 use std::sync::Wait;
@@ -188,7 +187,7 @@ impl<'a, J: Opens<L>, G: Gate, L> Leader<'a, J, G, L> {
     {
         let trays = J::trays(self.workspace);
         trays.hand_out(rt, alloc, pieces, spares)?;
-        let task = task_of(pieces);
+        let task = pieces.task(true);
         self.post.play(rt, alloc, trays, &mut self.runner, task);
         self.post.mark_left(left);
         trays.tally(rt, pieces, left.as_slice(), tally);
@@ -229,23 +228,11 @@ impl<'a, J: Opens<L>, G: Gate, L> Leader<'a, J, G, L> {
                 .tally_rooms(rt, alloc, pieces, rooms, left.as_slice(), tally);
             return Ok(());
         }
-        let task = task_of(pieces);
         self.post
-            .play_rooms(rt, alloc, &mut self.runner, task, pieces, &mut rooms);
+            .play_rooms(rt, alloc, &mut self.runner, pieces, &mut rooms);
         self.post.mark_left(left);
         self.runner
             .tally_rooms(rt, alloc, pieces, rooms, left.as_slice(), tally);
         Ok(())
-    }
-}
-
-// The task of a round that may stop, a job for each piece.
-fn task_of<T>(pieces: &Pieces<T>) -> Task
-    ensures jobs { result.jobs ≡ pieces.now.count }
-    ensures may_stop { result.may_stop ≡ true }
-{
-    Task {
-        jobs: pieces.count() as u64,
-        may_stop: true,
     }
 }

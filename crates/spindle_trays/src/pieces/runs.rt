@@ -5,6 +5,7 @@ ghost use Rattle.spindle_trays.specs.PieceRuns.{piece_start, piece_at};
 
 use spindle_lists::run::ListRun;
 use spindle_lists::shared::SharedList;
+use spindle_rounds::round::task::Task;
 use std::alloc::AllocError;
 
 /// A list of items, and how many pieces it is cut into.
@@ -45,6 +46,17 @@ impl<T> Pieces<T> {
         ensures some { 0 < result }
     {
         self.count
+    }
+
+    /// The task of their round, a job for each piece.
+    pub fn task(&self, may_stop: bool) -> Task
+        ensures jobs { result.jobs ≡ self.now.count }
+        ensures may_stop { result.may_stop ≡ may_stop }
+    {
+        Task {
+            jobs: self.count as u64,
+            may_stop,
+        }
     }
 
     /// The piece of a number. The longer ones, by one item, come first.

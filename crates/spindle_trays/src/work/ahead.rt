@@ -18,11 +18,9 @@ use crate::work::alone::LoneWork;
 use crate::work::runner::Runner;
 use spindle_rounds::round::claim::Claimed;
 use spindle_rounds::round::party::{Party, Work};
-use spindle_rounds::round::task::Task;
 use spindle_rounds::round_table::Seat;
 use spindle_rounds::round_table::slots::Bare;
 use std::alloc::Global;
-use std::mem;
 use std::sync::Wait;
 use std::thread::Threads;
 
@@ -57,26 +55,16 @@ impl<'a> LeaderPost<'a, Bare> {
     {
         let post = &mut self.post;
         let tables = post.tables;
-        let task = Task {
-            jobs: pieces.count() as u64,
-            may_stop: false,
-        };
+        let task = pieces.task(false);
         publish(rt, tables, &mut post.barrier, &mut runner.notices, task);
         let party = Party {
             round: &tables.round,
             thread: 0,
             task,
         };
-        let own = LoneWork {
-            pieces,
-            runner,
-            alloc,
-            next: 0,
-            outputs: mem::replace(outputs, Vec::new(alloc)),
-        };
         let work = AheadWork {
             trays,
-            own,
+            own: LoneWork::new(alloc, pieces, runner, outputs),
             held: None,
         };
         let AheadWork { trays, own, held } = party.work(rt, &mut post.barrier.seat, work);

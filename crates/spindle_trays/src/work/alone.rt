@@ -17,7 +17,6 @@ use crate::pieces::runs::Pieces;
 use crate::work::runner::Runner;
 use spindle_rounds::round::claim::Claimed;
 use spindle_rounds::round::party::{Party, Work};
-use spindle_rounds::round::task::Task;
 use spindle_rounds::round_table::Seat;
 use spindle_rounds::round_table::slots::Bare;
 use std::alloc::Global;
@@ -55,23 +54,14 @@ impl<'a> LeaderPost<'a, Bare> {
     {
         let post = &mut self.post;
         let tables = post.tables;
-        let task = Task {
-            jobs: pieces.count() as u64,
-            may_stop: false,
-        };
+        let task = pieces.task(false);
         publish(rt, tables, &mut post.barrier, &mut runner.notices, task);
         let party = Party {
             round: &tables.round,
             thread: 0,
             task,
         };
-        let work = LoneWork {
-            pieces,
-            runner,
-            alloc,
-            next: 0,
-            outputs: mem::replace(outputs, Vec::new(alloc)),
-        };
+        let work = LoneWork::new(alloc, pieces, runner, outputs);
         let mut work = party.work(rt, &mut post.barrier.seat, work);
         work.run_left(rt);
         *outputs = work.outputs;
@@ -106,6 +96,26 @@ impl<'p, 'r, 'a, J: Job, G: Gate> Work<Bare> for LoneWork<'p, 'r, 'a, J, G> {
 }
 
 impl<'p, 'r, 'a, J: Job, G: Gate> LoneWork<'p, 'r, 'a, J, G> {
+    /// What has run no piece yet. It has the list for the outputs, whose room comes back with them.
+    pub(crate) fn new(
+        alloc: Global,
+        pieces: &'p Pieces<J::In>,
+        runner: &'r mut Runner<'a, J, G>,
+        outputs: &mut Vec<J::Out>,
+    ) -> LoneWork<'p, 'r, 'a, J, G>
+        ensures pieces { result.pieces ≡ pieces.entry }
+        ensures next { result.next ≡ 0 }
+        ensures outputs { result.outputs ≡ outputs.old }
+    {
+        LoneWork {
+            pieces,
+            runner,
+            alloc,
+            next: 0,
+            outputs: mem::replace(outputs, Vec::new(alloc)),
+        }
+    }
+
     // The pieces that no claim gave in order.
     fn run_left<H: Threads + Wait + Sync>(&mut self, rt: &H)
         requires { HasAnswered J.meets

@@ -1,6 +1,6 @@
 //! The pieces of a round that may stop where the leader alone runs them. Each has a room, a list for its outputs that is empty until the
 //! piece has run. The rooms stay with the leader and no tray is asked, so nothing can be lost there.
-ghost use Rattle.std.specs.Prelude.{◌≡◌, ◌↔◌, ◌<◌, ◌≤◌, None, IfOk, IfSome, IsNone, IsTrue, OnErr, IsErrOf, length};
+ghost use Rattle.std.specs.Prelude.{◌≡◌, ◌↔◌, ◌<◌, ◌≤◌, None, true, IfOk, IfSome, IsNone, IsTrue, OnErr, IsErrOf, length};
 ghost use Rattle.std.specs.List.{AllZip};
 ghost use Rattle.std.specs.Option.{ForSome};
 ghost use Rattle.std.proofs.Common.{refl, ◌∙◌};
@@ -21,7 +21,6 @@ use crate::work::tally::{Tally, has_failure};
 use spindle_parts::fault::Fault;
 use spindle_rounds::round::claim::Claimed;
 use spindle_rounds::round::party::{Party, Work};
-use spindle_rounds::round::task::Task;
 use spindle_rounds::round_table::Seat;
 use spindle_rounds::round_table::slots::Bare;
 use std::alloc::Global;
@@ -39,25 +38,25 @@ struct RoomWork<'p, 'r, 'a, J: Job, G: Gate> {
 }
 
 impl<'a> LeaderPost<'a, Bare> {
-    /// Publishes a task over the pieces, runs those that it claims in their rooms, and ends the round.
+    /// Publishes the pieces for a round that may stop, runs those that it claims in their rooms, and ends the round.
     pub(crate) fn play_rooms<J: Job, G: Gate, H: Threads + Wait + Sync>(
         &mut self,
         rt: &H,
         alloc: Global,
         runner: &mut Runner<'a, J, G>,
-        task: Task,
         pieces: &Pieces<J::In>,
         rooms: &mut Vec<Vec<J::Out>>,
     )
-        requires counted { (2 ≤ task.jobs) × (task.jobs ≤ 4294967295) }
+        requires counted { (2 ≤ pieces.now.count) × (pieces.now.count ≤ 4294967295) }
         requires fit { AreRooms J.meets pieces.now.items pieces.now.count 0 rooms.old.items }
         ensures fit { AreRooms J.meets pieces.now.items pieces.now.count 0 rooms.new.items }
-        ensures played { PlayedRoundOf task.jobs task.may_stop
+        ensures played { PlayedRoundOf pieces.now.count true
             self.old.post.barrier.seat.me.0 self.new.post.barrier.seat.me.0 }
         ensures tables { self.new.post.tables ≡ self.old.post.tables }
     {
         let post = &mut self.post;
         let tables = post.tables;
+        let task = pieces.task(true);
         publish(rt, tables, &mut post.barrier, &mut runner.notices, task);
         let party = Party {
             round: &tables.round,
