@@ -5,6 +5,7 @@ use std::alloc::AllocError;
 use std::cell::Cell;
 use std::io;
 use std::io::{ErrorKind, Read, Write};
+use std::process::Abort;
 use std::sync::Wait;
 use std::thread::Threads;
 
@@ -32,10 +33,13 @@ impl Trial {
     }
 }
 
-/// The words as the program gets them.
-pub fn as_words(rt: &impl AllocGlobal, words: &[&str]) -> Result<Vec<String>, AllocError> {
+/// What a run is given and what it must write: its words with bars between them and its text, or a line of steps and the line that answers it.
+pub type Row<'a> = (&'a str, &'a str);
+
+/// The words between the bars, as the program gets them.
+pub fn as_words(rt: &impl AllocGlobal, words: &str) -> Result<Vec<String>, AllocError> {
     let mut list = Vec::new(rt.alloc());
-    for word in words {
+    for word in words.split('|') {
         list.push(String::from_str(rt.alloc(), word)?)?;
     }
     Ok(list)
@@ -44,7 +48,7 @@ pub fn as_words(rt: &impl AllocGlobal, words: &[&str]) -> Result<Vec<String>, Al
 /// Runs the program on the words and the input.
 pub fn outcome<H: Threads + Wait + AllocGlobal + Sync>(
     rt: &H,
-    words: &[&str],
+    words: &str,
     input: &str,
 ) -> Result<Trial, AllocError> {
     let list = as_words(rt, words)?;
@@ -52,6 +56,28 @@ pub fn outcome<H: Threads + Wait + AllocGlobal + Sync>(
     let mut bytes = input.as_bytes();
     let end = run(rt, rt.alloc(), list.as_slice(), &mut bytes, &mut text);
     Ok(Trial { text, end })
+}
+
+/// Fails the test in which the program doesn't write each row's text and end well.
+pub fn writes<H: Threads + Wait + AllocGlobal + Abort + Sync>(
+    rt: &H,
+    rows: &[Row],
+) -> Result<(), AllocError> {
+    for (words, text) in rows {
+        assert!(rt; outcome(rt, words, "")?.is(text), "{words}");
+    }
+    Ok(())
+}
+
+/// Fails the test in which the program doesn't call each row's words bad, and write nothing.
+pub fn calls_bad<H: Threads + Wait + AllocGlobal + Abort + Sync>(
+    rt: &H,
+    rows: &[&str],
+) -> Result<(), AllocError> {
+    for words in rows {
+        assert!(rt; outcome(rt, words, "")?.stopped("", Stop::Words), "{words}");
+    }
+    Ok(())
 }
 
 /// A reader that answers its text and then an error.

@@ -3,71 +3,65 @@
 //! The tests named `refused_` hold with any one allocation refused, which
 //! `rt try --test --fail-alloc N` does to the Nth.
 use super::*;
-use crate::trials::{Brief, Torn, as_words, outcome};
+use crate::trials::{Brief, Row, Torn, as_words, calls_bad, outcome, writes};
 use std::test::Fail;
 
 mod faults;
 mod grids;
 
+// Lists that are cut, with the lengths of their pieces.
+const LENGTHS: [Row<'static>; 9] = [
+    ("cut|10|4", "3 3 2 2\n"),
+    ("cut|3|8", "1 1 1\n"),
+    ("cut|0|5", "\n"),
+    ("cut|0|0", "\n"),
+    ("cut|1000000|1", "1000000\n"),
+    ("cut|1|4294967295", "1\n"),
+    ("cut|0|4294967295", "\n"),
+    ("cut|0000000010|0000000004", "3 3 2 2\n"),
+    ("cut|7|3", "3 2 2\n"),
+];
+
 #[test]
 fn lengths_stand_on_one_line(rt: HostRuntime) -> Result<(), Fail> {
-    let rows: [(&[&str], &str); 9] = [
-        (&["cut", "10", "4"], "3 3 2 2\n"),
-        (&["cut", "3", "8"], "1 1 1\n"),
-        (&["cut", "0", "5"], "\n"),
-        (&["cut", "0", "0"], "\n"),
-        (&["cut", "1000000", "1"], "1000000\n"),
-        (&["cut", "1", "4294967295"], "1\n"),
-        (&["cut", "0", "4294967295"], "\n"),
-        (&["cut", "0000000010", "0000000004"], "3 3 2 2\n"),
-        (&["cut", "7", "3"], "3 2 2\n"),
-    ];
-    for (words, text) in rows {
-        assert!(rt; outcome(&rt, words, "")?.is(text), "{words:?}");
-    }
+    writes(&rt, &LENGTHS)?;
     Ok(())
 }
 
+// Rounds of a lock, with the squares that they answer.
+const SQUARES: [Row<'static>; 6] = [
+    ("squares|10|4|4", "0 1 4 9 16 25 36 49 64 81\n"),
+    ("squares|0|1|1", "\n"),
+    ("squares|1|64|100000", "0\n"),
+    ("squares|5|1|3", "0 1 4 9 16\n"),
+    ("squares|3|64|1", "0 1 4\n"),
+    ("squares|4|2|4", "0 1 4 9\n"),
+];
+
 #[test]
 fn squares_stand_on_one_line(rt: HostRuntime) -> Result<(), Fail> {
-    let rows: [(&[&str], &str); 6] = [
-        (&["squares", "10", "4", "4"], "0 1 4 9 16 25 36 49 64 81\n"),
-        (&["squares", "0", "1", "1"], "\n"),
-        (&["squares", "1", "64", "100000"], "0\n"),
-        (&["squares", "5", "1", "3"], "0 1 4 9 16\n"),
-        (&["squares", "3", "64", "1"], "0 1 4\n"),
-        (&["squares", "4", "2", "4"], "0 1 4 9\n"),
-    ];
-    for (words, text) in rows {
-        assert!(rt; outcome(&rt, words, "")?.is(text), "{words:?}");
-    }
-    let most = outcome(&rt, &["squares", "100000", "64", "100000"], "")?;
+    writes(&rt, &SQUARES)?;
+    let most = outcome(&rt, "squares|100000|64|100000", "")?;
     assert_eq!(rt; most.end, Ok(()));
     assert!(rt; most.text.ends_with(b" 9999600004 9999800001\n"));
     Ok(())
 }
 
+// The same of locks with slots.
+const SQUARES_IN_SLOTS: [Row<'static>; 7] = [
+    ("slots|10|4|8|3", "0 1 4 9 16 25 36 49 64 81\n"),
+    ("slots|10|4|8|1", "0 1 4 9 16 25 36 49 64 81\n"),
+    ("slots|0|4|8|3", "\n"),
+    ("slots|3|64|100000|100000", "0 1 4\n"),
+    ("slots|5|1|3|2", "0 1 4 9 16\n"),
+    ("slots|4|2|2|100000", "0 1 4 9\n"),
+    ("slots|1|1|1|1", "0\n"),
+];
+
 #[test]
 fn squares_of_a_lock_with_slots(rt: HostRuntime) -> Result<(), Fail> {
-    let rows: [(&[&str], &str); 7] = [
-        (
-            &["slots", "10", "4", "8", "3"],
-            "0 1 4 9 16 25 36 49 64 81\n",
-        ),
-        (
-            &["slots", "10", "4", "8", "1"],
-            "0 1 4 9 16 25 36 49 64 81\n",
-        ),
-        (&["slots", "0", "4", "8", "3"], "\n"),
-        (&["slots", "3", "64", "100000", "100000"], "0 1 4\n"),
-        (&["slots", "5", "1", "3", "2"], "0 1 4 9 16\n"),
-        (&["slots", "4", "2", "2", "100000"], "0 1 4 9\n"),
-        (&["slots", "1", "1", "1", "1"], "0\n"),
-    ];
-    for (words, text) in rows {
-        assert!(rt; outcome(&rt, words, "")?.is(text), "{words:?}");
-    }
-    let most = outcome(&rt, &["slots", "100000", "64", "100000", "100000"], "")?;
+    writes(&rt, &SQUARES_IN_SLOTS)?;
+    let most = outcome(&rt, "slots|100000|64|100000|100000", "")?;
     assert_eq!(rt; most.end, Ok(()));
     assert!(rt; most.text.ends_with(b" 9999600004 9999800001\n"));
     Ok(())
@@ -90,19 +84,7 @@ fn three_hundred_rounds_in_slots_answer_the_squares(rt: HostRuntime) -> Result<(
         let threads = 1 + random / 200 % 6;
         let jobs = 1 + random / 1200 % 50;
         let slots = 1 + random / 60000 % 40;
-        let numbers = [
-            format!(in alloc; "{count}")?,
-            format!(in alloc; "{threads}")?,
-            format!(in alloc; "{jobs}")?,
-            format!(in alloc; "{slots}")?,
-        ];
-        let words = [
-            "slots",
-            numbers[0].as_str(),
-            numbers[1].as_str(),
-            numbers[2].as_str(),
-            numbers[3].as_str(),
-        ];
+        let words = format!(in alloc; "slots|{count}|{threads}|{jobs}|{slots}")?;
         let mut text = String::new(alloc);
         for number in 0..count {
             let space = if number == 0 { "" } else { " " };
@@ -110,81 +92,81 @@ fn three_hundred_rounds_in_slots_answer_the_squares(rt: HostRuntime) -> Result<(
             text.push_str(square.as_str())?;
         }
         text.push_str("\n")?;
-        assert!(rt; outcome(&rt, &words, "")?.is(text.as_str()), "{words:?}");
+        writes(&rt, &[(words.as_str(), text.as_str())])?;
     }
     Ok(())
 }
 
+// Words of no command, or out of its ranges.
+const BAD_WORDS: [&str; 53] = [
+    "",
+    "cut",
+    "cut|5",
+    "cut|5|0",
+    "cut|5|4|4",
+    "cut|1000001|4",
+    "cut|5|4294967296",
+    "cut|5|9999999999",
+    "cut|5|00000000004",
+    "cut|99999999999|4",
+    "cut|5|",
+    "cut||4",
+    "cut|+5|4",
+    "cut|-5|4",
+    "cut| 5|4",
+    "cut|5 |4",
+    "cut|5|4 4",
+    "cut|0x5|4",
+    "cut|५|4",
+    "Cut|5|4",
+    "cut |5|4",
+    "squares",
+    "squares|10|4",
+    "squares|10|4|4|4",
+    "squares|100001|4|4",
+    "squares|10|0|4",
+    "squares|10|65|4",
+    "squares|10|4|0",
+    "squares|10|4|100001",
+    "squares|0|4|0",
+    "slots",
+    "slots|10|4|8",
+    "slots|10|4|8|3|3",
+    "slots|100001|4|8|3",
+    "slots|10|65|8|3",
+    "slots|10|4|8|0",
+    "slots|10|4|8|100001",
+    "steps|0",
+    "steps|",
+    "Steps",
+    "grid",
+    "grid|16|16|4",
+    "grid|16|16|4|16|16",
+    "grid|0|16|4|16",
+    "grid|513|16|4|16",
+    "grid|16|0|4|16",
+    "grid|16|513|4|16",
+    "grid|16|16|0|16",
+    "grid|16|16|65|16",
+    "grid|16|16|4|0",
+    "grid|16|16|4|4097",
+    "Grid|16|16|4|16",
+    "cut|5|4\n",
+];
+
 #[test]
 fn other_words_are_bad(rt: HostRuntime) -> Result<(), Fail> {
-    let rows: [&[&str]; 54] = [
-        &[],
-        &[""],
-        &["cut"],
-        &["cut", "5"],
-        &["cut", "5", "0"],
-        &["cut", "5", "4", "4"],
-        &["cut", "1000001", "4"],
-        &["cut", "5", "4294967296"],
-        &["cut", "5", "9999999999"],
-        &["cut", "5", "00000000004"],
-        &["cut", "99999999999", "4"],
-        &["cut", "5", ""],
-        &["cut", "", "4"],
-        &["cut", "+5", "4"],
-        &["cut", "-5", "4"],
-        &["cut", " 5", "4"],
-        &["cut", "5 ", "4"],
-        &["cut", "5", "4 4"],
-        &["cut", "0x5", "4"],
-        &["cut", "५", "4"],
-        &["Cut", "5", "4"],
-        &["cut ", "5", "4"],
-        &["squares"],
-        &["squares", "10", "4"],
-        &["squares", "10", "4", "4", "4"],
-        &["squares", "100001", "4", "4"],
-        &["squares", "10", "0", "4"],
-        &["squares", "10", "65", "4"],
-        &["squares", "10", "4", "0"],
-        &["squares", "10", "4", "100001"],
-        &["squares", "0", "4", "0"],
-        &["slots"],
-        &["slots", "10", "4", "8"],
-        &["slots", "10", "4", "8", "3", "3"],
-        &["slots", "100001", "4", "8", "3"],
-        &["slots", "10", "65", "8", "3"],
-        &["slots", "10", "4", "8", "0"],
-        &["slots", "10", "4", "8", "100001"],
-        &["steps", "0"],
-        &["steps", ""],
-        &["Steps"],
-        &["grid"],
-        &["grid", "16", "16", "4"],
-        &["grid", "16", "16", "4", "16", "16"],
-        &["grid", "0", "16", "4", "16"],
-        &["grid", "513", "16", "4", "16"],
-        &["grid", "16", "0", "4", "16"],
-        &["grid", "16", "513", "4", "16"],
-        &["grid", "16", "16", "0", "16"],
-        &["grid", "16", "16", "65", "16"],
-        &["grid", "16", "16", "4", "0"],
-        &["grid", "16", "16", "4", "4097"],
-        &["Grid", "16", "16", "4", "16"],
-        &["cut", "5", "4\n"],
-    ];
-    for words in rows {
-        assert!(rt;
-            outcome(&rt, words, "")?.stopped("", Stop::Words),
-            "{words:?}"
-        );
-    }
+    calls_bad(&rt, &BAD_WORDS)?;
+    let mut text = Vec::new(rt.alloc());
+    let end = run(&rt, rt.alloc(), &[], &mut Torn(b""), &mut text);
+    assert_eq!(rt; end, Err(Stop::Words));
+    assert!(rt; text.is_empty());
     Ok(())
 }
 
 #[test]
 fn bad_words_come_before_any_stream(rt: HostRuntime) -> Result<(), Fail> {
-    let words = as_words(&rt, &["cut", "5", "0"])?;
+    let words = as_words(&rt, "cut|5|0")?;
     let mut closed = Brief {
         text: Vec::new(rt.alloc()),
         room: 0,
@@ -200,25 +182,27 @@ fn bad_words_come_before_any_stream(rt: HostRuntime) -> Result<(), Fail> {
     Ok(())
 }
 
+// Runs whose output fails after so many bytes.
+const TORN: [(&str, usize); 7] = [
+    ("cut|0|0", 0),
+    ("cut|10|4", 0),
+    ("cut|10|4", 7),
+    ("cut|1000000|1000000", 20000),
+    ("squares|100000|4|4", 8193),
+    ("faults|6|1|6|2", 12),
+    ("faults|100000|1|100000|2", 20000),
+];
+
 #[test]
 fn a_failing_output_stops_the_program(rt: HostRuntime) -> Result<(), Fail> {
-    let rows: [(&[&str], usize); 7] = [
-        (&["cut", "0", "0"], 0),
-        (&["cut", "10", "4"], 0),
-        (&["cut", "10", "4"], 7),
-        (&["cut", "1000000", "1000000"], 20000),
-        (&["squares", "100000", "4", "4"], 8193),
-        (&["faults", "6", "1", "6", "2"], 12),
-        (&["faults", "100000", "1", "100000", "2"], 20000),
-    ];
-    for (words, room) in rows {
+    for (words, room) in TORN {
         let list = as_words(&rt, words)?;
         let mut brief = Brief {
             text: Vec::new(rt.alloc()),
             room,
         };
         let end = run(&rt, rt.alloc(), list.as_slice(), &mut Torn(b""), &mut brief);
-        assert_eq!(rt; end, Err(Stop::Output), "{words:?} with {room} bytes");
+        assert_eq!(rt; end, Err(Stop::Output), "{words} with {room} bytes");
         assert_eq!(rt; brief.text.len(), room);
     }
     Ok(())
@@ -241,29 +225,25 @@ fn texts_and_statuses(rt: HostRuntime) -> Result<(), Fail> {
     Ok(())
 }
 
+// Small runs of each command but `steps`.
+const SMALL: [Row<'static>; 8] = [
+    ("cut|10|4", "3 3 2 2\n"),
+    ("squares|10|4|4", "0 1 4 9 16 25 36 49 64 81\n"),
+    ("squares|3|1|1", "0 1 4\n"),
+    ("slots|10|4|8|3", "0 1 4 9 16 25 36 49 64 81\n"),
+    ("slots|3|1|2|2", "0 1 4\n"),
+    ("faults|6|1|6|2", "ran 0 1 2\nskipped 3 4 5\n"),
+    ("faults|4|2|2|9", "ran 0 1\nskipped\n"),
+    ("grid|2|4|2|2", "8 4 4\n"),
+];
+
 #[test]
 fn refused_memory_leaves_no_half_line(rt: HostRuntime) -> Result<(), Fail> {
-    let rows: [(&[&str], &str); 8] = [
-        (&["cut", "10", "4"], "3 3 2 2\n"),
-        (&["squares", "10", "4", "4"], "0 1 4 9 16 25 36 49 64 81\n"),
-        (&["squares", "3", "1", "1"], "0 1 4\n"),
-        (
-            &["slots", "10", "4", "8", "3"],
-            "0 1 4 9 16 25 36 49 64 81\n",
-        ),
-        (&["slots", "3", "1", "2", "2"], "0 1 4\n"),
-        (
-            &["faults", "6", "1", "6", "2"],
-            "ran 0 1 2\nskipped 3 4 5\n",
-        ),
-        (&["faults", "4", "2", "2", "9"], "ran 0 1\nskipped\n"),
-        (&["grid", "2", "4", "2", "2"], "8 4 4\n"),
-    ];
-    for (words, text) in rows {
+    for (words, text) in SMALL {
         if let Ok(trial) = outcome(&rt, words, "") {
             assert!(rt;
                 trial.is(text) || trial.stopped("", Stop::Memory),
-                "{words:?}"
+                "{words}"
             );
         }
     }

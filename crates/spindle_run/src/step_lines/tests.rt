@@ -36,45 +36,47 @@ fn each_name_is_a_step(rt: HostRuntime) {
     }
 }
 
+// Lines that are no step.
+const OTHER_LINES: [&str; 31] = [
+    "",
+    "\n",
+    " ",
+    "join",
+    "join ",
+    "join  0",
+    " join 0",
+    "join 0 ",
+    "join 0 0",
+    "join 0\n\n",
+    "join 0\r\n",
+    "join\t0",
+    "join +1",
+    "join -1",
+    "join 1.0",
+    "join 0x1",
+    "join one",
+    "join 4294967296",
+    "join 9999999999",
+    "join 00000000000",
+    "Join 0",
+    "jump 1",
+    "publish 0",
+    "publish 0 5 5",
+    "publish  0 5",
+    "publish 0  5",
+    "publish 0 5 ",
+    "publish 0 4294967296",
+    "publish_try 0 5",
+    "claim 0",
+    "rest 0 0",
+];
+
 #[test]
 fn no_other_line_is_a_step(rt: HostRuntime) {
-    let rows: [&[u8]; 32] = [
-        b"",
-        b"\n",
-        b" ",
-        b"join",
-        b"join ",
-        b"join  0",
-        b" join 0",
-        b"join 0 ",
-        b"join 0 0",
-        b"join 0\n\n",
-        b"join 0\r\n",
-        b"join\t0",
-        b"join +1",
-        b"join -1",
-        b"join 1.0",
-        b"join 0x1",
-        b"join one",
-        b"join 4294967296",
-        b"join 9999999999",
-        b"join 00000000000",
-        b"Join 0",
-        b"jump 1",
-        b"publish 0",
-        b"publish 0 5 5",
-        b"publish  0 5",
-        b"publish 0  5",
-        b"publish 0 5 ",
-        b"publish 0 4294967296",
-        b"publish_try 0 5",
-        b"claim 0",
-        b"rest 0 0",
-        b"join \xff",
-    ];
-    for line in rows {
-        assert_eq!(rt; parse_step(line), None, "{line:?}");
+    for line in OTHER_LINES {
+        assert_eq!(rt; parse_step(line.as_bytes()), None, "{line}");
     }
+    assert_eq!(rt; parse_step(b"join \xff"), None);
 }
 
 #[test]
@@ -103,7 +105,7 @@ fn answers_before_a_bad_line_stand(rt: HostRuntime) -> Result<(), Fail> {
     ];
     for (input, text, line) in rows {
         assert!(rt;
-            outcome(&rt, &["steps"], input)?.stopped(text, Stop::Line(line)),
+            outcome(&rt, "steps", input)?.stopped(text, Stop::Line(line)),
             "{input}"
         );
     }
@@ -112,16 +114,16 @@ fn answers_before_a_bad_line_stand(rt: HostRuntime) -> Result<(), Fail> {
 
 #[test]
 fn the_last_line_may_end_with_the_input(rt: HostRuntime) -> Result<(), Fail> {
-    assert!(rt; outcome(&rt, &["steps"], "")?.is(""));
-    assert!(rt; outcome(&rt, &["steps"], "join 0")?.is("00010001\n"));
-    assert!(rt; outcome(&rt, &["steps"], "join 0\n")?.is("00010001\n"));
-    assert!(rt; outcome(&rt, &["steps"], "join 0\njoin 1")?.is("00010001\n00020002\n"));
+    assert!(rt; outcome(&rt, "steps", "")?.is(""));
+    assert!(rt; outcome(&rt, "steps", "join 0")?.is("00010001\n"));
+    assert!(rt; outcome(&rt, "steps", "join 0\n")?.is("00010001\n"));
+    assert!(rt; outcome(&rt, "steps", "join 0\njoin 1")?.is("00010001\n00020002\n"));
     Ok(())
 }
 
 #[test]
 fn a_line_without_end_is_bad(rt: HostRuntime) -> Result<(), Fail> {
-    let words = as_words(&rt, &["steps"])?;
+    let words = as_words(&rt, "steps")?;
     let mut input = Endless { given: 0 };
     let mut text = Vec::new(rt.alloc());
     let end = run(&rt, rt.alloc(), words.as_slice(), &mut input, &mut text);
@@ -133,7 +135,7 @@ fn a_line_without_end_is_bad(rt: HostRuntime) -> Result<(), Fail> {
 
 #[test]
 fn an_input_that_fails_stops_the_program(rt: HostRuntime) -> Result<(), Fail> {
-    let words = as_words(&rt, &["steps"])?;
+    let words = as_words(&rt, "steps")?;
     let rows: [(&[u8], &str); 4] = [
         (b"", ""),
         (b"jo", ""),
@@ -157,7 +159,7 @@ fn an_input_that_fails_stops_the_program(rt: HostRuntime) -> Result<(), Fail> {
 
 #[test]
 fn an_output_that_fails_stops_the_steps(rt: HostRuntime) -> Result<(), Fail> {
-    let words = as_words(&rt, &["steps"])?;
+    let words = as_words(&rt, "steps")?;
     for room in [0, 4, 9, 13, 17] {
         let mut brief = Brief {
             text: Vec::new(rt.alloc()),
@@ -173,7 +175,7 @@ fn an_output_that_fails_stops_the_steps(rt: HostRuntime) -> Result<(), Fail> {
 
 #[test]
 fn each_answer_is_flushed_before_the_next_line_is_read(rt: HostRuntime) -> Result<(), Fail> {
-    let words = as_words(&rt, &["steps"])?;
+    let words = as_words(&rt, "steps")?;
     let answers = Cell::new(0);
     let mut input = Patient {
         line: b"rest 0\n",

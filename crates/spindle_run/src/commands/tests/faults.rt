@@ -1,67 +1,51 @@
 //! Runs of `faults`: worked rows, and random words, beside a plain model where one thread runs the pieces and by the laws of
 //! such a round where several do.
 use super::next;
-use crate::stop::Stop;
-use crate::trials::{Trial, outcome};
+use crate::trials::{Row, Trial, calls_bad, outcome, writes};
 use std::alloc::{AllocError, Global};
 use std::sync::Wait;
 use std::test::Fail;
 use std::thread::Threads;
 
+// Rounds that a number may stop, with the pieces that ran and those that were skipped.
+const STOPPED: [Row<'static>; 10] = [
+    ("faults|6|1|6|2", "ran 0 1 2\nskipped 3 4 5\n"),
+    ("faults|6|4|6|9", "ran 0 1 2 3 4 5\nskipped\n"),
+    ("faults|5|1|2|1", "ran 0\nskipped 1\n"),
+    ("faults|0|4|1|0", "ran\nskipped\n"),
+    ("faults|6|1|6|9", "ran 0 1 2 3 4 5\nskipped\n"),
+    ("faults|5|1|2|3", "ran 0 1\nskipped\n"),
+    ("faults|3|1|100000|0", "ran 0\nskipped 1 2\n"),
+    ("faults|6|64|1|2", "ran 0\nskipped\n"),
+    ("faults|2|64|2|4294967295", "ran 0 1\nskipped\n"),
+    ("faults|1|1|1|0", "ran 0\nskipped\n"),
+];
+
 #[test]
 fn a_round_stops_at_a_number_that_fails(rt: HostRuntime) -> Result<(), Fail> {
-    let rows: [(&[&str], &str); 10] = [
-        (
-            &["faults", "6", "1", "6", "2"],
-            "ran 0 1 2\nskipped 3 4 5\n",
-        ),
-        (
-            &["faults", "6", "4", "6", "9"],
-            "ran 0 1 2 3 4 5\nskipped\n",
-        ),
-        (&["faults", "5", "1", "2", "1"], "ran 0\nskipped 1\n"),
-        (&["faults", "0", "4", "1", "0"], "ran\nskipped\n"),
-        (
-            &["faults", "6", "1", "6", "9"],
-            "ran 0 1 2 3 4 5\nskipped\n",
-        ),
-        (&["faults", "5", "1", "2", "3"], "ran 0 1\nskipped\n"),
-        (&["faults", "3", "1", "100000", "0"], "ran 0\nskipped 1 2\n"),
-        (&["faults", "6", "64", "1", "2"], "ran 0\nskipped\n"),
-        (
-            &["faults", "2", "64", "2", "4294967295"],
-            "ran 0 1\nskipped\n",
-        ),
-        (&["faults", "1", "1", "1", "0"], "ran 0\nskipped\n"),
-    ];
-    for (words, text) in rows {
-        assert!(rt; outcome(&rt, words, "")?.is(text), "{words:?}");
-    }
+    writes(&rt, &STOPPED)?;
     Ok(())
 }
 
+// Numbers that are missing, too many, or out of their ranges.
+const BAD_NUMBERS: [&str; 12] = [
+    "faults",
+    "faults|6|1|6",
+    "faults|6|1|6|2|2",
+    "faults|100001|1|6|2",
+    "faults|6|0|6|2",
+    "faults|6|65|6|2",
+    "faults|6|1|0|2",
+    "faults|0|4|0|0",
+    "faults|6|1|100001|2",
+    "faults|6|1|6|4294967296",
+    "faults|6|1|6|",
+    "Faults|6|1|6|2",
+];
+
 #[test]
 fn other_numbers_of_a_round_that_may_stop_are_bad(rt: HostRuntime) -> Result<(), Fail> {
-    let rows: [&[&str]; 12] = [
-        &["faults"],
-        &["faults", "6", "1", "6"],
-        &["faults", "6", "1", "6", "2", "2"],
-        &["faults", "100001", "1", "6", "2"],
-        &["faults", "6", "0", "6", "2"],
-        &["faults", "6", "65", "6", "2"],
-        &["faults", "6", "1", "0", "2"],
-        &["faults", "0", "4", "0", "0"],
-        &["faults", "6", "1", "100001", "2"],
-        &["faults", "6", "1", "6", "4294967296"],
-        &["faults", "6", "1", "6", ""],
-        &["Faults", "6", "1", "6", "2"],
-    ];
-    for words in rows {
-        assert!(rt;
-            outcome(&rt, words, "")?.stopped("", Stop::Words),
-            "{words:?}"
-        );
-    }
+    calls_bad(&rt, &BAD_NUMBERS)?;
     Ok(())
 }
 
@@ -73,21 +57,8 @@ fn trial_of<H: Threads + Wait + AllocGlobal + Sync>(
     jobs: u64,
     bad: u64,
 ) -> Result<Trial, AllocError> {
-    let alloc = rt.alloc();
-    let numbers = [
-        format!(in alloc; "{count}")?,
-        format!(in alloc; "{threads}")?,
-        format!(in alloc; "{jobs}")?,
-        format!(in alloc; "{bad}")?,
-    ];
-    let words = [
-        "faults",
-        numbers[0].as_str(),
-        numbers[1].as_str(),
-        numbers[2].as_str(),
-        numbers[3].as_str(),
-    ];
-    outcome(rt, &words, "")
+    let words = format!(in rt.alloc(); "faults|{count}|{threads}|{jobs}|{bad}")?;
+    outcome(rt, words.as_str(), "")
 }
 
 // The piece that has the number `bad`, if one has: the first `count % pieces` pieces are longer by one than the others.

@@ -1,24 +1,24 @@
 //! Runs of `grid`: worked rows, and random words beside a plain loop over one list.
 use super::next;
-use crate::trials::outcome;
+use crate::trials::{Row, writes};
 use std::alloc::Global;
 use std::test::Fail;
 
+// Grids, with how many numbers they have, the least and the greatest.
+const GRIDS: [Row<'static>; 8] = [
+    ("grid|16|16|4|16", "256 16 16\n"),
+    ("grid|16|16|4|4", "256 16 16\n"),
+    ("grid|3|5|2|2", "15 5 5\n"),
+    ("grid|4|7|3|3", "28 7 7\n"),
+    ("grid|1|1|1|1", "1 1 1\n"),
+    ("grid|1|1|64|4096", "1 1 1\n"),
+    ("grid|512|3|64|4096", "1536 3 3\n"),
+    ("grid|1|512|4|1", "512 512 512\n"),
+];
+
 #[test]
 fn a_grid_grows_by_one_a_round(rt: HostRuntime) -> Result<(), Fail> {
-    let rows: [(&[&str], &str); 8] = [
-        (&["grid", "16", "16", "4", "16"], "256 16 16\n"),
-        (&["grid", "16", "16", "4", "4"], "256 16 16\n"),
-        (&["grid", "3", "5", "2", "2"], "15 5 5\n"),
-        (&["grid", "4", "7", "3", "3"], "28 7 7\n"),
-        (&["grid", "1", "1", "1", "1"], "1 1 1\n"),
-        (&["grid", "1", "1", "64", "4096"], "1 1 1\n"),
-        (&["grid", "512", "3", "64", "4096"], "1536 3 3\n"),
-        (&["grid", "1", "512", "4", "1"], "512 512 512\n"),
-    ];
-    for (words, text) in rows {
-        assert!(rt; outcome(&rt, words, "")?.is(text), "{words:?}");
-    }
+    writes(&rt, &GRIDS)?;
     Ok(())
 }
 
@@ -47,21 +47,11 @@ fn two_hundred_grids_are_those_of_a_plain_loop(rt: HostRuntime) -> Result<(), Fa
         random = next(random);
         let rows = 1 + random % 40;
         let columns = 1 + random / 40 % 30;
-        let numbers = [
-            format!(in alloc; "{rows}")?,
-            format!(in alloc; "{columns}")?,
-            format!(in alloc; "{}", 1 + random / 1200 % 6)?,
-            format!(in alloc; "{}", 1 + random / 7200 % 50)?,
-        ];
-        let words = [
-            "grid",
-            numbers[0].as_str(),
-            numbers[1].as_str(),
-            numbers[2].as_str(),
-            numbers[3].as_str(),
-        ];
+        let threads = 1 + random / 1200 % 6;
+        let jobs = 1 + random / 7200 % 50;
+        let words = format!(in alloc; "grid|{rows}|{columns}|{threads}|{jobs}")?;
         let line = plain_line(alloc, rows, columns)?;
-        assert!(rt; outcome(&rt, &words, "")?.is(line.as_str()), "{words:?}");
+        writes(&rt, &[(words.as_str(), line.as_str())])?;
     }
     Ok(())
 }
