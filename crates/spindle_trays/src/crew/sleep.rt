@@ -1,7 +1,7 @@
 //! How idle threads of a lock wait: turns of pauses between two looks, then sleep until somebody has changed a word.
 //!
-//! Who changes a word that idle threads wait for stores it first, and then wakes all. A thread that is about to sleep
-//! looks once more while it holds the mutex, so no change is missed.
+//! Who changes a word that idle threads wait for stores it first, then takes the mutex, and wakes all who sleep by then. A thread
+//! that is about to sleep looks once more while it holds the mutex, so no change is missed.
 ghost use Rattle.std.specs.Prelude.{◌<◌};
 
 use crate::crew::limits::Limits;
@@ -20,18 +20,33 @@ pub struct Sleep {
     bed: CachePadded<Bed>,
 }
 
-// Whoever wakes the sleepers writes here, so it shares no cache line with what waiting threads read.
+// How many sleep, behind the mutex of those who are about to. Whoever wakes them writes here, so it shares no cache line with what
+// waiting threads read.
 #[derive(Drop)]
 struct Bed {
-    mutex: Mutex<()>,
+    sleepers: Mutex<usize>,
     changed: Condvar,
+}
+
+impl Bed {
+    // Sleeps until somebody has changed a word, counted among the sleepers meanwhile.
+    fn sleep<'a, H: Wait>(
+        &'a self,
+        rt: &H,
+        mut guard: MutexGuard<'a, usize>,
+    ) -> MutexGuard<'a, usize> {
+        *guard = guard.wrapping_add(1);
+        let mut guard = self.changed.wait(rt, guard);
+        *guard = guard.wrapping_sub(1);
+        guard
+    }
 }
 
 impl Sleep {
     /// A place to sleep for threads with these limits.
     pub fn new(limits: Limits) -> Sleep {
         let bed = Bed {
-            mutex: Mutex::new(()),
+            sleepers: Mutex::new(0),
             changed: Condvar::new(),
         };
         Sleep {
@@ -47,8 +62,10 @@ impl Sleep {
 
     /// Wakes all who sleep. A word was changed before.
     pub fn wake<H: Wait>(&self, rt: &H) {
-        drop(self.bed.mutex.lock(rt));
-        self.bed.changed.notify_all();
+        let sleepers = *self.bed.sleepers.lock(rt);
+        if sleepers > 0 {
+            self.bed.changed.notify_all();
+        }
     }
 
     /// The pauses of a thread that begins to wait.
@@ -72,17 +89,17 @@ pub struct Idle<'a> {
     turns: u32,
     turn: u32,
     backoff: Backoff,
-    guard: Option<MutexGuard<'a, ()>>,
+    guard: Option<MutexGuard<'a, usize>>,
 }
 
 impl<'a> Idle<'a> {
     /// Passes the time between two looks. A thread that is told to rest makes no turn.
     pub fn pass<H: Wait>(&mut self, rt: &H, rest: bool) {
         match self.guard.take() {
-            Some(guard) => self.guard = Some(self.bed.changed.wait(rt, guard)),
+            Some(guard) => self.guard = Some(self.bed.sleep(rt, guard)),
             None => {
                 if rest || self.turn >= self.turns {
-                    self.guard = Some(self.bed.mutex.lock(rt));
+                    self.guard = Some(self.bed.sleepers.lock(rt));
                 } else {
                     self.take_turn();
                 }
