@@ -5,7 +5,7 @@
 ghost use Rattle.std.specs.Prelude.{◌≡◌, map, IfOk, vec_len};
 ghost use Rattle.spindle_parts.specs.Pieces.{counted};
 
-use crate::checks::is;
+use crate::checks::{holds, is};
 use spindle_parts::cut::{Piece, cut, deal, piece_lengths};
 use spindle_parts::fault::Fault;
 use std::alloc::{AllocError, Global};
@@ -26,7 +26,7 @@ fn singles(alloc: Global, count: u64) -> Result<Vec<Piece<u64>>, Fault>
 }
 
 /// Whether the hand holds the pieces of these numbers, each with its own item.
-fn holds(hand: &Vec<Piece<u64>>, want: &[u64]) -> bool {
+fn is_hand_of(hand: &Vec<Piece<u64>>, want: &[u64]) -> bool {
     hand.len() == want.len()
         && hand.iter().zip(want).all(|(piece, number)| piece.number as u64 == *number
             && piece.items.as_slice() == [*number].as_slice())
@@ -68,9 +68,11 @@ fn the_longer_pieces_come_first(rt: HostRuntime) -> Result<(), Fault> {
 }
 
 /// Fails where a piece has another number or other items than wanted.
-fn holds_run(rt: &impl Abort, piece: &Piece<u64>, number: usize, items: &[u64]) {
-    is(rt, piece.number, number);
-    is(rt, piece.items.as_slice(), items);
+fn hold_runs(rt: &impl Abort, pieces: &[Piece<u64>], want: &[(usize, &[u64])]) {
+    for (piece, (number, items)) in pieces.iter().zip(want) {
+        is(rt, piece.number, *number);
+        is(rt, piece.items.as_slice(), *items);
+    }
 }
 
 #[test]
@@ -79,19 +81,24 @@ fn pieces_hold_the_items_in_order(rt: HostRuntime) -> Result<(), Fault> {
     let mut items = numbers(rt.alloc(), 10)?;
     let pieces = cut(rt.alloc(), &mut items, 4)?;
     is(&rt, (items.len(), pieces.len()), (0, 4));
-    for (piece, (number, run)) in pieces.iter().zip(rows) {
-        holds_run(&rt, piece, number, run);
-    }
+    hold_runs(&rt, &pieces, &rows);
     Ok(())
 }
 
 #[test]
 fn more_jobs_than_items_make_no_empty_piece(rt: HostRuntime) -> Result<(), Fault> {
     let pieces = singles(rt.alloc(), 3)?;
-    assert!(rt; holds(&pieces, &[0, 1, 2]));
+    holds(&rt, is_hand_of(&pieces, &[0, 1, 2]));
     let mut none = Vec::<u64>::new(rt.alloc());
-    assert!(rt; cut(rt.alloc(), &mut none, 0)?.is_empty());
+    holds(&rt, cut(rt.alloc(), &mut none, 0)?.is_empty());
     Ok(())
+}
+
+/// Fails where a hand has other pieces than those of its numbers.
+fn are_hands_of(rt: &impl Abort, hands: &[Vec<Piece<u64>>], want: &[&[u64]]) {
+    for (hand, numbers) in hands.iter().zip(want) {
+        holds(rt, is_hand_of(hand, numbers));
+    }
 }
 
 /// Fails where so many pieces aren't dealt into hands of these numbers.
@@ -100,9 +107,7 @@ fn have_hands(rt: &impl Abort, alloc: Global, count: u64, want: &[&[u64]]) -> Re
     assert!(rt; want.len() > 0);
     let hands = deal(alloc, &mut pieces, want.len())?;
     is(rt, (pieces.len(), hands.len()), (0, want.len()));
-    for (hand, numbers) in hands.iter().zip(want) {
-        assert!(rt; holds(hand, numbers), "{count} pieces");
-    }
+    are_hands_of(rt, &hands, want);
     Ok(())
 }
 
@@ -127,37 +132,42 @@ fn are_two_halves(lengths: &[usize], first: usize, second: usize) -> bool {
         && lengths.iter().skip(500_000).all(|length| *length == second)
 }
 
+/// Whether each of these hands has a third of a million pieces, or one more.
+fn are_thirds(hands: &[Vec<Piece<u64>>]) -> bool {
+    hands
+        .iter()
+        .all(|hand| hand.len() == 333_333 || hand.len() == 333_334)
+}
+
 /// There are as many pieces as items, however many.
 #[test]
 fn a_million_items_make_a_million_pieces(rt: HostRuntime) -> Result<(), Fault> {
     let lengths = piece_lengths(rt.alloc(), 2_500_000, 1_000_000)?;
-    assert!(rt; are_two_halves(&lengths, 3, 2));
+    holds(&rt, are_two_halves(&lengths, 3, 2));
     let mut pieces = singles(rt.alloc(), 1_000_000)?;
     is(&rt, pieces.len(), 1_000_000);
     let hands = deal(rt.alloc(), &mut pieces, 3)?;
     is(&rt, (pieces.len(), hands.len()), (0, 3));
-    for hand in &hands {
-        assert!(rt; hand.len() == 333_333 || hand.len() == 333_334);
-    }
+    holds(&rt, are_thirds(&hands));
     Ok(())
 }
 
 #[test]
 fn refused_lists_too_long_for_memory(rt: HostRuntime) {
     let lengths = piece_lengths(rt.alloc(), usize::MAX, usize::MAX);
-    assert!(rt; is_refused(lengths));
+    holds(&rt, is_refused(lengths));
     let Ok(mut pieces) = singles(rt.alloc(), 3) else {
         return;
     };
     let hands = deal(rt.alloc(), &mut pieces, usize::MAX);
-    assert!(rt; is_refused(hands) && holds(&pieces, &[0, 1, 2]));
+    holds(&rt, is_refused(hands) && is_hand_of(&pieces, &[0, 1, 2]));
 }
 
 #[test]
 fn refused_lengths_are_answered(rt: HostRuntime) {
     match piece_lengths(rt.alloc(), 10, 4) {
         Ok(lengths) => is(&rt, lengths.as_slice(), [3, 3, 2, 2].as_slice()),
-        Err(fault) => assert!(rt; matches!(fault, Fault::Memory)),
+        Err(fault) => holds(&rt, matches!(fault, Fault::Memory)),
     }
 }
 
@@ -169,7 +179,7 @@ fn refused_cut_leaves_the_list(rt: HostRuntime) -> Result<(), Fault> {
     match cut(rt.alloc(), &mut items, 4) {
         Ok(pieces) => is(&rt, pieces.len(), 4),
         Err(fault) => {
-            assert!(rt; matches!(fault, Fault::Memory));
+            holds(&rt, matches!(fault, Fault::Memory));
             is(
                 &rt,
                 items.as_slice(),
@@ -189,8 +199,8 @@ fn refused_deal_leaves_the_pieces(rt: HostRuntime) -> Result<(), Fault> {
     match deal(rt.alloc(), &mut pieces, 3) {
         Ok(hands) => is(&rt, hands.len(), 3),
         Err(fault) => {
-            assert!(rt; matches!(fault, Fault::Memory));
-            assert!(rt; holds(&pieces, &[0, 1, 2, 3, 4]));
+            holds(&rt, matches!(fault, Fault::Memory));
+            holds(&rt, is_hand_of(&pieces, &[0, 1, 2, 3, 4]));
             is(&rt, deal(rt.alloc(), &mut pieces, 3)?.len(), 3);
         }
     }

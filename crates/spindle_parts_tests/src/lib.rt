@@ -6,6 +6,8 @@ mod aarc_imp;
 #[cfg(test)]
 mod checks;
 #[cfg(test)]
+mod counts;
+#[cfg(test)]
 mod cut;
 #[cfg(test)]
 mod fault;

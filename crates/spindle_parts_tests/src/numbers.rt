@@ -4,10 +4,11 @@ ghost use Rattle.std.specs.Thread.{IsSync};
 ghost use Rattle.spindle_parts.specs.ThreadNumbers.{IsSeatOf};
 ghost use Rattle.spindle_parts.specs.declared.numbers.plays.Holding.TheVariants.{Nothing};
 
-use crate::checks::is;
+use crate::checks::{holds, is};
+use crate::counts::zeros;
 use spindle_parts::fault::Fault;
 use spindle_parts::numbers::{Numbers, Seat, Take};
-use std::alloc::Global;
+use std::alloc::{AllocError, Global};
 use std::process::Abort;
 use std::sync::atomic::{AtomicU64, Ordering};
 use std::thread;
@@ -24,9 +25,15 @@ fn the_least_unused_number_is_taken(rt: HostRuntime) -> Result<(), Fault> {
     let mut second = numbers.new_seat(&mut leader);
     let mut third = numbers.new_seat(&mut leader);
     let taken = numbers.try_take(&mut first);
-    is(&rt, taken, Take::Taken(1));
-    is(&rt, numbers.try_take(&mut second), Take::Taken(2));
-    is(&rt, numbers.try_take(&mut third), Take::AllInUse);
+    is(
+        &rt,
+        (
+            taken,
+            numbers.try_take(&mut second),
+            numbers.try_take(&mut third),
+        ),
+        (Take::Taken(1), Take::Taken(2), Take::AllInUse),
+    );
     if let Take::Taken(number) = taken {
         numbers.give(&mut first, number);
         is(&rt, numbers.try_take(&mut first), Take::Taken(1));
@@ -58,6 +65,19 @@ impl<'a> Desk<'a> {
             holders,
             done: Done { taken: 0, twice: 0 },
         }
+    }
+
+    /// Workers, each with a seat of its own.
+    fn hire_all(
+        &mut self,
+        alloc: Global,
+        holders: &'a [AtomicU64],
+    ) -> Result<Vec<Worker<'a>>, AllocError> {
+        let mut workers = Vec::with_capacity(alloc, WORKERS)?;
+        for _ in 0..WORKERS {
+            workers.push(self.hire(holders))?;
+        }
+        Ok(workers)
     }
 
     /// Takes the numbers below `end`, in order, each by a new seat.
@@ -119,6 +139,18 @@ struct Done {
     twice: u64,
 }
 
+impl Done {
+    /// What these threads did in all.
+    fn of(threads: &[Done]) -> Done {
+        let mut all = Done { taken: 0, twice: 0 };
+        for done in threads {
+            all.taken = all.taken.wrapping_add(done.taken);
+            all.twice = all.twice.wrapping_add(done.twice);
+        }
+        all
+    }
+}
+
 impl<'a> Worker<'a> {
     fn turn(&mut self) {
         if let Take::Taken(number) = self.numbers.try_take(&mut self.seat) {
@@ -138,37 +170,34 @@ impl<'a> Worker<'a> {
     }
 }
 
+/// What the workers do in all, each in a thread of its own.
+fn work_at_once<R: Threads + Sync>(rt: &R, workers: Vec<Worker<'_>>) -> Result<Done, Fault>
+    requires { IsSync R.row }
+{
+    let done = thread::map_vec(rt, workers, &|worker: Worker<'_>| worker.work())?;
+    Ok(Done::of(done.as_slice()))
+}
+
 /// Eight threads at a table of so many threads' numbers. Answers how often they took a number in all, if none of them
 /// was ever had by two.
 fn taken_at_once<R: Threads + Sync>(rt: &R, alloc: Global, threads: usize) -> Result<Done, Fault>
     requires { (1 ≤ threads) × (threads ≤ 32767) × IsSync R.row }
 {
-    let mut holders = Vec::with_capacity(alloc, threads)?;
-    for _ in 0..threads {
-        holders.push(AtomicU64::new(0))?;
-    }
+    let holders = zeros(alloc, threads)?;
     let (numbers, leader) = Numbers::new(alloc, threads)?;
     let mut desk = Desk {
         numbers: &numbers,
         leader,
     };
-    let mut workers = Vec::with_capacity(alloc, WORKERS)?;
-    for _ in 0..WORKERS {
-        workers.push(desk.hire(holders.as_slice()))?;
-    }
-    let mut all = Done { taken: 0, twice: 0 };
-    for done in &thread::map_vec(rt, workers, &|worker: Worker<'_>| worker.work())? {
-        all.taken = all.taken.wrapping_add(done.taken);
-        all.twice = all.twice.wrapping_add(done.twice);
-    }
-    Ok(all)
+    let workers = desk.hire_all(alloc, holders.as_slice())?;
+    work_at_once(rt, workers)
 }
 
 #[test]
 fn no_number_is_held_twice(rt: HostRuntime) -> Result<(), Fault> {
     for threads in [2, 6, 9, 35] {
         let done = taken_at_once(&rt, rt.alloc(), threads)?;
-        assert!(rt; done.taken > 0 && done.twice == 0, "of {threads}");
+        is(&rt, (done.taken > 0, done.twice), (true, 0));
     }
     Ok(())
 }
@@ -205,7 +234,7 @@ fn refused_numbers_are_answered(rt: HostRuntime) {
                 };
                 is(&rt, numbers.try_take(&mut seat), want);
             }
-            Err(fault) => assert!(rt; matches!(fault, Fault::Memory)),
+            Err(fault) => holds(&rt, matches!(fault, Fault::Memory)),
         }
     }
 }

@@ -1,56 +1,86 @@
 //! The worked rows of the ledger, its flags, the ends of its words and of its slots, and no memory.
+ghost use Rattle.std.specs.Prelude.{◌≡◌, ◌≤◌, ◌<◌};
+ghost use Rattle.spindle_parts.specs.LedgerSeats.{slot_count, IsSeatOf};
 
 mod clerks;
 
-use crate::checks::is;
+use crate::checks::{holds, is};
 use clerks::Clerk;
 use spindle_parts::fault::Fault;
-use spindle_parts::requests::{Requests, TakePlace};
+use spindle_parts::requests::{Requests, Seat, TakePlace};
+use std::alloc::Global;
+use std::process::Abort;
 
 const SLOTS: usize = 3;
+
+/// Asks for three requests, which are places of slot 0 then.
+fn open_three(rt: &impl Abort, books: &Requests, seat: &mut Seat)
+    requires { IsSeatOf books.now seat.old × (0 < slot_count books.now) }
+    ensures { IsSeatOf books.now seat.new }
+{
+    books.ask(seat, 3);
+    is(rt, books.requests(seat), 3);
+    books.install(seat, 0, 3);
+    is(rt, books.requests(seat), 3);
+}
+
+/// Takes a place of slot 0, and its request back: two are left.
+fn take_one(rt: &impl Abort, books: &Requests, seat: &mut Seat)
+    requires { IsSeatOf books.now seat.old × (0 < slot_count books.now) }
+{
+    let answer = books.try_take_place(seat, 0);
+    is(rt, answer, TakePlace::Taken);
+    if answer == TakePlace::Taken {
+        books.subtract(seat, 1);
+    }
+    is(rt, books.requests(seat), 2);
+}
+
+/// Closes slot 0, which has all requests that are left, so many, and takes them back.
+fn close_last(rt: &impl Abort, books: &Requests, seat: &mut Seat, want: usize)
+    requires { IsSeatOf books.now seat.old × (0 < slot_count books.now) }
+{
+    let left = books.close(seat, 0);
+    is(rt, left, want);
+    is(rt, books.requests(seat), want as u64);
+    books.subtract(seat, left);
+    is(rt, books.requests(seat), 0);
+}
 
 #[test]
 fn one_of_three_places_is_taken(rt: HostRuntime) -> Result<(), Fault> {
     let (books, mut leader) = Requests::new(rt.alloc(), 1)?;
     let mut helper = books.new_seat(&mut leader);
-    books.ask(&mut leader, 3);
-    is(&rt, books.requests(&mut leader), 3);
-    books.install(&mut leader, 0, 3);
-    is(&rt, books.requests(&mut leader), 3);
-    let answer = books.try_take_place(&mut helper, 0);
-    is(&rt, answer, TakePlace::Taken);
-    if answer == TakePlace::Taken {
-        books.subtract(&mut helper, 1);
-    }
-    is(&rt, books.requests(&mut helper), 2);
-    let left = books.close(&mut leader, 0);
-    is(&rt, left, 2);
-    is(&rt, books.requests(&mut leader), 2);
-    books.subtract(&mut leader, left);
-    is(&rt, books.requests(&mut leader), 0);
+    open_three(&rt, &books, &mut leader);
+    take_one(&rt, &books, &mut helper);
+    close_last(&rt, &books, &mut leader, 2);
     Ok(())
+}
+
+/// Takes the only place of slot 1, and its request back.
+fn take_the_only_one(rt: &impl Abort, books: &Requests, seat: &mut Seat)
+    requires { IsSeatOf books.now seat.old × (1 < slot_count books.now) }
+    ensures { IsSeatOf books.now seat.new }
+{
+    let answer = books.try_take_place(seat, 1);
+    is(rt, answer, TakePlace::Taken);
+    is(rt, books.try_take_place(seat, 1), TakePlace::None);
+    if answer == TakePlace::Taken {
+        books.subtract(seat, 1);
+    }
 }
 
 #[test]
 fn one_seat_serves_two_slots(rt: HostRuntime) -> Result<(), Fault> {
     let (books, mut seat) = Requests::new(rt.alloc(), 2)?;
-    books.ask(&mut seat, 3);
-    books.install(&mut seat, 0, 3);
+    open_three(&rt, &books, &mut seat);
     books.ask(&mut seat, 1);
     books.install(&mut seat, 1, 1);
     is(&rt, books.requests(&mut seat), 4);
-    let answer = books.try_take_place(&mut seat, 1);
-    is(&rt, answer, TakePlace::Taken);
-    is(&rt, books.try_take_place(&mut seat, 1), TakePlace::None);
-    if answer == TakePlace::Taken {
-        books.subtract(&mut seat, 1);
-    }
+    take_the_only_one(&rt, &books, &mut seat);
     is(&rt, books.requests(&mut seat), 3);
     is(&rt, books.close(&mut seat, 1), 0);
-    let left = books.close(&mut seat, 0);
-    is(&rt, left, 3);
-    books.subtract(&mut seat, left);
-    is(&rt, books.requests(&mut seat), 0);
+    close_last(&rt, &books, &mut seat, 3);
     Ok(())
 }
 
@@ -88,10 +118,22 @@ fn counts_wrap_at_the_end_of_a_word(rt: HostRuntime) -> Result<(), Fault> {
     books.install(&mut seat, 0, 1);
     is(&rt, books.try_take_place(&mut seat, 0), TakePlace::None);
     books.install(&mut seat, 0, 2);
-    let left = books.close(&mut seat, 0);
-    is(&rt, left, 2);
-    books.subtract(&mut seat, left);
-    is(&rt, books.requests(&mut seat), 0);
+    close_last(&rt, &books, &mut seat, 2);
+    Ok(())
+}
+
+/// Fails where a ledger of so many slots takes the last slot's places at another one, or not at all.
+fn has_slots(rt: &impl Abort, alloc: Global, slots: usize) -> Result<(), Fault>
+    requires { 2 ≤ slots }
+{
+    let (books, mut seat) = Requests::new(alloc, slots)?;
+    books.ask(&mut seat, 2);
+    books.install(&mut seat, slots - 1, 2);
+    let before = books.try_take_place(&mut seat, slots - 2);
+    let last = books.try_take_place(&mut seat, slots - 1);
+    is(rt, (before, last), (TakePlace::None, TakePlace::Taken));
+    is(rt, books.close(&mut seat, slots - 1), 1);
+    is(rt, books.requests(&mut seat), 2);
     Ok(())
 }
 
@@ -99,21 +141,7 @@ fn counts_wrap_at_the_end_of_a_word(rt: HostRuntime) -> Result<(), Fault> {
 #[test]
 fn a_ledger_has_as_many_slots_as_asked_for(rt: HostRuntime) -> Result<(), Fault> {
     for slots in [2, 63, 64, 65, 1000, 32767] {
-        let (books, mut seat) = Requests::new(rt.alloc(), slots)?;
-        books.ask(&mut seat, 2);
-        books.install(&mut seat, slots - 1, 2);
-        is(
-            &rt,
-            books.try_take_place(&mut seat, slots - 2),
-            TakePlace::None,
-        );
-        is(
-            &rt,
-            books.try_take_place(&mut seat, slots - 1),
-            TakePlace::Taken,
-        );
-        is(&rt, books.close(&mut seat, slots - 1), 1);
-        is(&rt, books.requests(&mut seat), 2);
+        has_slots(&rt, rt.alloc(), slots)?;
     }
     Ok(())
 }
@@ -126,7 +154,7 @@ fn refused_ledgers_are_answered(rt: HostRuntime) {
                 books.ask(&mut seat, 1);
                 is(&rt, books.requests(&mut seat), 1);
             }
-            Err(fault) => assert!(rt; matches!(fault, Fault::Memory)),
+            Err(fault) => holds(&rt, matches!(fault, Fault::Memory)),
         }
     }
 }

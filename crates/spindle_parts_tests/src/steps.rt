@@ -4,6 +4,7 @@ mod memory;
 mod refusals;
 mod rounds;
 
+use crate::checks::is;
 use spindle_parts::fault::Fault;
 use spindle_parts::steps::{Machine, Reply, Step, Why};
 use std::alloc::Global;
@@ -25,36 +26,51 @@ fn play_afresh(rt: &impl Abort, alloc: Global, script: Script) -> Result<(), Fau
     Ok(())
 }
 
+/// Makes the step, which must have this answer.
+fn answers(rt: &impl Abort, machine: &mut Machine, step: Step, reply: Reply) {
+    is(rt, (step, machine.step(step)), (step, reply));
+}
+
 /// Plays the script, and compares each answer.
 fn play(rt: &impl Abort, machine: &mut Machine, script: Script) {
     for (step, reply) in script {
-        assert_eq!(rt; machine.step(*step), *reply, "at {step:?}");
+        answers(rt, machine, *step, *reply);
     }
+}
+
+/// Makes the step, which must be accepted.
+fn accept_one(rt: &impl Abort, machine: &mut Machine, step: Step) {
+    let reply = machine.step(step);
+    assert!(rt;
+        !matches!(reply, Reply::Refused(_)),
+        "{step:?} answers {reply:?}"
+    );
 }
 
 /// Plays the steps, each of which must be accepted.
 fn accept(rt: &impl Abort, machine: &mut Machine, steps: &[Step]) {
     for step in steps {
-        let reply = machine.step(*step);
-        assert!(rt;
-            !matches!(reply, Reply::Refused(_)),
-            "{step:?} answers {reply:?}"
-        );
+        accept_one(rt, machine, *step);
     }
 }
 
 /// Makes the step, which must be refused for that reason.
 fn refuse(rt: &impl Abort, machine: &mut Machine, step: Step, why: Why) {
-    assert_eq!(rt; machine.step(step), Reply::Refused(why), "at {step:?}");
+    answers(rt, machine, step, Reply::Refused(why));
+}
+
+/// Makes the step, which must be accepted, or refused for that reason.
+fn follow_one(rt: &impl Abort, machine: &mut Machine, step: Step, why: Option<Why>) {
+    match why {
+        Some(why) => refuse(rt, machine, step, why),
+        None => accept_one(rt, machine, step),
+    }
 }
 
 /// Makes the steps: each is accepted, or refused for the reason beside it.
 fn follow(rt: &impl Abort, machine: &mut Machine, rows: Rows) {
     for (step, why) in rows {
-        match why {
-            Some(why) => refuse(rt, machine, *step, *why),
-            None => accept(rt, machine, &[*step]),
-        }
+        follow_one(rt, machine, *step, *why);
     }
 }
 

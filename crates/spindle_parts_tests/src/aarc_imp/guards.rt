@@ -1,21 +1,35 @@
 //! Guards: how many are out at once, and that a clear waits for each.
 ghost use Rattle.std.specs.Prelude.{◌≡◌};
 
-use super::{Child, LOOKS, cleared, wait_for};
-use spindle_parts::aarc_imp::AtomicArc;
+use super::{Child, LOOKS, cleared, drops_of, state, takes, takes_none, wait_for};
+use crate::checks::{holds, is};
+use spindle_parts::aarc_imp::{AtomicArc, Guard};
 use std::alloc::{AllocError, Global};
+use std::process::Abort;
 use std::sync::Wait;
 use std::sync::atomic::{AtomicU64, Ordering};
 use std::test::Fail;
 use std::thread;
-use std::thread::join;
+use std::thread::{Threads, join};
 
-/// Whether the slot refuses another child.
-fn takes_none<'a>(slot: &AtomicArc<Child<'a>>, drops: &'a [AtomicU64]) -> bool
-    requires { slot.now ≡ 1 }
-{
-    slot.compare_exchange_null(Child::new(1, drops))
-        .is_err_and(|back| back.number == 1)
+/// The guards that so many loads give.
+fn guards_of<'s, 'a>(
+    alloc: Global,
+    slot: &'s AtomicArc<Child<'a>>,
+    count: usize,
+) -> Result<Vec<Guard<'s, Child<'a>>>, AllocError> {
+    let mut guards = Vec::with_capacity(alloc, count)?;
+    for _ in 0..count {
+        if let Some(guard) = slot.load() {
+            guards.push(guard)?;
+        }
+    }
+    Ok(guards)
+}
+
+/// Whether each of the guards shows a child that stands.
+fn all_stand(guards: &[Guard<'_, Child<'_>>]) -> bool {
+    guards.iter().all(|guard| !guard.get().was_dropped())
 }
 
 /// So many guards at once. Answers whether each load gave one and each showed the child, and the slot took no other
@@ -28,30 +42,58 @@ fn guards_at_once<'a>(
 ) -> Result<bool, AllocError>
     requires { slot.now ≡ 1 }
 {
-    let mut guards = Vec::with_capacity(alloc, count)?;
-    for _ in 0..count {
-        if let Some(guard) = slot.load() {
-            guards.push(guard)?;
-        }
+    let guards = guards_of(alloc, slot, count)?;
+    let taken = state(slot) == (false, false) && takes_none(slot, drops);
+    Ok(guards.len() == count && all_stand(&guards) && taken)
+}
+
+/// Fails where one of these counts of guards is not had at once.
+fn have_guards<'a>(
+    rt: &impl Abort,
+    alloc: Global,
+    slot: &AtomicArc<Child<'a>>,
+    drops: &'a [AtomicU64],
+    counts: &[usize],
+) -> Result<(), AllocError>
+    requires { slot.now ≡ 1 }
+{
+    for count in counts {
+        holds(rt, guards_at_once(alloc, slot, drops, *count)?);
     }
-    let stood = guards.iter().all(|guard| !guard.get().was_dropped());
-    let taken = !slot.is_null() && !slot.is_free() && takes_none(slot, drops);
-    Ok(guards.len() == count && stood && taken)
+    Ok(())
 }
 
 #[test]
 fn a_hundred_guards_show_one_child(rt: HostRuntime) -> Result<(), Fail> {
     let drops = [AtomicU64::new(0), AtomicU64::new(0)];
     let slot = AtomicArc::null(&1);
-    assert!(rt; slot.compare_exchange_null(Child::new(0, &drops)).is_ok());
-    for count in [1, 2, 3, 100, 100] {
-        assert!(rt;
-            guards_at_once(rt.alloc(), &slot, &drops, count)?,
-            "{count} guards"
-        );
-    }
-    assert!(rt; cleared(&rt, &slot) == Some(0));
+    holds(&rt, takes(&slot, &drops));
+    have_guards(&rt, rt.alloc(), &slot, &drops, &[1, 2, 3, 100, 100])?;
+    is(&rt, cleared(&rt, &slot), Some(0));
     Ok(())
+}
+
+/// Waits until the slot is being cleared, or gives up. Answers whether it lets no guard and no other child in then.
+fn is_closed<'a>(slot: &AtomicArc<Child<'a>>, drops: &'a [AtomicU64]) -> bool
+    requires { slot.now ≡ 1 }
+{
+    for _ in 0..LOOKS {
+        if slot.is_null() {
+            break;
+        }
+        thread::yield_now();
+    }
+    slot.is_null() && !slot.is_free() && slot.load().is_none() && takes_none(slot, drops)
+}
+
+/// Whether the child of a guard that stays for a while has stood in its slot until then. The guard leaves.
+fn stood<'a>(slot: &AtomicArc<Child<'a>>, guard: Guard<'_, Child<'a>>) -> bool {
+    for _ in 0..100 {
+        thread::yield_now();
+    }
+    let stood = !slot.is_free() && !guard.get().was_dropped();
+    guard.leave();
+    stood
 }
 
 /// Holds so many guards until the slot is being cleared, and then one of them for a while. Answers whether the child
@@ -65,34 +107,14 @@ fn hold<'a>(
 ) -> Result<bool, AllocError>
     requires { slot.now ≡ 1 }
 {
-    let mut guards = Vec::with_capacity(alloc, count)?;
-    for _ in 0..count {
-        if let Some(guard) = slot.load() {
-            guards.push(guard)?;
-        }
-    }
+    let mut guards = guards_of(alloc, slot, count)?;
     held.store(1, Ordering::SeqCst);
-    for _ in 0..LOOKS {
-        if slot.is_null() {
-            break;
-        }
-        thread::yield_now();
-    }
-    let all = guards.len() == count;
-    let closed = slot.is_null()
-        && !slot.is_free()
-        && slot.load().is_none()
-        && takes_none(slot, drops);
+    let held = guards.len() == count && is_closed(slot, drops);
     let Some(last) = guards.pop() else {
         return Ok(false);
     };
     drop(guards);
-    for _ in 0..100 {
-        thread::yield_now();
-    }
-    let stood = !slot.is_free() && !last.get().was_dropped();
-    last.leave();
-    Ok(all && closed && stood)
+    Ok(stood(slot, last) && held)
 }
 
 /// Clears the slot once guards are out.
@@ -101,19 +123,44 @@ fn clear_held<R: Wait>(rt: &R, slot: &AtomicArc<Child<'_>>, held: &AtomicU64) ->
     cleared(rt, slot)
 }
 
+/// Clears the slot while so many guards are held. Answers whether its child stood meanwhile, and what came out.
+fn clear_beside<'a, R: Threads + Wait + Sync>(
+    rt: &R,
+    alloc: Global,
+    slot: &AtomicArc<Child<'a>>,
+    drops: &'a [AtomicU64],
+    guards: usize,
+) -> Result<(bool, Option<usize>), AllocError>
+    requires { slot.now ≡ 1 }
+{
+    let held = AtomicU64::new(0);
+    let (stood, out) = join(
+        rt,
+        || hold(alloc, slot, drops, &held, guards),
+        || clear_held(rt, slot, &held),
+    );
+    Ok((stood?, out))
+}
+
+/// Fails where a clear doesn't wait for so many guards.
+fn waits_for<R: Threads + Wait + Abort + Sync>(
+    rt: &R,
+    alloc: Global,
+    guards: usize,
+) -> Result<(), AllocError> {
+    let drops = [AtomicU64::new(0), AtomicU64::new(0)];
+    let slot = AtomicArc::null(&1);
+    holds(rt, takes(&slot, &drops));
+    let answer = clear_beside(rt, alloc, &slot, &drops, guards)?;
+    is(rt, answer, (true, Some(0)));
+    is(rt, (slot.is_free(), drops_of(&drops).0), (true, 1));
+    Ok(())
+}
+
 #[test]
 fn a_clear_waits_for_each_guard(rt: HostRuntime) -> Result<(), Fail> {
     for guards in [1, 2, 100] {
-        let drops = [AtomicU64::new(0), AtomicU64::new(0)];
-        let (slot, held) = (AtomicArc::null(&1), AtomicU64::new(0));
-        assert!(rt; slot.compare_exchange_null(Child::new(0, &drops)).is_ok());
-        let (stood, out) = join(
-            &rt,
-            || hold(rt.alloc(), &slot, &drops, &held, guards),
-            || clear_held(&rt, &slot, &held),
-        );
-        assert!(rt; stood? && out == Some(0), "{guards} guards");
-        assert!(rt; slot.is_free() && drops[0].load(Ordering::SeqCst) == 1);
+        waits_for(&rt, rt.alloc(), guards)?;
     }
     Ok(())
 }

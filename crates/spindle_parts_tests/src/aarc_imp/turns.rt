@@ -3,6 +3,7 @@ ghost use Rattle.std.specs.Prelude.{◌≡◌, ◌<◌};
 
 use super::{Child, LOOKS, wait_for};
 use crate::checks::is;
+use crate::counts::zeros;
 use spindle_parts::aarc_imp::AtomicArc;
 use std::alloc::{AllocError, Global};
 use std::sync::Wait;
@@ -37,20 +38,22 @@ impl Tally {
         }
     }
 
-    fn add(&mut self, other: &Tally) {
-        self.put_in = self.put_in.wrapping_add(other.put_in);
-        self.handed_out = self.handed_out.wrapping_add(other.handed_out);
-        self.faults = self.faults.wrapping_add(other.faults);
+    /// What all these threads did and saw.
+    fn of(tallies: &[Tally]) -> Tally {
+        let mut all = Tally::new();
+        for tally in tallies {
+            all.put_in = all.put_in.wrapping_add(tally.put_in);
+            all.handed_out = all.handed_out.wrapping_add(tally.handed_out);
+            all.faults = all.faults.wrapping_add(tally.faults);
+        }
+        all
     }
 }
 
-/// Zeros, a count for each number.
-fn no_drops(alloc: Global, count: usize) -> Result<Vec<AtomicU64>, AllocError> {
-    let mut drops = Vec::with_capacity(alloc, count)?;
-    for _ in 0..count {
-        drops.push(AtomicU64::new(0))?;
-    }
-    Ok(drops)
+/// Whether each number below `end` was dropped once.
+fn once_each(drops: &[AtomicU64], end: usize) -> bool {
+    let mut used = drops.iter().take(end);
+    used.all(|count| count.load(Ordering::SeqCst) == 1)
 }
 
 /// The slot with what its readers and owners share beside it.
@@ -66,6 +69,22 @@ struct Desk<'s, 'a> {
 }
 
 impl<'s, 'a> Desk<'s, 'a> {
+    fn new(
+        slot: &'s AtomicArc<Child<'a>>,
+        drops: &'a [AtomicU64],
+        owners: usize,
+        done: &'s AtomicU64,
+    ) -> Desk<'s, 'a>
+        requires { (slot.now ≡ 1000000) × (owners < 10) }
+    {
+        Desk {
+            slot,
+            drops,
+            owners,
+            done,
+        }
+    }
+
     /// Looks at the slot until all owners are done.
     fn look(&self) -> Tally {
         let mut tally = Tally::new();
@@ -103,6 +122,23 @@ impl<'s, 'a> Desk<'s, 'a> {
         self.done.fetch_add(1, Ordering::SeqCst);
         tally
     }
+
+    /// All owners, and readers beside them, each in a thread of its own.
+    fn share<R: Threads + Wait + Sync>(&self, rt: &R, alloc: Global) -> Result<Tally, AllocError> {
+        let tallies = thread::map_indices(
+            rt,
+            alloc,
+            self.owners + READERS,
+            &|thread: usize| -> Tally {
+                if thread < self.owners {
+                    self.own(rt, thread)
+                } else {
+                    self.look()
+                }
+            },
+        )?;
+        Ok(Tally::of(tallies.as_slice()))
+    }
 }
 
 /// Owners and two readers at one slot. Each child is dropped once.
@@ -113,35 +149,14 @@ fn share_a_slot<R: Threads + Wait + Sync>(
 ) -> Result<(Tally, bool), AllocError>
     requires { owners < 10 }
 {
-    let drops = no_drops(alloc, OWNERS * TURNS)?;
-    let (slot, done) = (AtomicArc::null(&1000000), AtomicU64::new(0));
-    let desk = Desk {
-        slot: &slot,
-        drops: drops.as_slice(),
-        owners,
-        done: &done,
-    };
-    let tallies = thread::map_indices(
-        rt,
-        alloc,
-        owners + READERS,
-        &|thread: usize| -> Tally {
-            if thread < desk.owners {
-                desk.own(rt, thread)
-            } else {
-                desk.look()
-            }
-        },
-    )?;
-    let mut all = Tally::new();
-    for tally in &tallies {
-        all.add(tally);
-    }
+    let drops = zeros(alloc, OWNERS * TURNS)?;
+    let slot = AtomicArc::null(&1000000);
+    let done = AtomicU64::new(0);
+    let desk = Desk::new(&slot, drops.as_slice(), owners, &done);
+    let all = desk.share(rt, alloc)?;
     let free = slot.is_free();
     drop(slot);
-    let mut used = drops.iter().take(owners * TURNS);
-    let once = used.all(|count| count.load(Ordering::SeqCst) == 1);
-    Ok((all, free && once))
+    Ok((all, free && once_each(&drops, owners * TURNS)))
 }
 
 #[test]
@@ -152,7 +167,7 @@ fn one_owner_is_handed_each_child_that_it_puts_in(rt: HostRuntime) -> Result<(),
         (all.put_in, all.handed_out),
         (TURNS as u64, TURNS as u64),
     );
-    assert!(rt; once && all.faults == 0);
+    is(&rt, (once, all.faults), (true, 0));
     Ok(())
 }
 
@@ -160,7 +175,7 @@ fn one_owner_is_handed_each_child_that_it_puts_in(rt: HostRuntime) -> Result<(),
 fn owners_are_handed_as_many_children_as_they_put_in(rt: HostRuntime) -> Result<(), Fail> {
     let (all, once) = share_a_slot(&rt, rt.alloc(), OWNERS)?;
     is(&rt, all.handed_out, all.put_in);
-    assert!(rt; all.put_in > 0 && once && all.faults == 0);
+    is(&rt, (all.put_in > 0, once, all.faults), (true, true, 0));
     Ok(())
 }
 
@@ -176,6 +191,22 @@ struct Rounds<'s, 'a> {
 }
 
 impl<'s, 'a> Rounds<'s, 'a> {
+    fn new(
+        slot: &'s AtomicArc<Child<'a>>,
+        drops: &'a [AtomicU64],
+        begun: &'s AtomicU64,
+        answered: &'s AtomicU64,
+    ) -> Rounds<'s, 'a>
+        requires { slot.now ≡ 1000000 }
+    {
+        Rounds {
+            slot,
+            drops,
+            begun,
+            answered,
+        }
+    }
+
     fn put_in(&self) -> Tally {
         let mut tally = Tally::new();
         for round in 0..TURNS {
@@ -204,40 +235,40 @@ impl<'s, 'a> Rounds<'s, 'a> {
         }
         tally
     }
+
+    /// All rounds, in three threads.
+    fn play<R: Threads + Wait + Sync>(&self, rt: &R, alloc: Global) -> Result<Tally, AllocError> {
+        let tallies = thread::map_indices(
+            rt,
+            alloc,
+            3,
+            &|thread: usize| -> Tally {
+                if thread == 0 {
+                    self.put_in()
+                } else {
+                    self.clear(rt)
+                }
+            },
+        )?;
+        Ok(Tally::of(tallies.as_slice()))
+    }
 }
 
 #[test]
 fn two_clears_answer_once_the_slot_is_empty(rt: HostRuntime) -> Result<(), Fail> {
-    let drops = no_drops(rt.alloc(), TURNS)?;
+    let drops = zeros(rt.alloc(), TURNS)?;
     let (slot, begun, answered) = (
         AtomicArc::null(&1000000),
         AtomicU64::new(0),
         AtomicU64::new(0),
     );
-    let rounds = Rounds {
-        slot: &slot,
-        drops: drops.as_slice(),
-        begun: &begun,
-        answered: &answered,
-    };
-    let tallies = thread::map_indices(
+    let rounds = Rounds::new(&slot, drops.as_slice(), &begun, &answered);
+    let all = rounds.play(&rt, rt.alloc())?;
+    let turns = TURNS as u64;
+    is(
         &rt,
-        rt.alloc(),
-        3,
-        &|thread: usize| -> Tally {
-            if thread == 0 {
-                rounds.put_in()
-            } else {
-                rounds.clear(&rt)
-            }
-        },
-    )?;
-    let mut all = Tally::new();
-    for tally in &tallies {
-        all.add(tally);
-    }
-    assert_eq!(rt; all.put_in, TURNS as u64);
-    assert_eq!(rt; all.handed_out, TURNS as u64);
-    assert_eq!(rt; all.faults, 0);
+        (all.put_in, all.handed_out, all.faults),
+        (turns, turns, 0),
+    );
     Ok(())
 }

@@ -140,6 +140,15 @@ impl<'a> Clerk<'a> {
         self.done.closed = self.done.closed.wrapping_add(found);
     }
 
+    /// Closes each slot: all requests that stand are the clerk's own to answer for then.
+    fn close_all(&mut self, rt: &impl Abort) {
+        let standing = self.requests();
+        for slot in 0..SLOTS {
+            self.close(slot);
+        }
+        is(rt, standing, self.credit);
+    }
+
     fn subtract(&mut self, n: usize)
         requires { n ≤ self.old.credit }
     {
@@ -178,9 +187,21 @@ impl<'a> Clerk<'a> {
     }
 }
 
+/// What the clerk did who leaves after all others: no request stands then.
+fn leave_last(rt: &impl Abort, mut leader: Clerk<'_>) -> Tally {
+    let mut last = leader.hire(0);
+    let all = leader.leave();
+    is(rt, last.requests(), 0);
+    all
+}
+
 /// Fails where requests were lost or made, or nobody took or closed a place.
-fn balance(rt: &impl Abort, all: &Tally) {
-    assert!(rt; all.taken > 0 && all.closed > 0);
+fn balance(rt: &impl Abort, first: Tally, others: &[Tally]) {
+    let mut all = first;
+    for tally in others {
+        all.add(tally);
+    }
+    is(rt, (all.taken > 0, all.closed > 0), (true, true));
     is(rt, all.asked, all.subtracted);
     is(rt, all.installed, all.taken.wrapping_add(all.closed));
 }
@@ -200,17 +221,8 @@ fn the_books_balance_after_eight_threads(rt: HostRuntime) -> Result<(), Fail> {
     let mut leader = Clerk::new(&books, seat, 0);
     let clerks = hired(rt.alloc(), &mut leader)?;
     let tallies = thread::map_vec(&rt, clerks, &|clerk: Clerk| clerk.work())?;
-    let standing = leader.requests();
-    for slot in 0..SLOTS {
-        leader.close(slot);
-    }
-    is(&rt, standing, leader.credit);
-    let mut last = leader.hire(0);
-    let mut all = leader.leave();
-    is(&rt, last.requests(), 0);
-    for tally in &tallies {
-        all.add(tally);
-    }
-    balance(&rt, &all);
+    leader.close_all(&rt);
+    let all = leave_last(&rt, leader);
+    balance(&rt, all, tallies.as_slice());
     Ok(())
 }

@@ -1,7 +1,7 @@
 //! Joins whose growth is refused, and that no other join is refused for memory.
 
 use crate::checks::is;
-use crate::steps::{accept, fresh, word};
+use crate::steps::{accept, accept_one, answers, fresh, word};
 use spindle_parts::fault::Fault;
 use spindle_parts::steps::Step::{Arrive, Exit, Join, Leave, PublishTry, Rest, See, Stop};
 use spindle_parts::steps::{Machine, Reply, Why};
@@ -13,6 +13,18 @@ fn join_at_last(rt: &impl Abort, machine: &mut Machine, party: u32) -> Reply {
         Reply::Refused(Why::Memory) => machine.step(Join(party)),
         reply => reply,
     }
+}
+
+/// Has the party arrive and leave, and then join once more and exit.
+fn come_again(rt: &impl Abort, machine: &mut Machine, party: u32) {
+    let steps = [
+        See(party),
+        Arrive(party),
+        Leave(party),
+        Join(party),
+        Exit(party),
+    ];
+    accept(rt, machine, &steps);
 }
 
 /// Holds with ample memory, and with each allocation refused in turn.
@@ -29,17 +41,7 @@ fn refused_growth_changes_nothing(rt: HostRuntime) -> Result<(), Fault> {
     }
     accept(&rt, &mut machine, &[PublishTry(0, 9), Rest(0), Stop(0)]);
     for party in 1..200u32 {
-        accept(
-            &rt,
-            &mut machine,
-            &[
-                See(party),
-                Arrive(party),
-                Leave(party),
-                Join(party),
-                Exit(party),
-            ],
-        );
+        come_again(&rt, &mut machine, party);
     }
     Ok(())
 }
@@ -50,12 +52,12 @@ fn every_number_may_be_a_party(rt: HostRuntime) -> Result<(), Fault> {
     let mut machine = fresh(rt.alloc())?;
     accept(&rt, &mut machine, &[Join(0), Join(40000)]);
     for bit in 0..32u32 {
-        accept(&rt, &mut machine, &[Join(u32::MAX >> bit)]);
+        accept_one(&rt, &mut machine, Join(u32::MAX >> bit));
     }
     for bit in 1..32u32 {
-        accept(&rt, &mut machine, &[Join(1 << bit)]);
+        accept_one(&rt, &mut machine, Join(1 << bit));
     }
-    is(&rt, machine.step(Join(3_000_000_000)), word(0x0042_0042));
+    answers(&rt, &mut machine, Join(3_000_000_000), word(0x0042_0042));
     Ok(())
 }
 
@@ -63,11 +65,11 @@ fn every_number_may_be_a_party(rt: HostRuntime) -> Result<(), Fault> {
 #[test]
 fn as_many_parties_as_come(rt: HostRuntime) -> Result<(), Fault> {
     let mut machine = fresh(rt.alloc())?;
-    accept(&rt, &mut machine, &[Join(0)]);
+    accept_one(&rt, &mut machine, Join(0));
     for count in 1..100_000u32 {
         let party = count.wrapping_mul(0x9E37_79B1);
         accept(&rt, &mut machine, &[Join(party), Exit(party)]);
     }
-    is(&rt, machine.step(Join(1)), word(0x0002_0002));
+    answers(&rt, &mut machine, Join(1), word(0x0002_0002));
     Ok(())
 }

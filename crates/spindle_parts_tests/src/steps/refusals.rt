@@ -1,12 +1,14 @@
 //! Each refusal at least once, where several tests are true by the first of the step table.
 
-use crate::checks::is;
-use crate::steps::{Rows, accept, follow, follow_afresh, fresh, refuse, word};
+use crate::steps::{
+    Rows, accept, accept_one, answers, follow, follow_afresh, follow_one, fresh, refuse, word,
+};
 use spindle_parts::fault::Fault;
 use spindle_parts::steps::Step::{
     Arrive, Claim, Clear, End, Exit, Finish, Join, Leave, Publish, PublishTry, Rest, See, Stop,
 };
-use spindle_parts::steps::{Step, Why};
+use spindle_parts::steps::{Machine, Step, Why};
+use std::process::Abort;
 
 const FULL: Rows = &[
     (Join(7), Some(Why::Member)),
@@ -20,53 +22,68 @@ const ONE_GOES: Rows = &[
     (Exit(9), None),
 ];
 
+/// Has as many parties join as there is room for.
+fn join_all(rt: &impl Abort, machine: &mut Machine) {
+    for party in 0..32767u32 {
+        let members = party + 1;
+        let after = members.wrapping_mul(0x0001_0001);
+        answers(rt, machine, Join(party), word(after));
+    }
+}
+
+/// Has them arrive, but for those that are gone.
+fn arrive_all(rt: &impl Abort, machine: &mut Machine, gone: &[u32]) {
+    for party in 0..32767u32 {
+        if !gone.contains(&party) {
+            accept_one(rt, machine, Arrive(party));
+        }
+    }
+}
+
 #[test]
 fn a_join_is_refused(rt: HostRuntime) -> Result<(), Fault> {
     let mut machine = fresh(rt.alloc())?;
-    for party in 0..32767 {
-        let members = party + 1;
-        is(
-            &rt,
-            machine.step(Join(party)),
-            word(members.wrapping_mul(0x0001_0001)),
-        );
-    }
+    join_all(&rt, &mut machine);
     follow(&rt, &mut machine, FULL);
-    for party in 0..32767 {
-        accept(&rt, &mut machine, &[Arrive(party)]);
-    }
+    arrive_all(&rt, &mut machine, &[]);
     follow(&rt, &mut machine, FULL);
     follow(&rt, &mut machine, ONE_GOES);
-    for party in 0..32767 {
-        if party != 7 && party != 9 {
-            accept(&rt, &mut machine, &[Arrive(party)]);
-        }
-    }
-    accept(&rt, &mut machine, &[Arrive(u32::MAX)]);
+    arrive_all(&rt, &mut machine, &[7, 9]);
+    accept_one(&rt, &mut machine, Arrive(u32::MAX));
     refuse(&rt, &mut machine, Join(7), Why::Closing);
     Ok(())
 }
 
-fn publish(stoppable: bool, party: u32, count: u32) -> Step {
-    if stoppable {
-        PublishTry(party, count)
-    } else {
-        Publish(party, count)
+const PUBLISHES: Rows = &[
+    (Publish(1, 0), Some(Why::NotLeader)),
+    (Publish(0, 0), Some(Why::NotIn)),
+    (Join(0), None),
+    (Join(1), None),
+    (Publish(0, 0), Some(Why::Count)),
+    (Publish(0, 1), Some(Why::Count)),
+    (Publish(0, u32::MAX), None),
+    (Publish(0, 1), Some(Why::Published)),
+    (Publish(1, 1), Some(Why::NotLeader)),
+];
+
+#[test]
+fn a_publish_is_refused(rt: HostRuntime) -> Result<(), Fault> {
+    follow_afresh(&rt, rt.alloc(), PUBLISHES)
+}
+
+/// The step, where a publish is of jobs that may be stopped.
+fn stoppable(step: Step) -> Step {
+    match step {
+        Publish(party, count) => PublishTry(party, count),
+        other => other,
     }
 }
 
 #[test]
-fn a_publish_is_refused(rt: HostRuntime) -> Result<(), Fault> {
-    for stoppable in [false, true] {
-        let mut machine = fresh(rt.alloc())?;
-        refuse(&rt, &mut machine, publish(stoppable, 1, 0), Why::NotLeader);
-        refuse(&rt, &mut machine, publish(stoppable, 0, 0), Why::NotIn);
-        accept(&rt, &mut machine, &[Join(0), Join(1)]);
-        refuse(&rt, &mut machine, publish(stoppable, 0, 0), Why::Count);
-        refuse(&rt, &mut machine, publish(stoppable, 0, 1), Why::Count);
-        accept(&rt, &mut machine, &[publish(stoppable, 0, u32::MAX)]);
-        refuse(&rt, &mut machine, publish(stoppable, 0, 1), Why::Published);
-        refuse(&rt, &mut machine, publish(stoppable, 1, 1), Why::NotLeader);
+fn a_stoppable_publish_is_refused_alike(rt: HostRuntime) -> Result<(), Fault> {
+    let mut machine = fresh(rt.alloc())?;
+    for (step, why) in PUBLISHES {
+        follow_one(&rt, &mut machine, stoppable(*step), *why);
     }
     Ok(())
 }

@@ -1,13 +1,14 @@
 //! Worked rounds, step by step with each answer.
 
-use crate::checks::is;
-use crate::steps::{Rows, Script, accept, follow, fresh, play_afresh, refuse, word};
+use crate::steps::{
+    Rows, Script, accept, accept_one, answers, follow, fresh, play_afresh, refuse, word,
+};
 use spindle_parts::fault::Fault;
 use spindle_parts::steps::Reply::{Job, Refused, Word};
 use spindle_parts::steps::Step::{
     Arrive, Claim, Clear, End, Exit, Finish, Join, Leave, Publish, PublishTry, Rest, See, Stop,
 };
-use spindle_parts::steps::{Machine, Why};
+use spindle_parts::steps::{Machine, Reply, Step, Why};
 use std::process::Abort;
 
 const ENDS_THE_ROUND: Script = &[
@@ -149,24 +150,31 @@ fn a_helper_closes_by_leaving(rt: HostRuntime) -> Result<(), Fault> {
     play_afresh(&rt, rt.alloc(), CLOSES_BY_LEAVING)
 }
 
+/// Has a guest join and exit at the word, where there is no closer.
+fn pass_by(rt: &impl Abort, machine: &mut Machine, before: u32) {
+    if before % 0x8000 > 0 {
+        let after = before.wrapping_add(0x0001_0001);
+        answers(rt, machine, Join(2), word(after));
+        answers(rt, machine, Exit(2), word(before));
+    }
+}
+
+/// The word after that reply, where it was this one before.
+fn word_after(before: u32, reply: Reply) -> u32 {
+    match reply {
+        Word(after) => after,
+        Job(after, _) => after,
+        Refused(_) => before,
+    }
+}
+
 /// Plays the script with a guest who joins and exits wherever there is no closer.
 fn play_with_guest(rt: &impl Abort, machine: &mut Machine, script: Script) {
     let mut before = 0u32;
     for (step, reply) in script {
-        if before % 0x8000 > 0 {
-            is(
-                rt,
-                machine.step(Join(2)),
-                word(before.wrapping_add(0x0001_0001)),
-            );
-            is(rt, machine.step(Exit(2)), word(before));
-        }
-        assert_eq!(rt; machine.step(*step), *reply, "at {step:?}");
-        match reply {
-            Word(after) => before = *after,
-            Job(after, _) => before = *after,
-            Refused(_) => (),
-        }
+        pass_by(rt, machine, before);
+        answers(rt, machine, *step, *reply);
+        before = word_after(before, *reply);
     }
 }
 
@@ -206,21 +214,28 @@ fn a_plain_round_is_never_stopped(rt: HostRuntime) -> Result<(), Fault> {
     play_afresh(&rt, rt.alloc(), PLAIN_ROUND)
 }
 
+/// The steps that give jobs, with their numbers.
+const JOBS: &[(Step, u32)] = &[
+    (Claim(0, 1), 2),
+    (Claim(0, 1), 3),
+    (Rest(0), 8),
+    (Rest(0), 9),
+    (Claim(0, 3), 6),
+];
+
+/// Makes a sole member's steps, each of which must give that job, and finishes the job.
+fn finish_each(rt: &impl Abort, machine: &mut Machine, jobs: &[(Step, u32)]) {
+    for (step, number) in jobs {
+        answers(rt, machine, *step, Job(0x0001_0001, *number));
+        accept_one(rt, machine, Finish(0));
+    }
+}
+
 #[test]
 fn each_counter_stands_for_its_own_jobs(rt: HostRuntime) -> Result<(), Fault> {
     let mut machine = fresh(rt.alloc())?;
     accept(&rt, &mut machine, &[Join(0), Publish(0, 10)]);
-    let first = Claim(0, 1);
-    for (step, number) in [
-        (first, 2),
-        (first, 3),
-        (Rest(0), 8),
-        (Rest(0), 9),
-        (Claim(0, 3), 6),
-    ] {
-        is(&rt, machine.step(step), Job(0x0001_0001, number));
-        accept(&rt, &mut machine, &[Finish(0)]);
-    }
+    finish_each(&rt, &mut machine, JOBS);
     refuse(&rt, &mut machine, Claim(0, 1), Why::Empty);
     refuse(&rt, &mut machine, Rest(0), Why::Empty);
     Ok(())
@@ -267,7 +282,7 @@ const IS_SEEN_UNTIL_THE_END: Rows = &[
 fn the_stop_is_seen_until_the_round_ends(rt: HostRuntime) -> Result<(), Fault> {
     let mut machine = fresh(rt.alloc())?;
     follow(&rt, &mut machine, STOPS);
-    is(&rt, machine.step(Claim(2, 0)), Job(0x0003_0003, 0));
+    answers(&rt, &mut machine, Claim(2, 0), Job(0x0003_0003, 0));
     follow(&rt, &mut machine, IS_SEEN_UNTIL_THE_END);
     Ok(())
 }
