@@ -2,7 +2,7 @@
 use Rattle.std.proofs.Common.{◌≡◌, ℕ, zero, suc, ◌+◌, ◌<◌, List, [], ◌∷◌, ◌++◌, map, replicate, min, refl, ap, sym, ◌∙◌, arith}
 use Rattle.std.proofs.lemmas.List.{map-append}
 use Rattle.spindle_parts.specs.Pieces.{joined, total}
-use Rattle.spindle_run.specs.Grid.{one_more}
+use Rattle.spindle_commands.specs.Grid.{one_more}
 
 -- one more length
 pub total_snoc : (xs : List ℕ) (x : ℕ) → total (xs ++ x ∷ []) ≡ total xs + x

@@ -9,8 +9,8 @@ use Rattle.spindle_parts.specs.Pieces.{counted}
 use Rattle.spindle_trays.specs.PieceRuns.{piece_at, piece_start}
 use Rattle.spindle_trays.specs.Reports.{numbers_of, IsAnswered, HasFailed, IsReport}
 use Rattle.spindle_trays.specs.declared.lock.report.Report.{Report}
-use Rattle.spindle_run.specs.Faults.{Tells, HasBad, IsOutcome}
-use Rattle.spindle_run.specs.declared.faults.Outcome.{Outcome}
+use Rattle.spindle_commands.specs.Faults.{Tells, HasBad, IsOutcome}
+use Rattle.spindle_commands.specs.declared.faults.Outcome.{Outcome}
 
 module _ (bad : ℕ) where
   abbrev with_bad : ℕ → (ℕ × ℕ)

@@ -1,7 +1,7 @@
 -- What a text with two numbers says, and a line with its newline.
 use Rattle.std.proofs.Common.{◌≡◌, ℕ, List, ◌∷◌, ◌++◌, Option, Some, None, IfSome, [], ap, ◌∙◌, sym, inr}
 use Rattle.spindle_parts.specs.declared.steps.Step.{Step}
-use Rattle.spindle_run.specs.StepLines.{name_of, party_of, operand_of, Writes, Says, IsLineOf}
+use Rattle.spindle_commands.specs.StepLines.{name_of, party_of, operand_of, Writes, Says, IsLineOf}
 
 -- a step of the name with both numbers is what the text says
 pub said_with : (text name rest party operand : List ℕ) (p n : ℕ) (r : Option Step) → text ≡ name ++ 32 ∷ rest → rest ≡ party ++ 32 ∷ operand → Writes party p

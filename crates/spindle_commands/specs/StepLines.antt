@@ -3,7 +3,7 @@ use Rattle.std.specs.Prelude.{◌≡◌, ℕ, List, ◌∷◌, ◌++◌, codes, 
 use Rattle.std.specs.Str.Parse.{digits_value}
 use Rattle.spindle_parts.specs.declared.steps.Step.{Step}
 use Rattle.spindle_parts.specs.declared.steps.Step.TheVariants.{Join, Publish, PublishTry, Claim, Rest, Finish, Stop, See, Arrive, Leave, Exit, Clear, End}
-use Rattle.spindle_run.specs.Numbers.{IsNumber}
+use Rattle.spindle_commands.specs.Numbers.{IsNumber}
 
 -- the name that stands first
 abbrev pub name_of : Step → List ℕ

@@ -2,8 +2,8 @@
 use Rattle.std.specs.Prelude.{ℕ}
 use Rattle.spindle_parts.specs.declared.fault.Fault.{Fault}
 use Rattle.spindle_parts.specs.declared.fault.Fault.TheVariants as fault
-use Rattle.spindle_run.specs.declared.stop.Stop.{Stop}
-use Rattle.spindle_run.specs.declared.stop.Stop.TheVariants.{Words, Line, Memory, Lost, Input, Output}
+use Rattle.spindle_commands.specs.declared.stop.Stop.{Stop}
+use Rattle.spindle_commands.specs.declared.stop.Stop.TheVariants.{Words, Line, Memory, Lost, Input, Output}
 
 -- the stop of the same name
 abbrev pub stop_for : Fault → Stop

@@ -1,8 +1,8 @@
 -- The words of the program: the range of each number.
 use Rattle.std.specs.Prelude.{◌<◌, ◌≤◌, ◌^◌}
-use Rattle.spindle_run.specs.declared.squares.RoundPlan.{RoundPlan}
-use Rattle.spindle_run.specs.declared.words.Command.{Command}
-use Rattle.spindle_run.specs.declared.words.Command.TheVariants.{Cut, Squares, Slots, Faults, Grid, Steps}
+use Rattle.spindle_commands.specs.declared.squares.RoundPlan.{RoundPlan}
+use Rattle.spindle_commands.specs.declared.words.Command.{Command}
+use Rattle.spindle_commands.specs.declared.words.Command.TheVariants.{Cut, Squares, Slots, Faults, Grid, Steps}
 
 -- each number of a round lies in its range
 abbrev pub IsRoundPlan : RoundPlan → Type 0

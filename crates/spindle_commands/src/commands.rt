@@ -12,9 +12,6 @@ use std::io::{Read, Write};
 use std::sync::Wait;
 use std::thread::Threads;
 
-#[cfg(test)]
-mod tests;
-
 /// Does what the words say, the program's name left out.
 ///
 /// All words are judged before anything is read or run. What was answered before a stop stands.

@@ -4,7 +4,7 @@ ghost use Rattle.std.proofs.Common.{rules};
 ghost use Rattle.spindle_parts.specs.Pieces.{counted};
 ghost use Rattle.spindle_trays.specs.Reports.{IsReport, numbers_of};
 ghost use Rattle.spindle_trays.specs.Rounds.{job_count};
-ghost use Rattle.spindle_run.specs.Faults.{IsOutcome, Tells};
+ghost use Rattle.spindle_commands.specs.Faults.{IsOutcome, Tells};
 
 use crate::squares::{RoundPlan, numbers_below};
 use spindle::lock::{End, Job, JobCx, Limits, NoGate, Pool, Report};

@@ -3,7 +3,7 @@ ghost use Rattle.std.specs.Prelude.{◌≡◌, ◌*◌, ◌<◌, ◌↔◌, ℕ,
 ghost use Rattle.std.proofs.Common.{rules};
 ghost use Rattle.spindle_parts.specs.Pieces.{joined, total};
 ghost use Rattle.spindle_lists.specs.Same.{equal_pairs_are_same};
-ghost use Rattle.spindle_run.specs.Grid.{one_more, IsLeast, IsGreatest};
+ghost use Rattle.spindle_commands.specs.Grid.{one_more, IsLeast, IsGreatest};
 
 use spindle::lock::{End, Job, JobCx, Leader, Limits, NoGate, Pool, Under};
 use spindle::{Fault, ListRun, SharedList, gathered, with_lock};

@@ -1,7 +1,7 @@
 //! A number as words and lines write it.
 ghost use Rattle.std.specs.Prelude.{◌≡◌, ◌≤◌, SomeIff, IfSome};
 ghost use Rattle.std.specs.Str.Parse.{digits_value};
-ghost use Rattle.spindle_run.specs.Numbers.{IsNumber};
+ghost use Rattle.spindle_commands.specs.Numbers.{IsNumber};
 
 /// A number of one to ten decimal digits that fits 32 bits; leading zeros count as digits.
 pub fn number(text: &str) -> Option<u32>

@@ -1,14 +1,11 @@
 //! A line of steps: its step, and the line that answers it.
 ghost use Rattle.std.specs.Prelude.{◌≡◌, IfSome};
-ghost use Rattle.spindle_run.specs.StepLines.{name_of, party_of, operand_of, IsLineOf, Says};
+ghost use Rattle.spindle_commands.specs.StepLines.{name_of, party_of, operand_of, IsLineOf, Says};
 
 use crate::numbers::number;
 use spindle_parts::steps::{Reply, Step};
 use std::io;
 use std::io::Write;
-
-#[cfg(test)]
-mod tests;
 
 /// The step that a line says, if it says one. The line ends with its newline, or with the input.
 pub fn parse_step(line: &[u8]) -> Option<Step>

@@ -5,9 +5,6 @@ use spindle_parts::steps::{Machine, Reply, Why};
 use std::alloc::Global;
 use std::io::{BufRead, BufReader, BufWriter, Read, Write};
 
-#[cfg(test)]
-mod tests;
-
 /// The machine's counters.
 const COUNTERS: usize = 4;
 

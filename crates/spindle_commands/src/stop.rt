@@ -1,7 +1,7 @@
 //! Why the program stops before its end: the texts on standard error, and the exit statuses.
 ghost use Rattle.std.specs.Prelude.{◌≡◌};
-ghost use Rattle.spindle_run.specs.Stop.{stop_for, status_of};
-ghost use Rattle.spindle_run.specs.declared.stop.Stop.TheVariants.{Memory};
+ghost use Rattle.spindle_commands.specs.Stop.{stop_for, status_of};
+ghost use Rattle.spindle_commands.specs.declared.stop.Stop.TheVariants.{Memory};
 
 use spindle::Fault;
 use std::alloc::AllocError;

@@ -1,6 +1,6 @@
 //! What the words of a command line ask for, each number in its range.
 ghost use Rattle.std.specs.Prelude.{◌≡◌, IfSome};
-ghost use Rattle.spindle_run.specs.Words.{IsInRange, IsRoundPlan};
+ghost use Rattle.spindle_commands.specs.Words.{IsInRange, IsRoundPlan};
 
 use crate::grid::Plan;
 use crate::numbers::{number, number_within};

@@ -1,7 +1,6 @@
 //! Runs of `faults`: worked rows, and random words, beside a plain model where one thread runs the pieces and by the laws of
 //! such a round where several do.
-use super::next;
-use crate::trials::{Row, Trial, calls_bad, outcome, writes};
+use crate::trials::{Row, Trial, calls_bad, next, outcome, writes};
 use std::alloc::{AllocError, Global};
 use std::sync::Wait;
 use std::test::Fail;
@@ -119,27 +118,39 @@ fn are_lines(
     Ok(named && next_ran.is_none() && next_skipped.is_none() && (all_ran || stopped))
 }
 
+// A round of one thread has the lines of the plain model, and one of several threads lines by the laws.
+fn is_as_modelled<H: Threads + Wait + AllocGlobal + Sync>(
+    rt: &H,
+    count: u64,
+    threads: u64,
+    jobs: u64,
+    bad: u64,
+) -> Result<bool, AllocError> {
+    let alloc = rt.alloc();
+    let pieces = count.min(jobs);
+    let failing = piece_with(bad, count, pieces);
+    let trial = trial_of(rt, count, threads, jobs, bad)?;
+    if threads == 1 {
+        return Ok(trial.is(plain_lines(alloc, pieces, failing)?.as_str()));
+    }
+    let text = str::from_utf8(trial.text.as_slice()).unwrap_or("");
+    Ok(trial.end == Ok(()) && are_lines(alloc, text, pieces, failing)?)
+}
+
 #[test]
 fn three_hundred_rounds_that_may_stop(rt: HostRuntime) -> Result<(), Fail> {
-    let alloc = rt.alloc();
     let mut random = 88172645463325252u64;
     for _ in 0..300 {
         random = next(random);
         let count = random % 200;
         let jobs = 1 + random / 200 % 50;
         let bad = random / 10000 % 220;
-        let threads = 2 + random / 2200000 % 6;
-        let pieces = count.min(jobs);
-        let failing = piece_with(bad, count, pieces);
-        let alone = trial_of(&rt, count, 1, jobs, bad)?;
-        let lines = plain_lines(alloc, pieces, failing)?;
-        assert!(rt; alone.is(lines.as_str()), "{count} 1 {jobs} {bad}");
-        let several = trial_of(&rt, count, threads, jobs, bad)?;
-        let text = str::from_utf8(several.text.as_slice()).unwrap_or("");
-        assert!(rt;
-            several.end == Ok(()) && are_lines(alloc, text, pieces, failing)?,
-            "{count} {threads} {jobs} {bad}"
-        );
+        for threads in [1, 2 + random / 2200000 % 6] {
+            assert!(rt;
+                is_as_modelled(&rt, count, threads, jobs, bad)?,
+                "{count} {threads} {jobs} {bad}"
+            );
+        }
     }
     Ok(())
 }

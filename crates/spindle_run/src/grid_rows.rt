@@ -1,6 +1,5 @@
 //! Runs of `grid`: worked rows, and random words beside a plain loop over one list.
-use super::next;
-use crate::trials::{Row, writes};
+use crate::trials::{Row, next, writes};
 use std::alloc::Global;
 use std::test::Fail;
 

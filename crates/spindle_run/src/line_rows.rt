@@ -1,8 +1,9 @@
 //! Lines of steps: which are steps and which are bad, and streams that fail between two of them.
-use super::*;
-use crate::commands::run;
-use crate::stop::Stop;
+use crate::checks::{holds, is};
 use crate::trials::{Brief, Counting, Endless, Patient, Torn, as_words, outcome};
+use spindle_commands::step_lines::parse_step;
+use spindle_commands::{Stop, run};
+use spindle_parts::steps::Step;
 use std::cell::Cell;
 use std::test::Fail;
 
@@ -76,7 +77,7 @@ fn no_other_line_is_a_step(rt: HostRuntime) {
     for line in OTHER_LINES {
         assert_eq!(rt; parse_step(line.as_bytes()), None, "{line}");
     }
-    assert_eq!(rt; parse_step(b"join \xff"), None);
+    is(&rt, parse_step(b"join \xff"), None);
 }
 
 #[test]
@@ -114,10 +115,15 @@ fn answers_before_a_bad_line_stand(rt: HostRuntime) -> Result<(), Fail> {
 
 #[test]
 fn the_last_line_may_end_with_the_input(rt: HostRuntime) -> Result<(), Fail> {
-    assert!(rt; outcome(&rt, "steps", "")?.is(""));
-    assert!(rt; outcome(&rt, "steps", "join 0")?.is("00010001\n"));
-    assert!(rt; outcome(&rt, "steps", "join 0\n")?.is("00010001\n"));
-    assert!(rt; outcome(&rt, "steps", "join 0\njoin 1")?.is("00010001\n00020002\n"));
+    let rows = [
+        ("", ""),
+        ("join 0", "00010001\n"),
+        ("join 0\n", "00010001\n"),
+        ("join 0\njoin 1", "00010001\n00020002\n"),
+    ];
+    for (input, text) in rows {
+        holds(&rt, outcome(&rt, "steps", input)?.is(text));
+    }
     Ok(())
 }
 
@@ -127,9 +133,8 @@ fn a_line_without_end_is_bad(rt: HostRuntime) -> Result<(), Fail> {
     let mut input = Endless { given: 0 };
     let mut text = Vec::new(rt.alloc());
     let end = run(&rt, rt.alloc(), words.as_slice(), &mut input, &mut text);
-    assert_eq!(rt; end, Err(Stop::Line(1)));
-    assert!(rt; text.is_empty());
-    assert!(rt; input.given <= 65536, "{}", input.given);
+    is(&rt, (end, text.len()), (Err(Stop::Line(1)), 0));
+    holds(&rt, input.given <= 65536);
     Ok(())
 }
 
@@ -151,8 +156,8 @@ fn an_input_that_fails_stops_the_program(rt: HostRuntime) -> Result<(), Fail> {
             &mut Torn(input),
             &mut text,
         );
-        assert_eq!(rt; end, Err(Stop::Input), "{input:?}");
-        assert_eq!(rt; text.as_slice(), answers.as_bytes());
+        is(&rt, end, Err(Stop::Input));
+        holds(&rt, text.as_slice() == answers.as_bytes());
     }
     Ok(())
 }
@@ -167,8 +172,7 @@ fn an_output_that_fails_stops_the_steps(rt: HostRuntime) -> Result<(), Fail> {
         };
         let mut input = "join 0\njoin 1\n".as_bytes();
         let end = run(&rt, rt.alloc(), words.as_slice(), &mut input, &mut brief);
-        assert_eq!(rt; end, Err(Stop::Output), "{room} bytes");
-        assert_eq!(rt; brief.text.len(), room);
+        is(&rt, (end, brief.text.len()), (Err(Stop::Output), room));
     }
     Ok(())
 }
@@ -188,7 +192,6 @@ fn each_answer_is_flushed_before_the_next_line_is_read(rt: HostRuntime) -> Resul
         answers: &answers,
     };
     let end = run(&rt, rt.alloc(), words.as_slice(), &mut input, &mut output);
-    assert_eq!(rt; end, Err(Stop::Output));
-    assert_eq!(rt; answers.get(), 100);
+    is(&rt, (end, answers.get()), (Err(Stop::Output), 100));
     Ok(())
 }

@@ -1,6 +1,7 @@
 //! Plays of the machine by their worked rows.
-use super::*;
+use crate::checks::{holds, is};
 use crate::trials::{Row, outcome};
+use spindle_commands::Stop;
 use std::alloc::AllocError;
 use std::sync::Wait;
 use std::test::Fail;
@@ -173,23 +174,23 @@ fn add_row(
 
 #[test]
 fn a_round_without_jobs(rt: HostRuntime) -> Result<(), Fail> {
-    assert!(rt; plays(&rt, &LEAVES_UNDER_A_CLOSER)?);
-    assert!(rt; plays(&rt, &LEAVES_WHILE_IT_WAITS)?);
-    assert!(rt; plays(&rt, &EXITS_ALONE)?);
-    assert!(rt; plays(&rt, &LAST_ONE_EXITS)?);
+    holds(&rt, plays(&rt, &LEAVES_UNDER_A_CLOSER)?);
+    holds(&rt, plays(&rt, &LEAVES_WHILE_IT_WAITS)?);
+    holds(&rt, plays(&rt, &EXITS_ALONE)?);
+    holds(&rt, plays(&rt, &LAST_ONE_EXITS)?);
     Ok(())
 }
 
 #[test]
 fn a_whole_published_round(rt: HostRuntime) -> Result<(), Fail> {
-    assert!(rt; plays(&rt, &WHOLE_ROUND)?);
+    holds(&rt, plays(&rt, &WHOLE_ROUND)?);
     Ok(())
 }
 
 #[test]
 fn parties_come_and_go(rt: HostRuntime) -> Result<(), Fail> {
-    assert!(rt; plays(&rt, &COMES_AND_GOES)?);
-    assert!(rt; plays(&rt, &CLOSED_BY_EXIT)?);
+    holds(&rt, plays(&rt, &COMES_AND_GOES)?);
+    holds(&rt, plays(&rt, &CLOSED_BY_EXIT)?);
     Ok(())
 }
 
@@ -218,16 +219,16 @@ fn plays_with_a_visitor<H: Threads + Wait + AllocGlobal + Sync>(
 
 #[test]
 fn a_visitor_changes_no_answer(rt: HostRuntime) -> Result<(), Fail> {
-    assert!(rt; plays_with_a_visitor(&rt, &COMES_AND_GOES)?);
-    assert!(rt; plays_with_a_visitor(&rt, &CLOSED_BY_EXIT)?);
+    holds(&rt, plays_with_a_visitor(&rt, &COMES_AND_GOES)?);
+    holds(&rt, plays_with_a_visitor(&rt, &CLOSED_BY_EXIT)?);
     Ok(())
 }
 
 #[test]
 fn a_stopped_round_ends_with_jobs_left(rt: HostRuntime) -> Result<(), Fail> {
-    assert!(rt; plays(&rt, &STOPPED)?);
-    assert!(rt; plays(&rt, &MAY_NOT_STOP)?);
-    assert!(rt; plays(&rt, &SEEN)?);
+    holds(&rt, plays(&rt, &STOPPED)?);
+    holds(&rt, plays(&rt, &MAY_NOT_STOP)?);
+    holds(&rt, plays(&rt, &SEEN)?);
     Ok(())
 }
 
@@ -238,10 +239,13 @@ fn the_last_place_is_taken(rt: HostRuntime) -> Result<(), Fail> {
         writeln!(input, "join {party}")?;
     }
     let played = outcome(&rt, "steps", input.as_str())?;
-    assert_eq!(rt; played.end, Ok(()));
-    assert!(rt; played.text.starts_with(b"00010001\n00020002\n"));
-    assert!(rt; played.text.ends_with(b"7ffe7ffe\n7fff7fff\nrefused\n"));
-    assert_eq!(rt; played.text.len(), 32767 * 9 + 8);
+    is(
+        &rt,
+        (played.end, played.text.len()),
+        (Ok(()), 32767 * 9 + 8),
+    );
+    holds(&rt, played.text.starts_with(b"00010001\n00020002\n"));
+    holds(&rt, played.text.ends_with(b"7ffe7ffe\n7fff7fff\nrefused\n"));
     Ok(())
 }
 
@@ -249,9 +253,9 @@ fn the_last_place_is_taken(rt: HostRuntime) -> Result<(), Fail> {
 fn refused_memory_leaves_the_answers_before(rt: HostRuntime) -> Result<(), Fail> {
     let whole = "00010001\n00020002\n00030003\n00030002\n";
     if let Ok(trial) = outcome(&rt, "steps", "join 0\njoin 7\njoin 900\narrive 7\n") {
-        assert!(rt; whole.as_bytes().starts_with(trial.text.as_slice()));
-        assert!(rt; trial.text.len() % 9 == 0);
-        assert!(rt; trial.is(whole) || trial.end == Err(Stop::Memory));
+        holds(&rt, whole.as_bytes().starts_with(trial.text.as_slice()));
+        holds(&rt, trial.text.len() % 9 == 0);
+        holds(&rt, trial.is(whole) || trial.end == Err(Stop::Memory));
     }
     Ok(())
 }

@@ -1,28 +1,28 @@
-//! The program `spindle-run`: cuts lists, squares numbers in a lock, stops a round at a number that fails, lets a grid of
-//! numbers grow by rounds in jobs, and plays the machine of rounds.
+//! The program `spindle-run`: it takes the words of the command line, and ends with the status of what `spindle_commands` did with them.
 //!
-//! `commands` has the public call, `words` what a command line says, `step_lines` what a line of steps says.
+//! Its rows stand beside it: runs by their words, with what they write and how they end.
 #![tactic(auto)]
 
-mod commands;
-mod faults;
-mod grid;
-mod numbers;
-mod output;
-mod squares;
-mod step_lines;
-mod steps;
-mod stop;
+#[cfg(test)]
+mod checks;
+#[cfg(test)]
+mod fault_rows;
+#[cfg(test)]
+mod grid_rows;
+#[cfg(test)]
+mod line_rows;
+#[cfg(test)]
+mod machine_rows;
 #[cfg(test)]
 mod trials;
-mod words;
+#[cfg(test)]
+mod word_rows;
 
-pub use commands::run;
+pub use spindle_commands::{Stop, run};
 use std::env;
 use std::io::ErrorKind;
 use std::process::ExitCode;
 use std::rt::Env;
-pub use stop::Stop;
 
 fn main(rt: HostRuntime) -> ExitCode {
     let outcome = match command_words(&rt) {

@@ -1,6 +1,5 @@
 //! Runs of the program for its tests, and streams that fail.
-use crate::commands::run;
-use crate::stop::Stop;
+use spindle_commands::{Stop, run};
 use std::alloc::AllocError;
 use std::cell::Cell;
 use std::io;
@@ -78,6 +77,13 @@ pub fn calls_bad<H: Threads + Wait + AllocGlobal + Abort + Sync>(
         assert!(rt; outcome(rt, words, "")?.stopped("", Stop::Words), "{words}");
     }
     Ok(())
+}
+
+/// The next of a row of numbers that look random: a xorshift generator's.
+pub fn next(x: u64) -> u64 {
+    let x = x ^ (x << 13);
+    let x = x ^ (x >> 7);
+    x ^ (x << 17)
 }
 
 /// A reader that answers its text and then an error.

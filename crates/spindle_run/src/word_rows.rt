@@ -2,12 +2,11 @@
 //!
 //! The tests named `refused_` hold with any one allocation refused, which
 //! `rt try --test --fail-alloc N` does to the Nth.
-use super::*;
-use crate::trials::{Brief, Row, Torn, as_words, calls_bad, outcome, writes};
+use crate::checks::{holds, is};
+use crate::trials::{Brief, Row, Torn, as_words, calls_bad, next, outcome, writes};
+use spindle_commands::{Stop, run};
+use std::alloc::{AllocError, Global};
 use std::test::Fail;
-
-mod faults;
-mod grids;
 
 // Lists that are cut, with the lengths of their pieces.
 const LENGTHS: [Row<'static>; 9] = [
@@ -42,8 +41,8 @@ const SQUARES: [Row<'static>; 6] = [
 fn squares_stand_on_one_line(rt: HostRuntime) -> Result<(), Fail> {
     writes(&rt, &SQUARES)?;
     let most = outcome(&rt, "squares|100000|64|100000", "")?;
-    assert_eq!(rt; most.end, Ok(()));
-    assert!(rt; most.text.ends_with(b" 9999600004 9999800001\n"));
+    is(&rt, most.end, Ok(()));
+    holds(&rt, most.text.ends_with(b" 9999600004 9999800001\n"));
     Ok(())
 }
 
@@ -62,16 +61,21 @@ const SQUARES_IN_SLOTS: [Row<'static>; 7] = [
 fn squares_of_a_lock_with_slots(rt: HostRuntime) -> Result<(), Fail> {
     writes(&rt, &SQUARES_IN_SLOTS)?;
     let most = outcome(&rt, "slots|100000|64|100000|100000", "")?;
-    assert_eq!(rt; most.end, Ok(()));
-    assert!(rt; most.text.ends_with(b" 9999600004 9999800001\n"));
+    is(&rt, most.end, Ok(()));
+    holds(&rt, most.text.ends_with(b" 9999600004 9999800001\n"));
     Ok(())
 }
 
-// The next of a row of numbers that look random: a xorshift generator's.
-fn next(x: u64) -> u64 {
-    let x = x ^ (x << 13);
-    let x = x ^ (x >> 7);
-    x ^ (x << 17)
+// The line of the squares of the numbers below this.
+fn line_of_squares(alloc: Global, count: u64) -> Result<String, AllocError> {
+    let mut text = String::new(alloc);
+    for number in 0..count {
+        let space = if number == 0 { "" } else { " " };
+        let square = format!(in alloc; "{space}{}", number.wrapping_mul(number))?;
+        text.push_str(square.as_str())?;
+    }
+    text.push_str("\n")?;
+    Ok(text)
 }
 
 #[test]
@@ -85,13 +89,7 @@ fn three_hundred_rounds_in_slots_answer_the_squares(rt: HostRuntime) -> Result<(
         let jobs = 1 + random / 1200 % 50;
         let slots = 1 + random / 60000 % 40;
         let words = format!(in alloc; "slots|{count}|{threads}|{jobs}|{slots}")?;
-        let mut text = String::new(alloc);
-        for number in 0..count {
-            let space = if number == 0 { "" } else { " " };
-            let square = format!(in alloc; "{space}{}", number.wrapping_mul(number))?;
-            text.push_str(square.as_str())?;
-        }
-        text.push_str("\n")?;
+        let text = line_of_squares(alloc, count)?;
         writes(&rt, &[(words.as_str(), text.as_str())])?;
     }
     Ok(())
@@ -159,8 +157,7 @@ fn other_words_are_bad(rt: HostRuntime) -> Result<(), Fail> {
     calls_bad(&rt, &BAD_WORDS)?;
     let mut text = Vec::new(rt.alloc());
     let end = run(&rt, rt.alloc(), &[], &mut Torn(b""), &mut text);
-    assert_eq!(rt; end, Err(Stop::Words));
-    assert!(rt; text.is_empty());
+    is(&rt, (end, text.len()), (Err(Stop::Words), 0));
     Ok(())
 }
 
@@ -178,7 +175,7 @@ fn bad_words_come_before_any_stream(rt: HostRuntime) -> Result<(), Fail> {
         &mut Torn(b""),
         &mut closed,
     );
-    assert_eq!(rt; end, Err(Stop::Words));
+    is(&rt, end, Err(Stop::Words));
     Ok(())
 }
 
@@ -202,8 +199,7 @@ fn a_failing_output_stops_the_program(rt: HostRuntime) -> Result<(), Fail> {
             room,
         };
         let end = run(&rt, rt.alloc(), list.as_slice(), &mut Torn(b""), &mut brief);
-        assert_eq!(rt; end, Err(Stop::Output), "{words} with {room} bytes");
-        assert_eq!(rt; brief.text.len(), room);
+        is(&rt, (end, brief.text.len()), (Err(Stop::Output), room));
     }
     Ok(())
 }
@@ -219,8 +215,8 @@ fn texts_and_statuses(rt: HostRuntime) -> Result<(), Fail> {
         (Stop::Output, "output failed", 1),
     ];
     for (stop, text, status) in rows {
-        assert_eq!(rt; format!(in rt.alloc(); "{stop}")?.as_str(), text);
-        assert_eq!(rt; stop.status(), status);
+        is(&rt, format!(in rt.alloc(); "{stop}")?.as_str(), text);
+        is(&rt, stop.status(), status);
     }
     Ok(())
 }

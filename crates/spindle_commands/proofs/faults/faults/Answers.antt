@@ -6,9 +6,9 @@ use Rattle.spindle_parts.specs.Pieces.{counted}
 use Rattle.spindle_parts.proofs.Deals.{length-counted}
 use Rattle.spindle_trays.specs.Reports.{IsReport}
 use Rattle.spindle_trays.specs.Rounds.{job_count}
-use Rattle.spindle_run.specs.Faults.{Tells}
-use Rattle.spindle_run.proofs.Outcomes.{outcome_of}
-use Rattle.spindle_run.proofs.faults.faults.Goals as goal
+use Rattle.spindle_commands.specs.Faults.{Tells}
+use Rattle.spindle_commands.proofs.Outcomes.{outcome_of}
+use Rattle.spindle_commands.proofs.faults.faults.Goals as goal
 
 pub returns : goal.returns
 returns g c =

@@ -1,7 +1,7 @@
 -- One more chunk takes its length from what is left.
 use Rattle.std.proofs.Common.{◌≡◌, ◌+◌, ◌*◌, arith}
-use Rattle.spindle_run.proofs.Grids.{total_snoc}
-use Rattle.spindle_run.proofs.grid.lengths.Goals as goal
+use Rattle.spindle_commands.proofs.Grids.{total_snoc}
+use Rattle.spindle_commands.proofs.grid.lengths.Goals as goal
 
 pub loop-chunk-preserved : goal.loop-chunk-preserved
 loop-chunk-preserved c =

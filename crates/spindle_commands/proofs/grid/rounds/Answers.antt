@@ -3,9 +3,9 @@ use Rattle.std.proofs.Common.{ℕ, List, ◌∙◌, map, ap, subst, arith}
 use Rattle.spindle_parts.specs.declared.fault.Fault.{Fault}
 use Rattle.spindle_lists.specs.Gathered.{IsGathered}
 use Rattle.spindle_lists.proofs.GatheredLists.{gathered_values}
-use Rattle.spindle_run.specs.Grid.{one_more}
-use Rattle.spindle_run.proofs.Grids.{joined_firsts, more_copies}
-use Rattle.spindle_run.proofs.grid.rounds.Goals as goal
+use Rattle.spindle_commands.specs.Grid.{one_more}
+use Rattle.spindle_commands.proofs.Grids.{joined_firsts, more_copies}
+use Rattle.spindle_commands.proofs.grid.rounds.Goals as goal
 
 pub loop-round-preserved : goal.loop-round-preserved
 loop-round-preserved g c = λ n zeros.

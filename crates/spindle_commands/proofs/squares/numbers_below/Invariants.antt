@@ -1,7 +1,7 @@
 -- The numbers so far.
 use Rattle.std.proofs.Common.{◌≡◌, ◌≤◌, vec_len, vec_capacity}
 use Rattle.spindle_parts.specs.Pieces.{counted}
-use Rattle.spindle_run.proofs.squares.numbers_below.Given as goal
+use Rattle.spindle_commands.proofs.squares.numbers_below.Given as goal
 
 abbrev pub invariant-loop-number : goal.invariant-loop-number
 invariant-loop-number l = record {

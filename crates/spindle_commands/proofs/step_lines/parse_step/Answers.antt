@@ -1,8 +1,8 @@
 -- A line with its newline.
 use Rattle.std.proofs.Common.{◌≡◌, Some, rules, arith}
 use Rattle.std.proofs.lemmas.Str.Pattern.{strip_suffix_char}
-use Rattle.spindle_run.proofs.Said.{said_before_newline}
-use Rattle.spindle_run.proofs.step_lines.parse_step.Goals as goal
+use Rattle.spindle_commands.proofs.Said.{said_before_newline}
+use Rattle.spindle_commands.proofs.step_lines.parse_step.Goals as goal
 
 pub returns-in-Some : goal.returns-in-Some
 returns-in-Some c =

@@ -1,9 +1,9 @@
 -- A line with two numbers.
 use Rattle.std.proofs.Common.{Some, arith, sym}
 use Rattle.std.proofs.lemmas.Str.Pattern.{split_parts}
-use Rattle.spindle_run.specs.StepLines.{Writes}
-use Rattle.spindle_run.proofs.Said.{said_with}
-use Rattle.spindle_run.proofs.step_lines.step_said.Goals as goal
+use Rattle.spindle_commands.specs.StepLines.{Writes}
+use Rattle.spindle_commands.proofs.Said.{said_with}
+use Rattle.spindle_commands.proofs.step_lines.step_said.Goals as goal
 
 pub returns-in_ok-number-in-Some-2 : goal.returns-in_ok-number-in-Some-2
 returns-in_ok-number-in-Some-2 c =

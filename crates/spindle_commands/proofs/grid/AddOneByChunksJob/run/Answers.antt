@@ -3,8 +3,8 @@ use Rattle.std.proofs.Common.{◌∙◌, map, ap, subst}
 use Rattle.std.specs.declared.alloc.AllocError.{AllocError}
 use Rattle.spindle_lists.specs.Gathered.{IsGathered}
 use Rattle.spindle_lists.proofs.GatheredLists.{gathered_map}
-use Rattle.spindle_run.specs.Grid.{one_more}
-use Rattle.spindle_run.proofs.grid.AddOneByChunksJob.run.Goals as goal
+use Rattle.spindle_commands.specs.Grid.{one_more}
+use Rattle.spindle_commands.proofs.grid.AddOneByChunksJob.run.Goals as goal
 
 pub returns : goal.returns
 returns g c =
