@@ -130,16 +130,25 @@ where
     Ok(())
 }
 
+// The same of `SixteenTimes`, for each test that has such limits: what names three kinds of jobs is proved slowly.
+fn sixteen_times_stay_zeros<H: Threads + Wait + Abort + Sync>(
+    rt: &H,
+    alloc: Global,
+    limits: Limits,
+) -> Result<(), Fault> {
+    two_lists_stay_zeros::<SixteenTimes, H>(rt, alloc, limits)
+}
+
 #[test]
 fn jobs_of_a_lock_of_one_thread_open_empty_locks(rt: HostRuntime) -> Result<(), Fault> {
-    two_lists_stay_zeros::<SixteenTimes, _>(&rt, rt.alloc(), Limits { spin: 0, pause: 8 })
+    sixteen_times_stay_zeros(&rt, rt.alloc(), Limits { spin: 0, pause: 8 })
 }
 
 #[test]
 fn jobs_of_a_lock_of_one_thread_open_empty_locks_without_a_pause(
     rt: HostRuntime,
 ) -> Result<(), Fault> {
-    two_lists_stay_zeros::<SixteenTimes, _>(&rt, rt.alloc(), Limits { spin: 0, pause: 0 })
+    sixteen_times_stay_zeros(&rt, rt.alloc(), Limits { spin: 0, pause: 0 })
 }
 
 /// Opens a lock of four threads, waits a while for another one there, and answers how many are there, and how many at most.

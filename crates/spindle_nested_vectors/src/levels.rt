@@ -136,22 +136,44 @@ where
     sum_often::<Above<Above<K>>, H>(rt, alloc, threads, rounds, expected)
 }
 
+// Twenty rounds of three kinds of jobs, by so many threads. What names so many kinds is proved slowly, so it stands here once.
+fn sum_three_kinds<H: Threads + Wait + Abort + Sync>(
+    rt: &H,
+    alloc: Global,
+    threads: usize,
+) -> Result<(), Fault>
+    requires { 0 < threads }
+{
+    sum_often::<Above<OneLevel>, H>(rt, alloc, threads, 20, [Some(72), Some(234), Some(396)])
+}
+
+// The same of four kinds.
+fn sum_four_kinds<H: Threads + Wait + Abort + Sync>(
+    rt: &H,
+    alloc: Global,
+    threads: usize,
+) -> Result<(), Fault>
+    requires { 0 < threads }
+{
+    sum_two_above::<OneLevel, H>(rt, alloc, threads, 20, [Some(702), Some(2160), Some(3618)])
+}
+
 #[test]
 fn three_kinds_of_jobs_by_two_threads(rt: HostRuntime) -> Result<(), Fault> {
-    sum_often::<Above<OneLevel>, _>(&rt, rt.alloc(), 2, 20, [Some(72), Some(234), Some(396)])
+    sum_three_kinds(&rt, rt.alloc(), 2)
 }
 
 #[test]
 fn three_kinds_of_jobs_by_eight_threads(rt: HostRuntime) -> Result<(), Fault> {
-    sum_often::<Above<OneLevel>, _>(&rt, rt.alloc(), 8, 20, [Some(72), Some(234), Some(396)])
+    sum_three_kinds(&rt, rt.alloc(), 8)
 }
 
 #[test]
 fn four_kinds_of_jobs_by_two_threads(rt: HostRuntime) -> Result<(), Fault> {
-    sum_two_above::<OneLevel, _>(&rt, rt.alloc(), 2, 20, [Some(702), Some(2160), Some(3618)])
+    sum_four_kinds(&rt, rt.alloc(), 2)
 }
 
 #[test]
 fn four_kinds_of_jobs_by_eight_threads(rt: HostRuntime) -> Result<(), Fault> {
-    sum_two_above::<OneLevel, _>(&rt, rt.alloc(), 8, 20, [Some(702), Some(2160), Some(3618)])
+    sum_four_kinds(&rt, rt.alloc(), 8)
 }

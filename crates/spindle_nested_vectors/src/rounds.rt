@@ -3,7 +3,7 @@ ghost use Rattle.std.specs.Prelude.{◌<◌};
 ghost use Rattle.std.proofs.Common.{rules};
 ghost use denote.Param.Send.{IsSync};
 
-use crate::checks::{are, is};
+use crate::checks::{are, holds, is};
 use spindle_lists::{ListRun, SharedList, gathered};
 use spindle_parts::fault::Fault;
 use spindle_trays::crew::limits::Limits;
@@ -221,7 +221,7 @@ fn are_first_squares<H: Abort>(
     for list in lists {
         let list = list?;
         is(rt, Some(list.len()), counts.get(place).copied());
-        assert!(rt; [0, 1, 4, 9].as_slice().starts_with(&list));
+        holds(rt, [0, 1, 4, 9].as_slice().starts_with(&list));
         place = place.wrapping_add(1);
     }
     Ok(())

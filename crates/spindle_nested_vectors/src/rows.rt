@@ -1,6 +1,6 @@
 //! Rows of locks that jobs open: helpers move to them and run jobs there, and leaders work alone where they must.
 
-use crate::checks::are;
+use crate::checks::{are, holds};
 use crate::jobs::{DoubleBoth, FourUnits, Opener, Rounds, Where};
 use spindle_parts::fault::Fault;
 use spindle_trays::crew::limits::Limits;
@@ -46,7 +46,7 @@ fn a_helper_runs_jobs_of_a_round_in_a_job(rt: HostRuntime) -> Result<(), Fault> 
         leader.for_each(&rt, alloc, 1, vec![in alloc; ()]?)
     })??;
     let both = seen[0] == (Some(0), Some(1)) || seen[0] == (Some(1), Some(0));
-    assert!(rt; both, "{:?}", seen[0]);
+    holds(&rt, both);
     Ok(())
 }
 
@@ -55,12 +55,10 @@ fn locks_in_jobs_of_two_hundred_rounds(rt: HostRuntime) -> Result<(), Fault> {
     let alloc = rt.alloc();
     let pool = Pool::new(4, Limits::new(), NoGate);
     with_lock::<DoubleBoth, _, _, _, _, _>(&rt, alloc, &pool, 4, |leader| {
-        for round in 0..200 {
+        for _ in 0..200 {
             let sums = leader.for_each(&rt, alloc, 4, vec![in alloc; 0, 1, 2, 3]?)?;
-            let wanted = vec![in alloc; Some(2), Some(6), Some(10), Some(14)]?;
-            assert_eq!(rt; sums, wanted, "round {round}");
-            let current = leader.current_num_threads();
-            assert!(rt; current >= 1 && current <= 4, "{current}");
+            are(&rt, &sums, &[Some(2), Some(6), Some(10), Some(14)]);
+            holds(&rt, (1..=4).contains(&leader.current_num_threads()));
         }
         Ok::<(), Fault>(())
     })?

@@ -1,7 +1,7 @@
 //! Rows of rounds in place: what becomes of each item stands in its place, and a refusal leaves the items as they were.
 ghost use Rattle.std.specs.Prelude.{◌<◌, ◌≤◌};
 
-use crate::checks::is;
+use crate::checks::{holds, is};
 use crate::gates::Meetings;
 use crate::jobs::{Calls, Counting};
 use crate::sevens::seven_items;
@@ -126,7 +126,7 @@ fn two_hundred_rounds_in_place_are_as_a_plain_loop(rt: HostRuntime) -> Result<()
             let pool = Pool::new(threads, Limits::new(), NoGate);
             let list = step_often(&rt, alloc, &pool, slots, jobs, count, 200)?;
             is(&rt, list.len(), count);
-            assert!(rt; have_stepped(list.as_slice(), 200));
+            holds(&rt, have_stepped(list.as_slice(), 200));
         }
     }
     Ok(())
@@ -147,7 +147,7 @@ fn each_job_in_place_passes_the_gate_once(rt: HostRuntime) -> Result<(), Fault> 
             let calls = Calls::new();
             let pool = Pool::new(threads, Limits::new(), Counting { calls: &calls });
             let list = step_often(&rt, alloc, &pool, slots, jobs, count, 1)?;
-            assert!(rt; have_stepped(list.as_slice(), 1));
+            holds(&rt, have_stepped(list.as_slice(), 1));
             is(&rt, calls.in_all(), (wanted, wanted));
             is(&rt, calls.of_job(0), (1, 1));
         }
@@ -182,11 +182,11 @@ fn refused_rounds_as_a_value_are_played_when_asked_again(rt: HostRuntime) -> Res
         let list = seven_items(alloc)?;
         if let Ok(steps) = play_in_place(&rt, alloc, &pool, 4, 3, Steps { list }) {
             is(&rt, steps.list.len(), 7);
-            assert!(rt; have_stepped(steps.list.as_slice(), 1));
+            holds(&rt, have_stepped(steps.list.as_slice(), 1));
             played = played.wrapping_add(1);
         }
     }
-    assert!(rt; 0 < played);
+    holds(&rt, 0 < played);
     Ok(())
 }
 
@@ -209,9 +209,9 @@ fn refused_round_in_place_leaves_the_items(rt: HostRuntime) -> Result<(), Fault>
             if let Ok(Ok(())) = played {
                 steps = steps.wrapping_add(1);
             }
-            assert!(rt; have_stepped(list.as_slice(), steps));
+            holds(&rt, have_stepped(list.as_slice(), steps));
         }
-        assert!(rt; 0 < steps);
+        holds(&rt, 0 < steps);
     }
     Ok(())
 }

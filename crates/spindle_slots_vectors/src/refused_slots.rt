@@ -4,7 +4,7 @@
 ghost use Rattle.std.specs.Prelude.{◌≡◌, ◌<◌};
 ghost use Rattle.spindle.specs.SlotLeaders.{lock_slots};
 
-use crate::checks::{are, is};
+use crate::checks::{are, holds, is};
 use crate::jobs::{Calls, Counting, Square};
 use crate::lists::{Length, are_three_numbers, seven_clones, three_numbers};
 use crate::sevens::{are_seven_squares, seven_items, unopened_or};
@@ -29,11 +29,11 @@ fn refused_lock_with_slots_opens_when_asked_again(rt: HostRuntime) -> Result<(),
             opened.fetch_add(1, Ordering::SeqCst);
         });
         if let Err(fault) = answer {
-            assert!(rt; matches!(fault, Fault::Memory));
+            holds(&rt, matches!(fault, Fault::Memory));
             is(&rt, opened.load(Ordering::SeqCst), before);
         }
     }
-    assert!(rt; opened.load(Ordering::SeqCst) > 0);
+    holds(&rt, opened.load(Ordering::SeqCst) > 0);
     is(&rt, calls.in_all(), (0, 0));
     Ok(())
 }
@@ -57,12 +57,12 @@ fn refused_round_over_numbers_in_slots_has_run_no_job(rt: HostRuntime) -> Result
             let squares = match leader.for_each_raw(&rt, alloc, 7) {
                 Ok(squares) => squares,
                 Err(fault) => {
-                    assert!(rt; matches!(fault, Fault::Memory));
+                    holds(&rt, matches!(fault, Fault::Memory));
                     is(&rt, calls.in_all(), (0, 0));
                     leader.for_each_raw(&rt, alloc, 7)?
                 }
             };
-            assert!(rt; are_seven_squares(squares.as_slice()));
+            holds(&rt, are_seven_squares(squares.as_slice()));
             is(&rt, calls.in_all(), (7, 7));
             Ok::<(), Fault>(())
         },
@@ -100,12 +100,12 @@ fn square_seven_items<H: Threads + Wait + Abort + Sync>(
     let squares = match leader.for_each(rt, alloc, jobs, seven_items(alloc)?) {
         Ok(squares) => squares,
         Err(fault) => {
-            assert!(rt; matches!(fault, Fault::Memory));
+            holds(rt, matches!(fault, Fault::Memory));
             is(rt, calls.in_all(), before);
             leader.for_each(rt, alloc, jobs, seven_items(alloc)?)?
         }
     };
-    assert!(rt; are_seven_squares(squares.as_slice()));
+    holds(rt, are_seven_squares(squares.as_slice()));
     let after = (before.0.wrapping_add(jobs), before.1.wrapping_add(jobs));
     is(rt, calls.in_all(), after);
     Ok(())
@@ -122,7 +122,7 @@ fn refused_nothing_in_slots_where_nothing_is_run(rt: HostRuntime) -> Result<(), 
         opened.fetch_add(1, Ordering::SeqCst);
         for jobs in [0, 1, 4, usize::MAX] {
             let outputs = leader.for_each(&rt, alloc, jobs, Vec::new(alloc))?;
-            assert!(rt; outputs.is_empty());
+            holds(&rt, outputs.is_empty());
             is(&rt, outputs.capacity(), 0);
         }
         is(&rt, calls.in_all(), (0, 0));
@@ -142,7 +142,7 @@ fn list_comes_out_again<H: Threads + Wait + Abort + Sync>(
 {
     let list = three_numbers(alloc)?;
     let lengths = leader.for_each(rt, alloc, jobs, seven_clones(alloc, &list)?);
-    assert!(rt; are_three_numbers(list), "a clone of the list is kept");
+    holds(rt, are_three_numbers(list));
     are(rt, lengths?.as_slice(), &[3; 7]);
     Ok(())
 }
@@ -155,15 +155,15 @@ fn refused_items_are_kept_by_no_slot(rt: HostRuntime) -> Result<(), Fault> {
         let mut refused = 0usize;
         for jobs in [3, 4, 7] {
             if let Err(fault) = list_comes_out_again(&rt, alloc, leader, jobs) {
-                assert!(rt; matches!(fault, Fault::Memory));
+                holds(&rt, matches!(fault, Fault::Memory));
                 refused = refused.wrapping_add(1);
             }
         }
         refused
     });
     match rounds {
-        Ok(refused) => assert!(rt; refused <= 1),
-        Err(fault) => assert!(rt; matches!(fault, Fault::Memory)),
+        Ok(refused) => holds(&rt, refused <= 1),
+        Err(fault) => holds(&rt, matches!(fault, Fault::Memory)),
     }
     Ok(())
 }

@@ -2,7 +2,7 @@
 ghost use Rattle.std.specs.Prelude.{◌≡◌, ◌<◌, ◌≤◌};
 ghost use Rattle.spindle.specs.SlotLeaders.{lock_slots};
 
-use crate::checks::{are, is};
+use crate::checks::{are, holds, is};
 use crate::gates::Meetings;
 use crate::jobs::{Calls, Counting, Place, Square, one_each};
 use spindle::lock::{Gate, Limits, NoGate, Pool};
@@ -128,7 +128,7 @@ fn numbers_alone_are_items_from_0_in_slots(rt: HostRuntime) -> Result<(), Fault>
             let squares = leader.for_each_raw(&rt, alloc, 4)?;
             are(&rt, &squares, &[0, 1, 4, 9]);
             are(&rt, &leader.for_each_raw(&rt, alloc, 1)?, &[0]);
-            assert!(rt; leader.for_each_raw(&rt, alloc, 0)?.is_empty());
+            holds(&rt, leader.for_each_raw(&rt, alloc, 0)?.is_empty());
             Ok::<(), Fault>(())
         },
     )?
@@ -205,7 +205,7 @@ fn more_slots_than_memory_holds_are_refused(rt: HostRuntime) {
             opened.fetch_add(1, Ordering::SeqCst);
         },
     );
-    assert!(rt; matches!(refused, Err(Fault::Memory)));
+    holds(&rt, matches!(refused, Err(Fault::Memory)));
     is(&rt, opened.load(Ordering::SeqCst), 0);
 }
 
@@ -223,7 +223,7 @@ fn four_threads_at_once_have_four_numbers_in_slots(rt: HostRuntime) -> Result<()
     let meetings = Meetings::new();
     let places = places(&rt, rt.alloc(), &meetings.pool(4), 4, 4)?;
     is(&rt, meetings.counts(), (4, 0));
-    assert!(rt; one_each(&places, 4));
+    holds(&rt, one_each(&places, 4));
     Ok(())
 }
 

@@ -12,3 +12,8 @@ pub fn is<T: Copy + Debug + PartialEq>(rt: &impl Abort, found: T, wanted: T) {
 pub fn are<T: Debug + PartialEq>(rt: &impl Abort, found: &[T], wanted: &[T]) {
     assert_eq!(rt; found, wanted);
 }
+
+/// Fails the test in which this isn't so.
+pub fn holds(rt: &impl Abort, it: bool) {
+    assert!(rt; it);
+}

@@ -1,7 +1,7 @@
 //! Rows of what gates see of jobs: each job runs between its two calls, which it has once and in their order, and the
 //! jobs of one round meet where there are threads for them.
 
-use crate::checks::{are, is};
+use crate::checks::{are, holds, is};
 use crate::gates::Meetings;
 use crate::jobs::{Place, Square, one_each};
 use crate::marks::{Marks, Noted, Noting, Watching};
@@ -49,7 +49,7 @@ fn eight_jobs_of_eight_threads_run_at_once(rt: HostRuntime) -> Result<(), Fault>
     with_lock::<Place, _, _, _, _, _>(&rt, alloc, &meetings.pool(8), 8, |leader| {
         for _ in 0..3 {
             let places = leader.for_each_raw(&rt, alloc, 8)?;
-            assert!(rt; one_each(&places, 8));
+            holds(&rt, one_each(&places, 8));
         }
         Ok::<(), Fault>(())
     })??;

@@ -2,7 +2,7 @@
 ghost use Rattle.std.specs.Prelude.{◌≡◌, ◌∷◌, [], IfOk, length};
 ghost use Rattle.spindle_trays.specs.Rounds.{items_of};
 
-use crate::checks::{are, is};
+use crate::checks::{are, holds, is};
 use crate::jobs::Square;
 use spindle_lists::SharedList;
 use spindle_parts::cut::Piece;
@@ -88,7 +88,7 @@ fn the_first_place_without_its_piece_is_lost(rt: HostRuntime) -> Result<(), Fail
         (other_inputs, 1, 2),
     ] {
         is(&rt, answer, Err(lost));
-        assert!(rt; room.is_empty());
+        holds(&rt, room.is_empty());
         is(&rt, full, left);
     }
     Ok(())
@@ -100,6 +100,6 @@ fn nothing_handed_out_is_gathered_without_memory(rt: HostRuntime) -> Result<(), 
     let mut room = Vec::new(alloc);
     let answer = gather::<Square>(&[], &mut Vec::new(alloc), &mut room);
     is(&rt, answer, Ok(()));
-    assert!(rt; room.is_empty());
+    holds(&rt, room.is_empty());
     Ok(())
 }

@@ -1,10 +1,11 @@
 //! Rows of lists that clones and runs share, that are shared out in runs or in chunks with what stands around them, and of answers
 //! that are gathered.
 
-use crate::checks::{are, is};
+use crate::checks::{are, holds, is};
 use spindle_lists::{Chunk, ListRun, SharedList, gathered};
 use spindle_parts::fault::Fault;
 use std::alloc::Global;
+use std::process::Abort;
 
 fn five(alloc: Global) -> Result<SharedList<u32>, Fault> {
     let numbers = vec![in alloc; 1, 2, 3, 4, 5]?;
@@ -23,12 +24,28 @@ fn is_chunk(chunk: &Chunk<u32>, items: &[u32], from: usize, to: usize) -> bool {
     chunk.as_slice() == items && chunk.from() == from && chunk.to() == to
 }
 
+// Fails the test in which these aren't the runs of these items.
+fn are_runs(rt: &impl Abort, runs: &[ListRun<u32>], wanted: &[&[u32]]) {
+    is(rt, runs.len(), wanted.len());
+    for (run, items) in runs.iter().zip(wanted) {
+        holds(rt, is_run(run, items));
+    }
+}
+
+// Fails the test in which these aren't the chunks of these items, which stand there.
+fn are_chunks(rt: &impl Abort, chunks: &[Chunk<u32>], wanted: &[(&[u32], usize, usize)]) {
+    is(rt, chunks.len(), wanted.len());
+    for (chunk, (items, from, to)) in chunks.iter().zip(wanted) {
+        holds(rt, is_chunk(chunk, items, *from, *to));
+    }
+}
+
 #[test]
 fn a_list_comes_out_again_where_no_clone_is_left(rt: HostRuntime) -> Result<(), Fault> {
     let alloc = rt.alloc();
     let list = SharedList::from_vec(alloc, vec![in alloc; 4u32, 5, 6]?)?;
     let clone = list.clone()?;
-    assert!(rt; list == clone && list.len() == 3 && !list.is_empty());
+    holds(&rt, list == clone && list.len() == 3 && !list.is_empty());
     let Err(list) = list.try_into_vec() else {
         panic!(rt; "a clone is left");
     };
@@ -38,7 +55,7 @@ fn a_list_comes_out_again_where_no_clone_is_left(rt: HostRuntime) -> Result<(), 
     let Err(list) = list.try_into_vec() else {
         panic!(rt; "a run is left");
     };
-    assert!(rt; is_run(&run, &[5, 6]));
+    holds(&rt, is_run(&run, &[5, 6]));
     drop(run);
     let Ok(items) = list.try_into_vec() else {
         panic!(rt; "no clone is left");
@@ -54,12 +71,24 @@ fn lists_are_equal_item_by_item(rt: HostRuntime) -> Result<(), Fault> {
     let shorter = SharedList::from_vec(alloc, vec![in alloc; 1u32, 2, 3]?)?;
     let other = SharedList::from_vec(alloc, vec![in alloc; 9u32, 2, 3]?)?;
     let empty = SharedList::from_vec(alloc, Vec::<u32>::new(alloc))?;
-    assert!(rt; list != shorter && shorter != other && empty != shorter && empty.is_empty());
-    assert!(rt; list.run(0, 2)? == list.run(3, 5)? && list.run(0, 2)? != list.run(1, 3)?);
-    assert!(rt; list.run(0, 3)? == shorter.run(0, 3)? && list.run(4, 4)? == empty.run(0, 0)?);
+    holds(
+        &rt,
+        list != shorter && shorter != other && empty != shorter && empty.is_empty(),
+    );
+    holds(
+        &rt,
+        list.run(0, 2)? == list.run(3, 5)? && list.run(0, 2)? != list.run(1, 3)?,
+    );
+    holds(
+        &rt,
+        list.run(0, 3)? == shorter.run(0, 3)? && list.run(4, 4)? == empty.run(0, 0)?,
+    );
     let pairs = SharedList::from_vec(alloc, vec![in alloc; (1u8, true), (2, false)]?)?;
-    assert!(rt; is_input(&list) && is_input(&pairs.run(0, 2)?));
-    assert!(rt; pairs == pairs.clone()? && pairs.run(0, 1)? != pairs.run(1, 2)?);
+    holds(&rt, is_input(&list) && is_input(&pairs.run(0, 2)?));
+    holds(
+        &rt,
+        pairs == pairs.clone()? && pairs.run(0, 1)? != pairs.run(1, 2)?,
+    );
     Ok(())
 }
 
@@ -68,14 +97,17 @@ fn a_list_is_shared_out_in_runs_of_the_lengths_given(rt: HostRuntime) -> Result<
     let alloc = rt.alloc();
     let list = SharedList::from_vec(alloc, vec![in alloc; 1u32, 2, 3, 4, 5]?)?;
     let runs = list.share_out(alloc, &[2, 0, 3])?;
-    is(&rt, runs.len(), 3);
-    assert!(rt; is_run(&runs[0], &[1, 2]) && is_run(&runs[1], &[]) && is_run(&runs[2], &[3, 4, 5]));
+    assert!(rt; runs.len() == 3);
+    are_runs(&rt, &runs, &[&[1, 2], &[], &[3, 4, 5]]);
     let inner = runs[2].share_out(alloc, &[1, 2])?;
-    is(&rt, inner.len(), 2);
-    assert!(rt; is_run(&inner[0], &[3]) && is_run(&inner[1], &[4, 5]));
-    assert!(rt; is_run(&inner[1].run(1, 2)?, &[5]) && inner[1].clone()? == list.run(3, 5)?);
+    assert!(rt; inner.len() == 2);
+    are_runs(&rt, &inner, &[&[3], &[4, 5]]);
+    holds(
+        &rt,
+        is_run(&inner[1].run(1, 2)?, &[5]) && inner[1].clone()? == list.run(3, 5)?,
+    );
     let none = SharedList::from_vec(alloc, Vec::<u32>::new(alloc))?;
-    assert!(rt; none.share_out(alloc, &[])?.is_empty());
+    holds(&rt, none.share_out(alloc, &[])?.is_empty());
     Ok(())
 }
 
@@ -84,13 +116,11 @@ fn the_first_runs_are_longer_by_one(rt: HostRuntime) -> Result<(), Fault> {
     let alloc = rt.alloc();
     let list = five(alloc)?;
     let runs = list.share_out_evenly(alloc, 2)?;
-    assert_eq!(rt; runs.len(), 2);
-    assert!(rt; is_run(&runs[0], &[1, 2, 3]) && is_run(&runs[1], &[4, 5]));
+    are_runs(&rt, &runs, &[&[1, 2, 3], &[4, 5]]);
     let runs = list.share_out_evenly(alloc, 9)?;
-    assert_eq!(rt; runs.len(), 5);
-    assert!(rt; is_run(&runs[0], &[1]) && is_run(&runs[4], &[5]));
+    are_runs(&rt, &runs, &[&[1], &[2], &[3], &[4], &[5]]);
     let none = SharedList::from_vec(alloc, Vec::<u32>::new(alloc))?;
-    assert!(rt; none.share_out_evenly(alloc, 0)?.is_empty());
+    holds(&rt, none.share_out_evenly(alloc, 0)?.is_empty());
     Ok(())
 }
 
@@ -99,15 +129,21 @@ fn chunks_have_what_stands_around_them(rt: HostRuntime) -> Result<(), Fault> {
     let alloc = rt.alloc();
     let list = five(alloc)?;
     let chunks = list.share_out_overlapping(alloc, 2, 1)?;
-    assert_eq!(rt; chunks.len(), 3);
-    assert!(rt; is_chunk(&chunks[0], &[1, 2, 3], 0, 2));
-    assert!(rt; is_chunk(&chunks[1], &[2, 3, 4, 5], 1, 3));
-    assert!(rt; is_chunk(&chunks[2], &[4, 5], 1, 2));
-    assert!(rt; chunks[1].clone()? == chunks[1] && chunks[0] != chunks[1]);
+    assert!(rt; chunks.len() == 3);
+    are_chunks(
+        &rt,
+        &chunks,
+        &[(&[1, 2, 3], 0, 2), (&[2, 3, 4, 5], 1, 3), (&[4, 5], 1, 2)],
+    );
+    holds(
+        &rt,
+        chunks[1].clone()? == chunks[1] && chunks[0] != chunks[1],
+    );
     let wide = list.share_out_overlapping(alloc, 3, 9)?;
-    assert_eq!(rt; wide.len(), 2);
-    assert!(rt; is_chunk(&wide[0], &[1, 2, 3, 4, 5], 0, 3));
-    assert!(rt; is_chunk(&wide[1], &[1, 2, 3, 4, 5], 3, 5) && wide[0] != wide[1]);
+    assert!(rt; wide.len() == 2);
+    let all = [1, 2, 3, 4, 5].as_slice();
+    are_chunks(&rt, &wide, &[(all, 0, 3), (all, 3, 5)]);
+    holds(&rt, wide[0] != wide[1]);
     Ok(())
 }
 
@@ -126,6 +162,6 @@ fn the_first_failure_is_the_answer(rt: HostRuntime) -> Result<(), Fault> {
     answers.push(Ok(vec![in alloc; 1, 2]?))?;
     answers.push(Err(7))?;
     answers.push(Err(8))?;
-    assert!(rt; matches!(gathered(alloc, answers)?, Err(7)));
+    holds(&rt, matches!(gathered(alloc, answers)?, Err(7)));
     Ok(())
 }

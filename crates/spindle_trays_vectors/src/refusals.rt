@@ -5,7 +5,7 @@
 
 ghost use Rattle.std.specs.Prelude.{◌<◌};
 
-use crate::checks::is;
+use crate::checks::{holds, is};
 use crate::jobs::{Calls, Counting, Square};
 use crate::sevens::{are_seven_squares, seven_items, unopened_or};
 use spindle_parts::fault::Fault;
@@ -84,12 +84,12 @@ fn refused_lock_opens_when_asked_again(rt: HostRuntime) -> Result<(), Fault> {
         match answer {
             Ok(round) => round?,
             Err(fault) => {
-                assert!(rt; matches!(fault, Fault::Memory));
+                holds(&rt, matches!(fault, Fault::Memory));
                 is(&rt, opened.load(Ordering::SeqCst), before);
             }
         }
     }
-    assert!(rt; opened.load(Ordering::SeqCst) > 0);
+    holds(&rt, opened.load(Ordering::SeqCst) > 0);
     Ok(())
 }
 
@@ -107,12 +107,12 @@ fn square_seven_items<H: Threads + Wait + Abort + Sync>(
     let squares = match leader.for_each(rt, alloc, jobs, seven_items(alloc)?) {
         Ok(squares) => squares,
         Err(fault) => {
-            assert!(rt; matches!(fault, Fault::Memory));
+            holds(rt, matches!(fault, Fault::Memory));
             is(rt, calls.in_all(), before);
             leader.for_each(rt, alloc, jobs, seven_items(alloc)?)?
         }
     };
-    assert!(rt; are_seven_squares(squares.as_slice()));
+    holds(rt, are_seven_squares(squares.as_slice()));
     let after = (before.0.wrapping_add(jobs), before.1.wrapping_add(jobs));
     is(rt, calls.in_all(), after);
     Ok(())
@@ -129,12 +129,12 @@ fn refused_round_over_numbers_has_run_no_job(rt: HostRuntime) -> Result<(), Faul
         let squares = match leader.for_each_raw(&rt, alloc, 7) {
             Ok(squares) => squares,
             Err(fault) => {
-                assert!(rt; matches!(fault, Fault::Memory));
+                holds(&rt, matches!(fault, Fault::Memory));
                 is(&rt, calls.in_all(), (0, 0));
                 leader.for_each_raw(&rt, alloc, 7)?
             }
         };
-        assert!(rt; are_seven_squares(squares.as_slice()));
+        holds(&rt, are_seven_squares(squares.as_slice()));
         is(&rt, calls.in_all(), (7, 7));
         Ok::<(), Fault>(())
     });
@@ -148,10 +148,10 @@ fn more_numbers_than_memory_holds_are_refused(rt: HostRuntime) -> Result<(), Fau
     let pool = Pool::new(4, Limits::new(), Counting { calls: &calls });
     with_lock::<Square, _, _, _, _, _>(&rt, alloc, &pool, 4, |leader| {
         let refused = leader.for_each_raw(&rt, alloc, usize::MAX);
-        assert!(rt; matches!(refused, Err(Fault::Memory)));
+        holds(&rt, matches!(refused, Err(Fault::Memory)));
         is(&rt, calls.in_all(), (0, 0));
         let squares = leader.for_each_raw(&rt, alloc, 7);
-        assert!(rt; matches!(squares, Ok(_) | Err(Fault::Memory)));
+        holds(&rt, matches!(squares, Ok(_) | Err(Fault::Memory)));
         Ok::<(), Fault>(())
     })?
 }
@@ -167,11 +167,11 @@ fn refused_nothing_where_nothing_is_run(rt: HostRuntime) -> Result<(), Fault> {
         opened.fetch_add(1, Ordering::SeqCst);
         for jobs in [0, 1, 4, usize::MAX] {
             let outputs = leader.for_each(&rt, alloc, jobs, Vec::new(alloc))?;
-            assert!(rt; outputs.is_empty());
+            holds(&rt, outputs.is_empty());
             is(&rt, outputs.capacity(), 0);
         }
         let outputs = leader.for_each_raw(&rt, alloc, 0)?;
-        assert!(rt; outputs.is_empty());
+        holds(&rt, outputs.is_empty());
         is(&rt, outputs.capacity(), 0);
         is(&rt, calls.in_all(), (0, 0));
         Ok::<(), Fault>(())

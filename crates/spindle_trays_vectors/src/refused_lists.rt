@@ -6,7 +6,7 @@
 
 ghost use Rattle.std.specs.Prelude.{◌<◌};
 
-use crate::checks::are;
+use crate::checks::{are, holds};
 use crate::lists::{Length, are_three_numbers, seven_clones, three_numbers};
 use spindle_parts::fault::Fault;
 use spindle_trays::crew::limits::Limits;
@@ -30,7 +30,7 @@ fn list_comes_out_again<H: Threads + Wait + Abort + Sync>(
 {
     let list = three_numbers(alloc)?;
     let lengths = leader.for_each(rt, alloc, jobs, seven_clones(alloc, &list)?);
-    assert!(rt; are_three_numbers(list), "a clone of the list is kept");
+    holds(rt, are_three_numbers(list));
     are(rt, lengths?.as_slice(), &[3; 7]);
     Ok(())
 }
@@ -48,15 +48,15 @@ fn lists_come_out_again<H: Threads + Wait + Abort + Sync>(
         let mut refused = 0usize;
         for jobs in [3, 4, 7] {
             if let Err(fault) = list_comes_out_again(rt, alloc, leader, jobs) {
-                assert!(rt; matches!(fault, Fault::Memory));
+                holds(rt, matches!(fault, Fault::Memory));
                 refused = refused.wrapping_add(1);
             }
         }
         refused
     });
     match rounds {
-        Ok(refused) => assert!(rt; refused <= 1),
-        Err(fault) => assert!(rt; matches!(fault, Fault::Memory)),
+        Ok(refused) => holds(rt, refused <= 1),
+        Err(fault) => holds(rt, matches!(fault, Fault::Memory)),
     }
     Ok(())
 }

@@ -5,7 +5,7 @@
 
 ghost use Rattle.std.specs.Prelude.{◌<◌};
 
-use crate::checks::is;
+use crate::checks::{holds, is};
 use crate::jobs::{Calls, Counting};
 use crate::lists::{Length, are_three_numbers, seven_clones, three_numbers};
 use crate::sevens::unopened_or;
@@ -47,14 +47,14 @@ fn try_seven_items<H: Threads + Wait + Abort + Sync>(
     let before = calls.in_all();
     let items = seven_items(alloc, every)?;
     if let Err(fault) = leader.try_for_each_into(rt, alloc, jobs, items, report) {
-        assert!(rt; matches!(fault, Fault::Memory));
-        assert!(rt; report.ran.is_empty() && report.skipped.is_empty());
+        holds(rt, matches!(fault, Fault::Memory));
+        holds(rt, report.ran.is_empty() && report.skipped.is_empty());
         is(rt, calls.in_all(), before);
         let items = seven_items(alloc, every)?;
         leader.try_for_each_into(rt, alloc, jobs, items, report)?;
     }
     let ran = report.ran.len();
-    assert!(rt; is_report(report, 7, jobs));
+    holds(rt, is_report(report, 7, jobs));
     is(rt, report.first_failed::<Trying>().is_some(), every > 0);
     let after = (before.0.wrapping_add(ran), before.1.wrapping_add(ran));
     is(rt, calls.in_all(), after);
@@ -124,7 +124,7 @@ fn refused_nothing_where_nothing_is_tried(rt: HostRuntime) -> Result<(), Fault> 
         opened.fetch_add(1, Ordering::SeqCst);
         for jobs in [0, 1, 4, usize::MAX] {
             let report = leader.try_for_each(&rt, alloc, jobs, Vec::new(alloc))?;
-            assert!(rt; report.ran.is_empty() && report.skipped.is_empty());
+            holds(&rt, report.ran.is_empty() && report.skipped.is_empty());
         }
         is(&rt, calls.in_all(), (0, 0));
         Ok::<(), Fault>(())
@@ -143,7 +143,7 @@ fn list_comes_out_again<H: Threads + Wait + Abort + Sync>(
 {
     let list = three_numbers(alloc)?;
     let report = leader.try_for_each(rt, alloc, jobs, seven_clones(alloc, &list)?);
-    assert!(rt; are_three_numbers(list), "a clone of the list is kept");
+    holds(rt, are_three_numbers(list));
     let report = report?;
     is(rt, (report.ran.len(), report.skipped.len()), (jobs, 0));
     Ok(())
@@ -162,15 +162,15 @@ fn lists_come_out_again<H: Threads + Wait + Abort + Sync>(
         let mut refused = 0usize;
         for jobs in [1, 3, 7] {
             if let Err(fault) = list_comes_out_again(rt, alloc, leader, jobs) {
-                assert!(rt; matches!(fault, Fault::Memory));
+                holds(rt, matches!(fault, Fault::Memory));
                 refused = refused.wrapping_add(1);
             }
         }
         refused
     });
     match rounds {
-        Ok(refused) => assert!(rt; refused <= 1),
-        Err(fault) => assert!(rt; matches!(fault, Fault::Memory)),
+        Ok(refused) => holds(rt, refused <= 1),
+        Err(fault) => holds(rt, matches!(fault, Fault::Memory)),
     }
     Ok(())
 }

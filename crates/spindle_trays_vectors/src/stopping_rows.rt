@@ -3,7 +3,7 @@
 //! What is certain of several threads is what a thread does after a piece of its own has failed: it begins nothing more.
 ghost use Rattle.std.specs.Prelude.{◌<◌};
 
-use crate::checks::{are, is};
+use crate::checks::{are, holds, is};
 use crate::crossings::Crossings;
 use crate::gates::Meetings;
 use crate::trying::{Trying, is_report, items, report_of};
@@ -45,7 +45,7 @@ fn runs_and_skips<H: Threads + Wait + Abort + Sync>(
 {
     let count = items.len();
     let report = report_of(rt, alloc, threads, jobs, items)?;
-    assert!(rt; is_report(&report, count, count.min(jobs)));
+    holds(rt, is_report(&report, count, count.min(jobs)));
     are(rt, &ran_of(alloc, &report)?, wanted.0);
     are(rt, &report.skipped, wanted.1);
     Ok(())
@@ -95,7 +95,7 @@ fn eight_threads_that_meet_and_fail_run_a_piece_each(rt: HostRuntime) -> Result<
     with_lock::<Trying, _, _, _, _, _>(&rt, alloc, &meetings.pool(8), 8, |leader| {
         for _ in 0..20 {
             let report = leader.try_for_each(&rt, alloc, 64, items(alloc, 64, 1)?)?;
-            assert!(rt; is_report(&report, 64, 64));
+            holds(&rt, is_report(&report, 64, 64));
             are(
                 &rt,
                 &ran_of(alloc, &report)?,
@@ -122,7 +122,7 @@ fn crossed_and_skipped<H: Threads + Wait + Abort + Sync>(
     with_lock::<Trying, _, _, _, _, _>(rt, alloc, &pool, 2, |leader| {
         for _ in 0..100 {
             let report = leader.try_for_each(rt, alloc, 16, items_but(alloc, 16, bad)?)?;
-            assert!(rt; is_report(&report, 16, 16));
+            holds(rt, is_report(&report, 16, 16));
             is(rt, report.skipped.contains(&number), is_skipped);
         }
         Ok::<(), Fault>(())

@@ -1,7 +1,7 @@
 //! Rows of rounds that several threads run: idle threads that sleep at once, jobs that wait for each other, and locks
 //! some of whose threads can't be started.
 
-use crate::checks::{are, is};
+use crate::checks::{are, holds, is};
 use crate::gates::Meetings;
 use crate::jobs::{Calls, Counting, Place, Square, one_each};
 use crate::rounds::{round_of, square_often, square_raw_often};
@@ -57,7 +57,7 @@ fn four_threads_at_once_have_four_numbers(rt: HostRuntime) -> Result<(), Fault> 
     let items = vec![in alloc; 0, 1, 2, 3]?;
     let places = round_of::<Place, _, _>(&rt, alloc, &meetings.pool(4), 4, 4, items)?;
     is(&rt, meetings.counts(), (4, 0));
-    assert!(rt; one_each(&places, 4));
+    holds(&rt, one_each(&places, 4));
     Ok(())
 }
 
@@ -68,9 +68,9 @@ fn two_jobs_that_met_each_count_two_threads(rt: HostRuntime) -> Result<(), Fault
     let meetings = Meetings::new();
     let pool = meetings.pool(2);
     with_lock::<Place, _, _, _, _, _>(&rt, alloc, &pool, 2, |leader| {
-        for round in 0..50 {
+        for _ in 0..50 {
             let places = leader.for_each(&rt, alloc, 2, vec![in alloc; 0, 1]?)?;
-            assert_eq!(rt; (places[0].1, places[1].1), (2, 2), "round {round}");
+            is(&rt, (places[0].1, places[1].1), (2, 2));
         }
         Ok::<(), Fault>(())
     })??;
@@ -89,11 +89,11 @@ fn a_leader_with_helpers_has_no_number_outside_a_published_round(
             is(&rt, leader.max_num_threads(), 4);
             is(&rt, leader.current_thread_index(), None);
             for place in leader.for_each(&rt, alloc, 1, vec![in alloc; 0, 1]?)? {
-                assert!(rt; place.0.is_none());
+                holds(&rt, place.0.is_none());
                 is(&rt, place.2, 4);
             }
             for place in leader.for_each(&rt, alloc, 2, vec![in alloc; 0, 1]?)? {
-                assert!(rt; matches!(place.0, Some(0..=3)));
+                holds(&rt, matches!(place.0, Some(0..=3)));
             }
         }
         Ok::<(), Fault>(())

@@ -1,7 +1,7 @@
 //! What a leader gathers where a piece is missing or a stranger stands in its place, played on the trays by one thread, since
 //! no round of a lock loses a piece: the least of these numbers is lost, and the trays keep nothing.
 
-use crate::checks::{are, is};
+use crate::checks::{are, holds, is};
 use crate::gathering_rows::squared;
 use crate::jobs::Square;
 use spindle_lists::SharedList;
@@ -29,18 +29,18 @@ fn gathered<H: Wait + Abort>(
     trays.hand_out(rt, alloc, &pieces, &mut Spares::none(alloc))?;
     for (number, item) in brought_back {
         if *number < 5 {
-            assert!(rt; trays.take(rt, 5, *number).is_some());
-            assert!(rt; trays.take(rt, 5, *number).is_none());
+            holds(rt, trays.take(rt, 5, *number).is_some());
+            holds(rt, trays.take(rt, 5, *number).is_none());
         }
         let finished = squared(alloc, *number, *item)?;
         if finished.number() < 5 {
-            assert!(rt; trays.put(rt, 5, finished).is_ok());
+            holds(rt, trays.put(rt, 5, finished).is_ok());
         }
     }
     let mut outputs = Vec::with_capacity(alloc, len)?;
     let answer = trays.gather(rt, &pieces, &mut outputs);
     drop(pieces);
-    assert!(rt; kept.try_into_vec().is_ok(), "a tray keeps a piece");
+    holds(rt, kept.try_into_vec().is_ok());
     Ok((answer, outputs))
 }
 

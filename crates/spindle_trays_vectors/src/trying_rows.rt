@@ -1,6 +1,6 @@
 //! Rows of rounds that may stop.
 
-use crate::checks::{are, is};
+use crate::checks::{are, holds, is};
 use crate::gates::Meetings;
 use crate::jobs::{Calls, Counting};
 use crate::trying::{Trying, is_report, items, report_in, report_of};
@@ -15,12 +15,12 @@ use spindle_trays::lock::root::with_lock;
 fn a_leader_alone_runs_the_pieces_up_to_the_first_that_fails(rt: HostRuntime) -> Result<(), Fault> {
     let alloc = rt.alloc();
     let report = report_of(&rt, alloc, 1, 6, items(alloc, 6, 3)?)?;
-    assert!(rt; is_report(&report, 6, 6));
+    holds(&rt, is_report(&report, 6, 6));
     are(&rt, &report.skipped, &[3, 4, 5]);
     assert!(rt; report.ran.len() == 3 && report.ran[2].0 == 2);
     are(&rt, report.ran[2].1.as_slice(), &[(2, true)]);
     let report = report_of(&rt, alloc, 1, 2, items(alloc, 5, 2)?)?;
-    assert!(rt; is_report(&report, 5, 2));
+    holds(&rt, is_report(&report, 5, 2));
     are(&rt, &report.skipped, &[1]);
     Ok(())
 }
@@ -30,11 +30,11 @@ fn one_job_and_no_job_skip_nothing(rt: HostRuntime) -> Result<(), Fault> {
     let alloc = rt.alloc();
     for threads in [1, 4] {
         let report = report_of(&rt, alloc, threads, 1, items(alloc, 5, 1)?)?;
-        assert!(rt; is_report(&report, 5, 1) && report.ran.len() == 1);
+        holds(&rt, is_report(&report, 5, 1) && report.ran.len() == 1);
         let report = report_of(&rt, alloc, threads, 8, items(alloc, 1, 1)?)?;
-        assert!(rt; is_report(&report, 1, 1) && report.ran.len() == 1);
+        holds(&rt, is_report(&report, 1, 1) && report.ran.len() == 1);
         let report = report_of(&rt, alloc, threads, 1, Vec::new(alloc))?;
-        assert!(rt; report.ran.is_empty() && report.skipped.is_empty());
+        holds(&rt, report.ran.is_empty() && report.skipped.is_empty());
     }
     Ok(())
 }
@@ -44,8 +44,8 @@ fn a_round_in_which_nothing_fails_runs_every_piece(rt: HostRuntime) -> Result<()
     let alloc = rt.alloc();
     for (threads, jobs) in [(1, 6), (4, 6), (4, 2), (8, 64), (2, 100)] {
         let report = report_of(&rt, alloc, threads, jobs, items(alloc, 100, 0)?)?;
-        assert!(rt; is_report(&report, 100, jobs));
-        assert!(rt; report.skipped.is_empty());
+        holds(&rt, is_report(&report, 100, jobs));
+        holds(&rt, report.skipped.is_empty());
     }
     Ok(())
 }
@@ -55,7 +55,7 @@ fn both_jobs_of_a_round_that_may_stop_meet(rt: HostRuntime) -> Result<(), Fault>
     let alloc = rt.alloc();
     let meetings = Meetings::new();
     let report = report_in(&rt, alloc, &meetings.pool(2), 2, items(alloc, 2, 0)?)?;
-    assert!(rt; is_report(&report, 2, 2) && report.skipped.is_empty());
+    holds(&rt, is_report(&report, 2, 2) && report.skipped.is_empty());
     is(&rt, meetings.counts(), (2, 0));
     Ok(())
 }
@@ -67,8 +67,8 @@ fn every_job_may_fail_at_once(rt: HostRuntime) -> Result<(), Fault> {
     with_lock::<Trying, _, _, _, _, _>(&rt, alloc, &pool, 8, |leader| {
         for _ in 0..50 {
             let report = leader.try_for_each(&rt, alloc, 64, items(alloc, 64, 1)?)?;
-            assert!(rt; is_report(&report, 64, 64));
-            assert!(rt; !report.ran.is_empty());
+            holds(&rt, is_report(&report, 64, 64));
+            holds(&rt, !report.ran.is_empty());
         }
         Ok::<(), Fault>(())
     })?
@@ -85,7 +85,7 @@ fn a_lock_works_on_after_a_thousand_stopped_rounds(rt: HostRuntime) -> Result<()
             let every = 1 + round % 20;
             let pieces = jobs.min(count as usize);
             let report = leader.try_for_each(&rt, alloc, jobs, items(alloc, count, every)?)?;
-            assert!(rt; is_report(&report, count as usize, pieces));
+            holds(&rt, is_report(&report, count as usize, pieces));
             let outputs = leader.for_each(&rt, alloc, jobs, items(alloc, count, every)?)?;
             are(&rt, &outputs, &items(alloc, count, every)?);
         }
@@ -101,7 +101,7 @@ fn the_gate_is_called_once_for_each_piece_that_ran(rt: HostRuntime) -> Result<()
         let pool = Pool::new(threads, Limits::new(), Counting { calls: &calls });
         let report = report_in(&rt, alloc, &pool, 30, items(alloc, 30, 7)?)?;
         let ran = report.ran.len();
-        assert!(rt; is_report(&report, 30, 30));
+        holds(&rt, is_report(&report, 30, 30));
         is(&rt, calls.in_all(), (ran, ran));
     }
     Ok(())
@@ -157,11 +157,11 @@ fn a_report_that_is_kept_is_that_of_the_last_round(rt: HostRuntime) -> Result<()
                     items(alloc, count, every)?,
                     &mut report,
                 )?;
-                assert!(rt; is_report(&report, count as usize, pieces));
+                holds(&rt, is_report(&report, count as usize, pieces));
                 is(&rt, report.first_failed::<Trying>().is_some(), every > 0);
             }
             leader.try_for_each_into(&rt, alloc, 4, Vec::new(alloc), &mut report)?;
-            assert!(rt; report.ran.is_empty() && report.skipped.is_empty());
+            holds(&rt, report.ran.is_empty() && report.skipped.is_empty());
             Ok::<(), Fault>(())
         })??;
     }

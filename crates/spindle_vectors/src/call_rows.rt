@@ -3,7 +3,7 @@
 ghost use Rattle.std.specs.Prelude.{◌≡◌, ◌<◌};
 ghost use denote.Param.Send.{IsSync};
 
-use crate::checks::{are, is};
+use crate::checks::{are, holds, is};
 use crate::chunks::{AddOne, Halve, LastOdd, Odd};
 use crate::jobs::{Calls, Counting, Place, Square};
 use spindle::lock::{ChunkRounds, Limits, NoGate, Pool, Rounds};
@@ -23,7 +23,7 @@ fn one_call_answers_in_order(rt: HostRuntime) -> Result<(), Fault> {
         let squares = run_one::<Square>(&rt, alloc, &pool, jobs, numbers)?;
         are(&rt, &squares, &[0, 1, 4, 9, 16, 25, 36, 49, 64, 81]);
         let squares = run_one::<Square>(&rt, alloc, &pool, jobs, Vec::new(alloc))?;
-        assert!(rt; squares.is_empty());
+        holds(&rt, squares.is_empty());
     }
     Ok(())
 }
@@ -51,7 +51,7 @@ fn the_lock_of_one_call_has_no_more_threads_than_jobs(rt: HostRuntime) -> Result
     for (jobs, threads) in [(0, 4), (1, 1), (2, 2), (4, 4), (9, 4)] {
         let numbers = vec![in alloc; 0, 1, 2, 3, 4, 5, 6, 7, 8, 9]?;
         let places = run_one::<Place>(&rt, alloc, &pool, jobs, numbers)?;
-        assert!(rt; places.iter().all(|place| place.2 == threads));
+        holds(&rt, places.iter().all(|place| place.2 == threads));
     }
     Ok(())
 }
@@ -117,7 +117,7 @@ fn the_first_chunk_that_fails_is_answered(rt: HostRuntime) -> Result<(), Fault> 
             };
             are(&rt, &halves, &[1, 3, 2, 0]);
             let failed = leader.map_chunks(&rt, alloc, jobs, &odd)?;
-            assert!(rt; matches!(failed, Err(Odd::Element(5))));
+            holds(&rt, matches!(failed, Err(Odd::Element(5))));
         }
         Ok::<(), Fault>(())
     })?

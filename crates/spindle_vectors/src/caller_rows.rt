@@ -1,7 +1,7 @@
 //! Rows of the callers: what they promise, with numbers.
 
 use crate::callers;
-use crate::checks::are;
+use crate::checks::{are, holds};
 use crate::jobs::Square;
 use spindle::lock::{Limits, NoGate, Pool};
 use spindle::{Fault, with_lock};
@@ -14,7 +14,7 @@ fn chunks_of_a_list_become_one_more(rt: HostRuntime) -> Result<(), Fault> {
     let sums = callers::one_more_each(&rt, alloc, &pool, 3, numbers)?;
     are(&rt, &sums, &[4, 2, 5, 2, 6, 4294967296, 3]);
     let none = callers::one_more_each(&rt, alloc, &pool, 3, Vec::new(alloc))?;
-    assert!(rt; none.is_empty());
+    holds(&rt, none.is_empty());
     Ok(())
 }
 

@@ -1,7 +1,7 @@
 //! Rows of lists that run outside a lock, and of a pool of the machine's size.
 
 use crate::callers;
-use crate::checks::{are, is};
+use crate::checks::{are, holds, is};
 use crate::sevens::{are_seven_squares, seven_items};
 use spindle::lock::{Limits, NoGate, Pool};
 use spindle::{DEFAULT_PAUSE_LIMIT, DEFAULT_SPIN_LIMIT, Fault, for_each, for_each_raw};
@@ -50,7 +50,7 @@ fn four_numbers_are_squared_and_none_answer_nothing(rt: HostRuntime) -> Result<(
     let squares = for_each_raw(&rt, alloc, &pool, 4, |n| n.wrapping_mul(n))?;
     are(&rt, &squares, &[0, 1, 4, 9]);
     let none = for_each_raw(&rt, alloc, &pool, 0, |n| n.wrapping_mul(n))?;
-    assert!(rt; none.is_empty());
+    holds(&rt, none.is_empty());
     Ok(())
 }
 
@@ -61,7 +61,7 @@ fn a_list_of_nothing_answers_nothing_for_each_number_of_jobs(rt: HostRuntime) ->
         let pool = Pool::new(threads, Limits::new(), NoGate);
         for jobs in [0, 1, 5] {
             let none = for_each(&rt, alloc, &pool, jobs, Vec::new(alloc), |x: u64| x)?;
-            assert!(rt; none.is_empty());
+            holds(&rt, none.is_empty());
         }
     }
     Ok(())
@@ -192,11 +192,11 @@ fn refused_list_outside_a_lock_answers_when_asked_again(rt: HostRuntime) -> Resu
         let squares = match for_each(&rt, alloc, &pool, 7, seven_items(alloc)?, square) {
             Ok(squares) => squares,
             Err(fault) => {
-                assert!(rt; matches!(fault, Fault::Memory));
+                holds(&rt, matches!(fault, Fault::Memory));
                 for_each(&rt, alloc, &pool, 7, seven_items(alloc)?, square)?
             }
         };
-        assert!(rt; are_seven_squares(squares.as_slice()));
+        holds(&rt, are_seven_squares(squares.as_slice()));
     }
     Ok(())
 }
@@ -210,11 +210,11 @@ fn refused_numbers_outside_a_lock_answer_when_asked_again(rt: HostRuntime) -> Re
         let squares = match for_each_raw(&rt, alloc, &pool, 7, square) {
             Ok(squares) => squares,
             Err(fault) => {
-                assert!(rt; matches!(fault, Fault::Memory));
+                holds(&rt, matches!(fault, Fault::Memory));
                 for_each_raw(&rt, alloc, &pool, 7, square)?
             }
         };
-        assert!(rt; are_seven_squares(squares.as_slice()));
+        holds(&rt, are_seven_squares(squares.as_slice()));
     }
     Ok(())
 }

@@ -4,7 +4,7 @@
 //! Each of these tests ends well whichever one of its allocations is refused. With memory for all, they show the full answers.
 ghost use Rattle.std.specs.Prelude.{◌<◌};
 
-use crate::checks::{are, is};
+use crate::checks::{are, holds, is};
 use crate::chunks::{Halve, LastOdd};
 use crate::jobs::{Calls, Counting, Square};
 use crate::sevens::{are_seven_squares, seven_items};
@@ -21,12 +21,12 @@ fn refused_call_of_one_round_has_run_no_job(rt: HostRuntime) -> Result<(), Fault
         let squares = match run_one::<Square>(&rt, alloc, &pool, jobs, seven_items(alloc)?) {
             Ok(squares) => squares,
             Err(fault) => {
-                assert!(rt; matches!(fault, Fault::Memory));
+                holds(&rt, matches!(fault, Fault::Memory));
                 is(&rt, calls.in_all(), (0, 0));
                 run_one::<Square>(&rt, alloc, &pool, jobs, seven_items(alloc)?)?
             }
         };
-        assert!(rt; are_seven_squares(squares.as_slice()));
+        holds(&rt, are_seven_squares(squares.as_slice()));
         is(&rt, calls.in_all(), (jobs, jobs));
     }
     Ok(())
@@ -53,7 +53,7 @@ fn refused_fold_has_run_no_job(rt: HostRuntime) -> Result<(), Fault> {
     let total = match reduce::<LastOdd>(&rt, alloc, &pool, 0, &list) {
         Ok(total) => total,
         Err(fault) => {
-            assert!(rt; matches!(fault, Fault::Memory));
+            holds(&rt, matches!(fault, Fault::Memory));
             is(&rt, calls.in_all(), (0, 0));
             reduce::<LastOdd>(&rt, alloc, &pool, 0, &list)?
         }
@@ -94,7 +94,7 @@ fn refused_round_over_chunks_is_answered_when_asked_again(rt: HostRuntime) -> Re
             full = full.wrapping_add(1);
         }
     }
-    assert!(rt; 0 < full);
+    holds(&rt, 0 < full);
     Ok(())
 }
 
@@ -109,7 +109,7 @@ fn refused_round_into_a_kept_list_leaves_it_empty(rt: HostRuntime) -> Result<(),
         leader.for_each_into(&rt, alloc, 4, &mut items, &mut squares)
     });
     if let Ok(Ok(())) = played {
-        assert!(rt; are_seven_squares(squares.as_slice()));
+        holds(&rt, are_seven_squares(squares.as_slice()));
         is(&rt, calls.in_all(), (4, 4));
     } else {
         is(&rt, (squares.len(), calls.in_all()), (0, (0, 0)));
