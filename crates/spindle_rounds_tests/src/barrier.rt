@@ -6,7 +6,8 @@ ghost use Rattle.spindle_rounds.specs.Working.{IsIdle};
 ghost use Rattle.spindle_rounds.specs.declared.round_table.view.Standing.TheVariants.{Away};
 ghost use Rattle.spindle_rounds.specs.Seating.{IsSeatAt};
 
-use crate::checks::is;
+use self::parties::{arrive, arrive_last, go_out, join};
+use crate::checks::{holds, is};
 use spindle_parts::fault::Fault;
 use spindle_rounds::barrier::ending::AfterEnd;
 use spindle_rounds::barrier::leaving::{Exit, Leave};
@@ -17,48 +18,41 @@ use spindle_rounds::round::Round;
 use spindle_rounds::round_table::slots::Bare;
 use spindle_rounds::round_table::{BARRIER, Seat};
 use std::alloc::{AllocError, Global};
+use std::process::Abort;
 use std::sync::Wait;
 use std::test::Fail;
 use std::thread;
 use std::thread::Threads;
 
 mod asking;
+mod parties;
 
 fn word(init: &BarrierInit<Bare>) -> u64 {
     init.peek(BARRIER)
+}
+
+/// The barrier word, and how many parties it says are members.
+fn shown(init: &BarrierInit<Bare>) -> (u64, usize) {
+    (word(init), init.current_num_threads())
 }
 
 #[test]
 fn the_last_to_arrive_ends_the_round(rt: HostRuntime) -> Result<(), Fail> {
     let (init, mut seat) = BarrierInit::new(rt.alloc())?;
     let other = init.new_seat(&mut seat);
-    let Ok(mut zero) = init.try_join(seat, 0) else {
-        return Err(Fail::new("the first join was refused"));
-    };
+    let mut zero = join(&rt, &init, seat, 0);
     is(&rt, word(&init), 0x0001_0001);
-    let Ok(mut one) = init.try_join(other, 1) else {
-        return Err(Fail::new("the second join was refused"));
-    };
+    let mut one = join(&rt, &init, other, 1);
     is(&rt, word(&init), 0x0002_0002);
-    let Arrival::Arrived = zero.arrive() else {
-        return Err(Fail::new("the first to arrive closes"));
-    };
-    is(&rt, word(&init), 0x0002_0001);
-    is(&rt, init.current_num_threads(), 2);
-    let Arrival::Closer = one.arrive() else {
-        return Err(Fail::new("the last to arrive doesn't close"));
-    };
+    arrive(&rt, &mut zero);
+    is(&rt, shown(&init), (0x0002_0001, 2));
+    arrive_last(&rt, &mut one);
     is(&rt, word(&init), 0x0002_0000);
-    let Leave::Closing(_zero) = zero.try_leave() else {
-        return Err(Fail::new("a leave while the round closes"));
-    };
+    holds(&rt, matches!(zero.try_leave(), Leave::Closing(_)));
     one.clear();
     is(&rt, word(&init), 0x0002_0000);
-    let AfterEnd::Next(_one) = one.end() else {
-        return Err(Fail::new("the closer isn't in the next round"));
-    };
-    is(&rt, word(&init), 0x8002_0002);
-    is(&rt, init.current_num_threads(), 2);
+    holds(&rt, matches!(one.end(), AfterEnd::Next(_)));
+    is(&rt, shown(&init), (0x8002_0002, 2));
     Ok(())
 }
 
@@ -66,31 +60,18 @@ fn the_last_to_arrive_ends_the_round(rt: HostRuntime) -> Result<(), Fail> {
 fn a_leave_before_the_last_arrival_stands(rt: HostRuntime) -> Result<(), Fail> {
     let (init, mut seat) = BarrierInit::new(rt.alloc())?;
     let other = init.new_seat(&mut seat);
-    let Ok(mut zero) = init.try_join(seat, 0) else {
-        return Err(Fail::new("the first join was refused"));
-    };
-    let Ok(mut one) = init.try_join(other, 1) else {
-        return Err(Fail::new("the second join was refused"));
-    };
+    let mut zero = join(&rt, &init, seat, 0);
+    let mut one = join(&rt, &init, other, 1);
     is(&rt, word(&init), 0x0002_0002);
-    let Arrival::Arrived = zero.arrive() else {
-        return Err(Fail::new("the first to arrive closes"));
-    };
+    arrive(&rt, &mut zero);
     is(&rt, word(&init), 0x0002_0001);
-    let Leave::Left(_seat) = zero.try_leave() else {
-        return Err(Fail::new("the leave failed"));
-    };
+    holds(&rt, matches!(zero.try_leave(), Leave::Left(_)));
     is(&rt, word(&init), 0x0001_0001);
-    let Arrival::Closer = one.arrive() else {
-        return Err(Fail::new("the last to arrive doesn't close"));
-    };
+    arrive_last(&rt, &mut one);
     is(&rt, word(&init), 0x0001_0000);
     one.clear();
-    let AfterEnd::Next(_one) = one.end() else {
-        return Err(Fail::new("the closer isn't in the next round"));
-    };
-    is(&rt, word(&init), 0x8001_0001);
-    is(&rt, init.current_num_threads(), 1);
+    holds(&rt, matches!(one.end(), AfterEnd::Next(_)));
+    is(&rt, shown(&init), (0x8001_0001, 1));
     Ok(())
 }
 
@@ -98,18 +79,11 @@ fn a_leave_before_the_last_arrival_stands(rt: HostRuntime) -> Result<(), Fail> {
 fn a_sole_party_that_exits_ends_the_round(rt: HostRuntime) -> Result<(), Fail> {
     let (init, mut seat) = BarrierInit::new(rt.alloc())?;
     let other = init.new_seat(&mut seat);
-    let Ok(zero) = init.try_join(seat, 0) else {
-        return Err(Fail::new("the first join was refused"));
-    };
+    let zero = join(&rt, &init, seat, 0);
     is(&rt, word(&init), 0x0001_0001);
-    let Exit::Gone(_seat) = zero.try_exit() else {
-        return Err(Fail::new("the exit failed"));
-    };
-    is(&rt, word(&init), 0x8000_0000);
-    is(&rt, init.current_num_threads(), 0);
-    let Ok(_one) = init.try_join(other, 1) else {
-        return Err(Fail::new("the second join was refused"));
-    };
+    go_out(&rt, zero);
+    is(&rt, shown(&init), (0x8000_0000, 0));
+    let _one = join(&rt, &init, other, 1);
     is(&rt, word(&init), 0x8001_0001);
     Ok(())
 }
@@ -118,38 +92,38 @@ fn a_sole_party_that_exits_ends_the_round(rt: HostRuntime) -> Result<(), Fail> {
 fn one_that_exits_after_all_have_arrived_closes(rt: HostRuntime) -> Result<(), Fail> {
     let (init, mut seat) = BarrierInit::new(rt.alloc())?;
     let other = init.new_seat(&mut seat);
-    let Ok(mut zero) = init.try_join(seat, 0) else {
-        return Err(Fail::new("the first join was refused"));
-    };
-    let Ok(one) = init.try_join(other, 1) else {
-        return Err(Fail::new("the second join was refused"));
-    };
-    let Arrival::Arrived = zero.arrive() else {
-        return Err(Fail::new("the first to arrive closes"));
-    };
+    let mut zero = join(&rt, &init, seat, 0);
+    let one = join(&rt, &init, other, 1);
+    arrive(&rt, &mut zero);
     let Exit::Closer(mut one) = one.try_exit() else {
         return Err(Fail::new("whom the others wait for doesn't close"));
     };
     is(&rt, word(&init), 0x0001_0000);
     one.clear();
-    let AfterEnd::Gone(_seat) = one.end() else {
-        return Err(Fail::new("one that exited is in the next round"));
-    };
+    holds(&rt, matches!(one.end(), AfterEnd::Gone(_)));
     is(&rt, word(&init), 0x8001_0001);
     Ok(())
+}
+
+/// So many parties join, each with a seat from this one.
+fn join_many(rt: &impl Abort, init: &BarrierInit<Bare>, seat: &mut Seat<Bare>, count: usize)
+    requires seated { IsSeatAt init.now seat.old }
+    requires bare { seat.old.me.0.threads ≡ 0 }
+    ensures seat { (seat.new.table_id ≡ seat.old.table_id)
+        × (seat.new.me ≡ seat.old.me) }
+{
+    for _ in 0..count {
+        let party = init.new_seat(seat);
+        holds(rt, init.try_join(party, 0).is_ok());
+    }
 }
 
 #[test]
 fn a_barrier_holds_32767_parties(rt: HostRuntime) -> Result<(), Fail> {
     let (init, mut seat) = BarrierInit::new(rt.alloc())?;
-    for _ in 0..32766 {
-        let party = init.new_seat(&mut seat);
-        assert!(rt; init.try_join(party, 0).is_ok());
-    }
+    join_many(&rt, &init, &mut seat, 32766);
     let spare = init.new_seat(&mut seat);
-    let Ok(last) = init.try_join(seat, 0) else {
-        return Err(Fail::new("the last join was refused"));
-    };
+    let last = join(&rt, &init, seat, 0);
     is(&rt, init.current_num_threads(), 32767);
     let Err(JoinRefused::Full(spare)) = init.try_join(spare, 0) else {
         return Err(Fail::new("a party too many has joined"));
@@ -158,10 +132,8 @@ fn a_barrier_holds_32767_parties(rt: HostRuntime) -> Result<(), Fail> {
         return Err(Fail::new("a party too many was let in"));
     };
     is(&rt, init.current_num_threads(), 32767);
-    let Exit::Gone(_seat) = last.try_exit() else {
-        return Err(Fail::new("the exit failed"));
-    };
-    assert!(rt; init.try_join(full.seat, 0).is_ok());
+    go_out(&rt, last);
+    holds(&rt, init.try_join(full.seat, 0).is_ok());
     is(&rt, init.current_num_threads(), 32767);
     Ok(())
 }
@@ -173,12 +145,15 @@ fn the_last_to_arrive_is_the_closer(rt: HostRuntime) -> Result<(), Fail> {
     let Ok(mut leader) = round.init().try_join(seat, 0) else {
         return Err(Fail::new("the join was refused"));
     };
-    assert_eq!(rt; leader.arrive(), Arrival::Closer);
-    assert_eq!(rt; round.init().current_num_threads(), 1);
-    match round.init().try_join(other, 1) {
-        Err(JoinRefused::Closing(_)) => {}
-        _ => assert!(rt; false),
-    }
+    is(&rt, leader.arrive(), Arrival::Closer);
+    is(&rt, round.init().current_num_threads(), 1);
+    holds(
+        &rt,
+        matches!(
+            round.init().try_join(other, 1),
+            Err(JoinRefused::Closing(_))
+        ),
+    );
     Ok(())
 }
 
@@ -275,6 +250,6 @@ fn more_threads_than_cores_come_and_go(rt: HostRuntime) -> Result<(), Fail> {
 fn refused_barrier_has_no_parties(rt: HostRuntime) {
     match BarrierInit::new(rt.alloc()) {
         Ok((init, _seat)) => is(&rt, init.current_num_threads(), 0),
-        Err(fault) => assert!(rt; matches!(fault, Fault::Memory)),
+        Err(fault) => holds(&rt, matches!(fault, Fault::Memory)),
     }
 }

@@ -7,3 +7,8 @@ use std::process::Abort;
 pub fn is<T: Copy + Debug + PartialEq>(rt: &impl Abort, found: T, wanted: T) {
     assert_eq!(rt; found, wanted);
 }
+
+/// Fails the test in which this isn't so.
+pub fn holds(rt: &impl Abort, it: bool) {
+    assert!(rt; it);
+}

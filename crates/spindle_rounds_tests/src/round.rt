@@ -1,11 +1,15 @@
 //! Rounds played by one thread, with the words of the table beside them.
+ghost use Rattle.std.specs.Prelude.{◌≤◌};
+ghost use Rattle.spindle_rounds.specs.RoundConditions.{MayClaim};
+ghost use Rattle.spindle_rounds.specs.Seating.{IsSeatAt, IsSameSeat};
 
-use self::play::{lead, lead_try, own, own_from_to, rest, steal, steal_and_stop, word};
-use crate::checks::is;
+use self::play::{enter, lead, lead_try, own, own_from_to, rest, steal, steal_and_stop, word};
+use crate::checks::{holds, is};
 use spindle_parts::fault::Fault;
 use spindle_rounds::round::Round;
 use spindle_rounds::round::stopping::PutBack;
-use spindle_rounds::round_table::{APART, PUBLISHED, RANGES, REMAINDER, STOPPED};
+use spindle_rounds::round_table::slots::Bare;
+use spindle_rounds::round_table::{APART, PUBLISHED, RANGES, REMAINDER, STOPPED, Seat};
 use std::test::Fail;
 
 mod coming_and_going;
@@ -17,15 +21,14 @@ mod play;
 mod scripts;
 mod slot_threads;
 mod slots;
+mod stages;
 mod threads;
 mod turns;
 
 #[test]
 fn a_published_round_is_claimed_from_the_front_of_a_range(rt: HostRuntime) -> Result<(), Fail> {
     let (round, seat) = Round::new(rt.alloc(), 4)?;
-    let Ok(mut leader) = round.init().try_join(seat, 0) else {
-        return Err(Fail::new("the join was refused"));
-    };
+    let mut leader = enter(&rt, &round, seat, 0);
     let seat = leader.seat();
     lead(&round, seat, 10);
     is(&rt, word(&round, PUBLISHED), 10);
@@ -33,42 +36,67 @@ fn a_published_round_is_claimed_from_the_front_of_a_range(rt: HostRuntime) -> Re
     Ok(())
 }
 
+/// The ranges of ten jobs on four threads, of two jobs each.
+const RANGES_OF_TEN: (u64, u64, u64, u64) = (
+    0x0000000200000000,
+    0x0000000400000002,
+    0x0000000600000004,
+    0x0000000800000006,
+);
+
+/// The ranges of four threads, in their order.
+fn ranges_of_four(round: &Round<Bare>) -> (u64, u64, u64, u64)
+    requires { 4 ≤ round.now.init.threads }
+{
+    (
+        word(round, RANGES),
+        word(round, RANGES + APART),
+        word(round, RANGES + 2 * APART),
+        word(round, RANGES + 3 * APART),
+    )
+}
+
+/// Claims and finishes the last number of the remainder three times.
+fn three_rest(round: &Round<Bare>, seat: &mut Seat<Bare>) -> (Option<u64>, Option<u64>, Option<u64>)
+    requires seated { IsSeatAt round.now.init seat.old }
+    requires free { MayClaim seat.old.me.0 }
+    ensures seat { IsSameSeat seat.old seat.new }
+    ensures free { MayClaim seat.new.me.0 }
+{
+    (rest(round, seat), rest(round, seat), rest(round, seat))
+}
+
 #[test]
 fn a_round_of_ten_jobs_on_four_threads(rt: HostRuntime) -> Result<(), Fail> {
     let (round, seat) = Round::new(rt.alloc(), 4)?;
-    let Ok(mut leader) = round.init().try_join(seat, 0) else {
-        return Err(Fail::new("the join was refused"));
-    };
+    let mut leader = enter(&rt, &round, seat, 0);
     let seat = leader.seat();
     lead(&round, seat, 10);
-    is(&rt, word(&round, RANGES), 0x0000000200000000);
-    is(&rt, word(&round, RANGES + APART), 0x0000000400000002);
-    is(&rt, word(&round, RANGES + 2 * APART), 0x0000000600000004);
-    is(&rt, word(&round, RANGES + 3 * APART), 0x0000000800000006);
+    is(&rt, ranges_of_four(&round), RANGES_OF_TEN);
     is(&rt, word(&round, REMAINDER), 2);
-    is(&rt, own(&round, seat, 1), Some(2));
-    is(&rt, own(&round, seat, 1), Some(3));
-    is(&rt, own(&round, seat, 1), None);
-    is(&rt, rest(&round, seat), Some(8));
-    is(&rt, rest(&round, seat), Some(9));
-    is(&rt, rest(&round, seat), None);
+    let owned = (
+        own(&round, seat, 1),
+        own(&round, seat, 1),
+        own(&round, seat, 1),
+    );
+    is(&rt, owned, (Some(2), Some(3), None));
+    is(&rt, three_rest(&round, seat), (Some(8), Some(9), None));
     Ok(())
 }
 
 #[test]
 fn fewer_jobs_than_threads_are_all_in_the_remainder(rt: HostRuntime) -> Result<(), Fail> {
     let (round, seat) = Round::new(rt.alloc(), 4)?;
-    let Ok(mut leader) = round.init().try_join(seat, 0) else {
-        return Err(Fail::new("the join was refused"));
-    };
+    let mut leader = enter(&rt, &round, seat, 0);
     let seat = leader.seat();
     lead(&round, seat, 3);
-    is(&rt, own(&round, seat, 0), None);
-    is(&rt, own(&round, seat, 3), None);
+    is(
+        &rt,
+        (own(&round, seat, 0), own(&round, seat, 3)),
+        (None, None),
+    );
     is(&rt, steal(&round, seat), None);
-    is(&rt, rest(&round, seat), Some(0));
-    is(&rt, rest(&round, seat), Some(1));
-    is(&rt, rest(&round, seat), Some(2));
+    is(&rt, three_rest(&round, seat), (Some(0), Some(1), Some(2)));
     is(&rt, rest(&round, seat), None);
     Ok(())
 }
@@ -76,9 +104,7 @@ fn fewer_jobs_than_threads_are_all_in_the_remainder(rt: HostRuntime) -> Result<(
 #[test]
 fn a_thief_takes_the_last_half(rt: HostRuntime) -> Result<(), Fail> {
     let (round, seat) = Round::new(rt.alloc(), 1)?;
-    let Ok(mut leader) = round.init().try_join(seat, 0) else {
-        return Err(Fail::new("the join was refused"));
-    };
+    let mut leader = enter(&rt, &round, seat, 0);
     let seat = leader.seat();
     lead(&round, seat, 5);
     is(&rt, word(&round, RANGES), 0x0000000500000000);
@@ -90,13 +116,11 @@ fn a_thief_takes_the_last_half(rt: HostRuntime) -> Result<(), Fail> {
 #[test]
 fn a_thief_takes_the_only_number(rt: HostRuntime) -> Result<(), Fail> {
     let (round, seat) = Round::new(rt.alloc(), 2)?;
-    let Ok(mut leader) = round.init().try_join(seat, 0) else {
-        return Err(Fail::new("the join was refused"));
-    };
+    let mut leader = enter(&rt, &round, seat, 0);
     let seat = leader.seat();
     lead(&round, seat, 16);
-    assert!(rt; own_from_to(&round, seat, 0, 0, 7));
-    assert!(rt; own_from_to(&round, seat, 1, 8, 16));
+    holds(&rt, own_from_to(&round, seat, 0, 0, 7));
+    holds(&rt, own_from_to(&round, seat, 1, 8, 16));
     is(&rt, word(&round, RANGES), 0x0000000800000007);
     is(&rt, steal(&round, seat), Some((7, 0)));
     is(&rt, word(&round, RANGES), 0x0000000700000007);
@@ -107,13 +131,14 @@ fn a_thief_takes_the_only_number(rt: HostRuntime) -> Result<(), Fail> {
 #[test]
 fn a_thief_takes_from_the_longest_range(rt: HostRuntime) -> Result<(), Fail> {
     let (round, seat) = Round::new(rt.alloc(), 4)?;
-    let Ok(mut leader) = round.init().try_join(seat, 0) else {
-        return Err(Fail::new("the join was refused"));
-    };
+    let mut leader = enter(&rt, &round, seat, 0);
     let seat = leader.seat();
     lead(&round, seat, 10);
-    is(&rt, own(&round, seat, 0), Some(0));
-    is(&rt, own(&round, seat, 1), Some(2));
+    is(
+        &rt,
+        (own(&round, seat, 0), own(&round, seat, 1)),
+        (Some(0), Some(2)),
+    );
     is(&rt, word(&round, RANGES + 2 * APART), 0x0000000600000004);
     is(&rt, steal(&round, seat), Some((5, 0)));
     is(&rt, word(&round, RANGES + 2 * APART), 0x0000000500000004);
@@ -123,22 +148,23 @@ fn a_thief_takes_from_the_longest_range(rt: HostRuntime) -> Result<(), Fail> {
 #[test]
 fn a_share_goes_back_into_an_empty_range(rt: HostRuntime) -> Result<(), Fail> {
     let (round, seat) = Round::new(rt.alloc(), 2)?;
-    let Ok(mut leader) = round.init().try_join(seat, 0) else {
-        return Err(Fail::new("the join was refused"));
-    };
+    let mut leader = enter(&rt, &round, seat, 0);
     let seat = leader.seat();
     lead_try(&round, seat, 8);
     is(&rt, word(&round, PUBLISHED), 8 + 4294967296);
-    assert!(rt; own_from_to(&round, seat, 0, 0, 4));
+    holds(&rt, own_from_to(&round, seat, 0, 0, 4));
     is(
         &rt,
         steal_and_stop(&rt, &round, seat),
         Some((PutBack::Occupied, PutBack::Put, true)),
     );
     is(&rt, word(&round, STOPPED), 1);
-    is(&rt, round.left(seat, 0), 0x0000000800000007);
-    is(&rt, round.left(seat, 1), 0x0000000600000004);
-    is(&rt, round.left(seat, 2), 0);
+    let left = (
+        round.left(seat, 0),
+        round.left(seat, 1),
+        round.left(seat, 2),
+    );
+    is(&rt, left, (0x0000000800000007, 0x0000000600000004, 0));
     Ok(())
 }
 
@@ -148,7 +174,7 @@ fn refused_round_is_no_table(rt: HostRuntime) {
     for threads in [1, 4, 32767] {
         match Round::new(rt.alloc(), threads) {
             Ok((round, _seat)) => is(&rt, round.init().current_num_threads(), 0),
-            Err(fault) => assert!(rt; matches!(fault, Fault::Memory)),
+            Err(fault) => holds(&rt, matches!(fault, Fault::Memory)),
         }
     }
 }

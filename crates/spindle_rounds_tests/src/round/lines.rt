@@ -1,32 +1,57 @@
 //! Lines of the scripts of coming and going: a step on the table, with the machine beside it, and a guest's visit.
-ghost use Rattle.std.specs.Prelude.{◌≡◌, false};
-ghost use Rattle.spindle_rounds.specs.Holding.{IsHeld};
-ghost use Rattle.spindle_rounds.specs.RoundConditions.{MayClaim, MayArrive, MayExit};
-ghost use Rattle.spindle_rounds.specs.Working.{IsIdle};
-ghost use Rattle.spindle_rounds.specs.declared.round_table.view.Standing.TheVariants.{Away};
-ghost use Rattle.spindle_rounds.specs.Seating.{IsSeatAt};
+ghost use Rattle.std.specs.Prelude.{◌≡◌, true, false, IfOk, IfSome};
+ghost use Rattle.spindle_rounds.specs.Parties.{IsOut, IsIn};
+ghost use Rattle.spindle_rounds.specs.RoundConditions.{MayFill};
 
-use super::play::word;
-use super::scripts::find_nothing_left;
-use spindle_parts::steps::Step::{Arrive, Clear, Exit as Exits, Join, Leave as Leaves};
-use spindle_parts::steps::{Machine, Reply, Step, Why};
-use spindle_rounds::barrier::ending::AfterEnd;
-use spindle_rounds::barrier::leaving::{Exit, Leave};
-use spindle_rounds::barrier::steps::Arrival;
-use spindle_rounds::barrier::{Barrier, JoinRefused};
+use super::play::{enter, word};
+use crate::checks::is;
+use spindle_parts::fault::Fault;
+use spindle_parts::steps::Step::{Exit as Exits, Join};
+use spindle_parts::steps::{Machine, Reply, Step};
+use spindle_rounds::barrier::Barrier;
+use spindle_rounds::barrier::leaving::Exit;
 use spindle_rounds::round::Round;
 use spindle_rounds::round_table::slots::Bare;
 use spindle_rounds::round_table::{BARRIER, Seat};
+use std::alloc::Global;
 use std::process::Abort;
 
-/// The machine, and whether a guest joins and exits after each line.
+/// The barrier word with one member, who hasn't arrived.
+pub const ONE: u64 = 0x0001_0001;
+
+/// The barrier word with two members, neither of whom has arrived.
+pub const TWO: u64 = 0x0002_0002;
+
+/// The machine, and a guest's seat where one joins and exits after each line.
 #[derive(Drop)]
 pub struct Beside {
     /// It makes each step that the table makes.
     pub machine: Machine,
-    /// Whether a guest comes after each line.
-    pub visits: bool,
+    /// The seat that the guest has between two visits, if one visits.
+    pub guest: Option<Seat<Bare>>,
 }
+
+impl Beside {
+    /// A machine of four threads, and a guest where one visits.
+    pub fn new(
+        alloc: Global,
+        round: &Round<Bare>,
+        leader: &mut Seat<Bare>,
+        visits: bool,
+    ) -> Result<Beside, Fault>
+        requires leader { IsOut round.now true leader.old }
+        ensures leader { IsOut round.now true leader.new }
+        ensures guest { IfOk result (λ b. IfSome b.guest (λ s. IsOut round.now false s)) }
+    {
+        let guest = round.init().new_seat(leader);
+        let machine = Machine::new(alloc, 4)?;
+        let guest = if visits { Some(guest) } else { None };
+        Ok(Beside { machine, guest })
+    }
+}
+
+/// What a line of a script says: the step, the barrier word after it, and the number of the job that begins by it.
+pub type Said = (Step, u64, Option<u64>);
 
 /// The barrier word, and the number of a job where one began.
 fn shown(reply: Reply) -> (u64, Option<u64>) {
@@ -38,158 +63,68 @@ fn shown(reply: Reply) -> (u64, Option<u64>) {
 }
 
 /// The machine makes the step, and has the barrier word of the table then; a claim began the same job.
-pub fn show(
-    rt: &impl Abort,
-    beside: &mut Beside,
-    round: &Round<Bare>,
-    step: Step,
-    expected: u64,
-    job: Option<u64>,
-) {
-    assert_eq!(rt; word(round, BARRIER), expected, "the table at {step:?}");
-    let reply = beside.machine.step(step);
-    assert_eq!(rt; shown(reply), (expected, job), "the machine at {step:?}");
+pub fn show(rt: &impl Abort, machine: &mut Machine, round: &Round<Bare>, said: Said) {
+    let (step, expected, job) = said;
+    is(rt, (step, word(round, BARRIER)), (step, expected));
+    let reply = machine.step(step);
+    is(rt, (step, shown(reply)), (step, (expected, job)));
 }
 
-/// A line of a script, and then a guest where one visits: the word is one member more, and then as before.
-pub fn line(
+/// A guest joins and exits: the word is one member more, and then as before.
+fn visit(
     rt: &impl Abort,
-    beside: &mut Beside,
+    machine: &mut Machine,
     round: &Round<Bare>,
     guest: Seat<Bare>,
-    said: (Step, u64, Option<u64>),
+    expected: u64,
 ) -> Seat<Bare>
-    requires seated { IsSeatAt round.now.init guest }
-    requires away { guest.me.0.standing ≡ Away }
-    requires idle { IsIdle guest.me.0 }
-    requires follows { guest.me.0.leader ≡ false }
-    ensures seated { IsSeatAt round.now.init result }
-    ensures away { result.me.0.standing ≡ Away }
-    ensures idle { IsIdle result.me.0 }
-    ensures follows { result.me.0.leader ≡ false }
+    requires out { IsOut round.now false guest }
+    ensures out { IsOut round.now false result }
 {
-    let (step, expected, job) = said;
-    show(rt, beside, round, step, expected, job);
-    if !beside.visits {
-        return guest;
-    }
-    let Ok(member) = round.init().try_join(guest, 2) else {
-        rt.panic("the guest's join was refused")
-    };
+    let member = enter(rt, round, guest, 2);
     show(
         rt,
-        beside,
+        machine,
         round,
-        Join(2),
-        expected.wrapping_add(0x0001_0001),
-        None,
+        (Join(2), expected.wrapping_add(ONE), None),
     );
     let Exit::Gone(guest) = member.try_exit() else {
         rt.panic("the guest's exit failed")
     };
-    show(rt, beside, round, Exits(2), expected, None);
+    show(rt, machine, round, (Exits(2), expected, None));
     guest
 }
 
-/// A helper that finds nothing left arrives, though not last, and leaves.
-pub fn arrive_and_leave(
-    rt: &impl Abort,
-    beside: &mut Beside,
-    round: &Round<Bare>,
-    mut one: Barrier<Bare>,
-) -> Seat<Bare>
-    requires held { IsHeld one }
-    requires table { IsSeatAt round.now.init one.seat }
-    requires threads { one.seat.me.0.threads ≡ round.now.init.threads }
-    requires free { MayClaim one.seat.me.0 }
-    requires follows { one.seat.me.0.leader ≡ false }
-    ensures seated { IsSeatAt round.now.init result }
-    ensures away { result.me.0.standing ≡ Away }
-    ensures idle { IsIdle result.me.0 }
-    ensures follows { result.me.0.leader ≡ false }
+/// A line of a script, and then a guest where one visits.
+pub fn line(rt: &impl Abort, beside: &mut Beside, round: &Round<Bare>, said: Said)
+    requires guest { IfSome beside.old.guest (λ s. IsOut round.now false s) }
+    ensures guest { IfSome beside.new.guest (λ s. IsOut round.now false s) }
 {
-    let guest = round.init().new_seat(one.seat());
-    find_nothing_left(rt, round, &mut one);
-    assert_eq!(rt; one.arrive(), Arrival::Arrived);
-    let _guest = line(rt, beside, round, guest, (Arrive(1), 0x0002_0001, None));
-    let Leave::Left(other) = one.try_leave() else {
-        rt.panic("the helper's leave failed")
+    show(rt, &mut beside.machine, round, said);
+    let Some(guest) = beside.guest.take() else {
+        return;
     };
-    other
+    let (_step, expected, _job) = said;
+    let guest = visit(rt, &mut beside.machine, round, guest, expected);
+    beside.guest = Some(guest);
 }
 
-/// A helper joins and exits.
-pub fn join_and_exit(
+/// A party that is out joins.
+pub fn join<'a>(
     rt: &impl Abort,
     beside: &mut Beside,
-    round: &Round<Bare>,
-    other: Seat<Bare>,
-) -> Seat<Bare>
-    requires seated { IsSeatAt round.now.init other }
-    requires away { other.me.0.standing ≡ Away }
-    requires idle { IsIdle other.me.0 }
-    requires follows { other.me.0.leader ≡ false }
-    ensures seated { IsSeatAt round.now.init result }
-    ensures away { result.me.0.standing ≡ Away }
-    ensures idle { IsIdle result.me.0 }
-    ensures follows { result.me.0.leader ≡ false }
+    round: &'a Round<Bare>,
+    seat: Seat<Bare>,
+    said: (u32, u64),
+) -> Barrier<'a, Bare>
+    requires guest { IfSome beside.old.guest (λ s. IsOut round.now false s) }
+    requires out { IsOut round.now seat.me.0.leader seat }
+    ensures guest { IfSome beside.new.guest (λ s. IsOut round.now false s) }
+    ensures party { IsIn round.now seat.me.0.leader result }
+    ensures leads { seat.me.0.leader ≡ true → MayFill result.seat.me.0 }
 {
-    let mut other = other;
-    let guest = round.init().new_seat(&mut other);
-    let Ok(one) = round.init().try_join(other, 1) else {
-        rt.panic("the helper's second join was refused")
-    };
-    let _guest = line(rt, beside, round, guest, (Join(1), 0x0002_0002, None));
-    let Exit::Gone(other) = one.try_exit() else {
-        rt.panic("the helper's exit failed")
-    };
-    other
-}
-
-/// The leader, which finds nothing left, arrives last and ends the round. Nobody joins meanwhile.
-pub fn arrive_and_close(
-    rt: &impl Abort,
-    beside: &mut Beside,
-    round: &Round<Bare>,
-    other: Seat<Bare>,
-    mut zero: Barrier<Bare>,
-)
-    requires seated { IsSeatAt round.now.init other }
-    requires away { other.me.0.standing ≡ Away }
-    requires held { IsHeld zero }
-    requires free { MayArrive zero.seat.me.0 }
-{
-    let Arrival::Closer = zero.arrive() else {
-        rt.panic("the last to arrive doesn't close")
-    };
-    show(rt, beside, round, Arrive(0), 0x0001_0000, None);
-    assert!(rt;
-        matches!(
-            round.init().try_join(other, 1),
-            Err(JoinRefused::Closing(_))
-        )
-    );
-    assert_eq!(rt; beside.machine.step(Join(1)), Reply::Refused(Why::Closing));
-    zero.clear();
-    show(rt, beside, round, Clear(0), 0x0001_0000, None);
-    assert!(rt; matches!(zero.end(), AfterEnd::Next(_)));
-}
-
-/// A helper whom the leader waits for exits, and ends the round.
-pub fn exit_and_close(rt: &impl Abort, beside: &mut Beside, round: &Round<Bare>, one: Barrier<Bare>)
-    requires held { IsHeld one }
-    requires free { MayExit one.seat.me.0 }
-{
-    let Exit::Closer(mut one) = one.try_exit() else {
-        rt.panic("whom the leader waits for doesn't close")
-    };
-    show(rt, beside, round, Exits(1), 0x0001_0000, None);
-    assert_eq!(rt;
-        beside.machine.step(Leaves(0)),
-        Reply::Refused(Why::Closing)
-    );
-    assert_eq!(rt; beside.machine.step(Exits(1)), Reply::Refused(Why::NotIn));
-    one.clear();
-    show(rt, beside, round, Clear(1), 0x0001_0000, None);
-    assert!(rt; matches!(one.end(), AfterEnd::Gone(_)));
+    let (party, expected) = said;
+    let member = enter(rt, round, seat, party as usize);
+    line(rt, beside, round, (Join(party), expected, None));
+    member
 }

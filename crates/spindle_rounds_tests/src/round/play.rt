@@ -1,11 +1,13 @@
 //! What one thread does in a round: each claims, runs and finishes.
 ghost use Rattle.std.specs.Prelude.{◌≡◌, ◌<◌, ◌≤◌, true};
 ghost use Rattle.std.proofs.Common.{rules};
+ghost use Rattle.spindle_rounds.specs.Parties.{IsOut, IsIn};
 ghost use Rattle.spindle_rounds.specs.RoundConditions.{IsFreeInside, MayFill, MayClaim, MayBegin, MayFinish, IsItsShare};
 ghost use Rattle.spindle_rounds.specs.RoundViews.{Onward, SeesAsBefore, SharesAsBefore};
 ghost use Rattle.spindle_rounds.specs.Seating.{IsSeatAt, IsSameSeat};
 ghost use Rattle.spindle_rounds.specs.Words.{words_of};
 
+use spindle_rounds::barrier::Barrier;
 use spindle_rounds::round::Round;
 use spindle_rounds::round::claim::{Claim, Claimed, Share, Steal};
 use spindle_rounds::round::finishing::Numbered;
@@ -24,6 +26,23 @@ struct Empty {
 
 impl Numbered for Empty {
     ghost number = { λ piece. piece.number };
+}
+
+/// A party that is out joins.
+pub fn enter<'a>(
+    rt: &impl Abort,
+    round: &'a Round<Bare>,
+    seat: Seat<Bare>,
+    thread: usize,
+) -> Barrier<'a, Bare>
+    requires out { IsOut round.now seat.me.0.leader seat }
+    ensures party { IsIn round.now seat.me.0.leader result }
+    ensures leads { seat.me.0.leader ≡ true → MayFill result.seat.me.0 }
+{
+    let Ok(member) = round.init().try_join(seat, thread) else {
+        rt.panic("a party's join was refused")
+    };
+    member
 }
 
 /// Finishes a number, with no items.

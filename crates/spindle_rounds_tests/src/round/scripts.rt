@@ -45,7 +45,7 @@ pub fn learn(round: &Round<Bare>, member: &mut Barrier<Bare>) -> bool
 }
 
 /// Begins a number of the remainder.
-pub fn begin(round: &Round<Bare>, member: &mut Barrier<Bare>) -> Option<Claimed>
+pub fn begin(rt: &impl Abort, round: &Round<Bare>, member: &mut Barrier<Bare>) -> Claimed
     requires held { IsHeld member.old }
     requires seated { IsSeatAt round.now.init member.old.seat }
     requires free { MayClaim member.old.seat.me.0 }
@@ -53,15 +53,15 @@ pub fn begin(round: &Round<Bare>, member: &mut Barrier<Bare>) -> Option<Claimed>
     ensures seated { IsSeatAt round.now.init member.new.seat }
     ensures same { (member.new.seat.me.0.leader ≡ member.old.seat.me.0.leader)
         × (member.new.seat.me.0.threads ≡ member.old.seat.me.0.threads) }
-    ensures own { IfSome result (λ k. MayFinish k member.new.seat.me.0) }
+    ensures own { MayFinish result member.new.seat.me.0 }
     ensures share { member.new.seat.me.0.to ≤ member.new.seat.me.0.from }
     ensures knows { ((n : ℕ) × (member.new.seat.me.0.known.number ≡ Some n))
         × (member.new.seat.me.0.known.seen_stop ≡ false) }
 {
     match round.try_claim_rest(member.seat()) {
-        Claim::Job(claimed) => Some(claimed),
-        Claim::Nothing => None,
-        Claim::Again => None,
+        Claim::Job(claimed) => claimed,
+        Claim::Nothing => rt.panic("the remainder is empty"),
+        Claim::Again => rt.panic("another step came between"),
     }
 }
 

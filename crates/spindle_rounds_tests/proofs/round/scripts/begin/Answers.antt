@@ -1,4 +1,4 @@
--- A number of the remainder has begun, or else the member may claim again.
+-- A number of the remainder has begun.
 use Rattle.std.proofs.Common.{◌∙◌, subst, sym}
 use Rattle.spindle_rounds.specs.declared.round.claim.Claim.TheVariants as claim
 use Rattle.spindle_rounds.specs.RoundConditions.{MayClaim}
@@ -7,23 +7,13 @@ use Rattle.spindle_rounds.specs.RoundSteps.{number_or}
 use Rattle.spindle_rounds.proofs.RoundClients.{remainder_claimed}
 use Rattle.spindle_rounds_tests.proofs.round.scripts.begin.Goals as goal
 
-pub returns-in-Job-clause-own : goal.returns-in-Job-clause-own
-returns-in-Job-clause-own c = let may = subst (λ s. MayClaim s.me.0) (sym c.seat.ensures.value) c.requires.free in
+pub returns-clause-own : goal.returns-clause-own
+returns-clause-own g c = let may = subst (λ s. MayClaim s.me.0) (sym c.seat.ensures.value) c.requires.free in
     (remainder_claimed bare c.seat.result.now.me c.try_claim_rest.new.seat.me may (number_or c.seat.result.now.me.0.known.number)
     (claim.Job _) c.in-Job.ensures.step).3
 
-pub returns-in-Job-clause-knows : goal.returns-in-Job-clause-knows
-returns-in-Job-clause-knows c = let may = subst (λ s. MayClaim s.me.0) (sym c.seat.ensures.value) c.requires.free in
+pub returns-clause-knows : goal.returns-clause-knows
+returns-clause-knows g c = let may = subst (λ s. MayClaim s.me.0) (sym c.seat.ensures.value) c.requires.free in
     let a = remainder_claimed bare c.seat.result.now.me c.try_claim_rest.new.seat.me may (number_or c.seat.result.now.me.0.known.number)
     (claim.Job _) c.in-Job.ensures.step in
     ((may.1.0, a.0.number ∙ may.1.1), a.1 ∙ may.2)
-
-pub returns-in-Nothing-clause-knows : goal.returns-in-Nothing-clause-knows
-returns-in-Nothing-clause-knows c = let may = subst (λ s. MayClaim s.me.0) (sym c.seat.ensures.value) c.requires.free in
-    let a = remainder_claimed bare c.seat.result.now.me c.try_claim_rest.new.seat.me may
-    (number_or c.seat.result.now.me.0.known.number) claim.Nothing c.in-Nothing.ensures.step in (a.3.1, a.3.2)
-
-pub returns-in-Again-clause-knows : goal.returns-in-Again-clause-knows
-returns-in-Again-clause-knows c = let may = subst (λ s. MayClaim s.me.0) (sym c.seat.ensures.value) c.requires.free in
-    let a = remainder_claimed bare c.seat.result.now.me c.try_claim_rest.new.seat.me may
-    (number_or c.seat.result.now.me.0.known.number) claim.Again c.in-Again.ensures.step in (a.3.1, a.3.2)
