@@ -13,7 +13,7 @@ use spindle_rounds::round::Round;
 use std::alloc::Global;
 use std::process::Abort;
 
-/// A helper joins in mid-round, arrives, leaves, comes again and exits.
+/// A helper joins in mid-round, arrives, leaves, comes again and exits. A guest that visits is there to the end.
 fn come_and_go(rt: &impl Abort, alloc: Global, visits: bool) -> Result<(), Fault> {
     let (round, mut seat) = Round::new(alloc, 4)?;
     let other = round.init().new_seat(&mut seat);
@@ -26,10 +26,11 @@ fn come_and_go(rt: &impl Abort, alloc: Global, visits: bool) -> Result<(), Fault
     let other = join_and_exit(rt, &mut beside, &round, other);
     find_nothing_left(rt, &round, &mut zero);
     arrive_and_close(rt, &mut beside, &round, other, zero);
+    is(rt, beside.guest.is_some(), visits);
     Ok(())
 }
 
-/// A helper closes by leaving: it exits, when all others have arrived.
+/// A helper closes by leaving: it exits, when all others have arrived. A guest that visits is there to the end.
 fn close_by_leaving(rt: &impl Abort, alloc: Global, visits: bool) -> Result<(), Fault> {
     let (round, mut seat) = Round::new(alloc, 4)?;
     let other = round.init().new_seat(&mut seat);
@@ -43,6 +44,7 @@ fn close_by_leaving(rt: &impl Abort, alloc: Global, visits: bool) -> Result<(), 
     is(rt, zero.arrive(), Arrival::Arrived);
     line(rt, &mut beside, &round, (Arrive(0), 0x0002_0001, None));
     exit_and_close(rt, &mut beside, &round, one);
+    is(rt, beside.guest.is_some(), visits);
     Ok(())
 }
 
