@@ -8,8 +8,8 @@ use Rattle.spindle_rounds.specs.RoundSteps.{outsider}
 
 -- what rests on the bench are seats at these tables, as a helper needs them:
 -- no member of the barrier, no number, no request to answer for
-pub record IsBenchAt {T : Type 0} (tables : Tables T (Unit {0}) (Unit {0}))
-    (bench : Bench) : Type 0 where
+pub record IsBenchAt {T S N : Type 0} (tables : Tables T S N)
+    (bench : Bench T S N) : Type 0 where
   pub round : bench.round.table_id ≡ tables.round.init.table.shared.table_id
   pub outside : bench.round.view ≡ outsider tables.round.init.threads false
   pub numbers : bench.numbers.table_id ≡ tables.numbers.table

@@ -11,7 +11,7 @@ use std::thread::Threads;
 pub mod context;
 pub mod gate;
 pub mod nest;
-pub(crate) mod sealed;
+pub mod sealed;
 
 /// A kind of job. It stands where spindle takes a closure that the threads of a lock call.
 ///

@@ -48,6 +48,13 @@ impl<'a> Asked<'a> {
         }
     }
 
+    /// How many child slots there are.
+    pub fn slots(&self) -> usize
+        ensures { result ≡ self.now.slots }
+    {
+        self.slots
+    }
+
     /// Opens the places at the slot.
     pub fn install(self, slot: usize) -> Offered<'a>
         requires slot { slot < self.slots }

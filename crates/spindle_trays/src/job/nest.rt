@@ -2,16 +2,14 @@
 //!
 //! A lock over J stands on `J::Inner` alone, and a nest never names the trait of jobs, so that the type of each lock
 //! stays finite.
-ghost use Rattle.std.specs.Prelude.{◌<◌, OnErr, IsErrOf};
+ghost use Rattle.std.specs.Prelude.{OnErr, IsErrOf};
 ghost use denote.Param.Send.{IsSync};
 ghost use Rattle.spindle_trays.specs.Accounts.{IsSameThread};
 
 use crate::crew::notices::Notices;
 use crate::job::Job;
 use crate::job::sealed::IsNest;
-use crate::lock::nested::{Child, Nested};
-use crossbeam_utils::CachePadded;
-use spindle_parts::aarc_imp::AtomicArc;
+use crate::lock::nested::{ChildSlot, Nested, make_slots, serve_slots};
 use spindle_parts::fault::Fault;
 use std::alloc::Global;
 use std::marker::PhantomData;
@@ -75,53 +73,22 @@ pub struct Under<K> {
 impl<K: Job> IsNest for Under<K> {}
 
 impl<K: Job> Nest for Under<K> {
-    type Slots = Vec<CachePadded<AtomicArc<Child<Nested<K>>>>>;
+    type Slots = Vec<ChildSlot<Nested<K>>>;
 
     fn slot_count(threads: usize) -> usize {
         threads
     }
 
-    fn make(
-        alloc: Global,
-        threads: usize,
-    ) -> Result<Vec<CachePadded<AtomicArc<Child<Nested<K>>>>>, Fault> {
-        let mut slots = Vec::with_capacity(alloc, threads)?;
-        for _ in 0..threads {
-            slots.push_reserved(CachePadded::new(AtomicArc::null(&())));
-        }
-        Ok(slots)
+    fn make(alloc: Global, threads: usize) -> Result<Vec<ChildSlot<Nested<K>>>, Fault> {
+        make_slots(alloc, threads)
     }
 
     fn serve<H: Threads + Wait + Sync>(
         rt: &H,
         alloc: Global,
-        slots: &Vec<CachePadded<AtomicArc<Child<Nested<K>>>>>,
+        slots: &Vec<ChildSlot<Nested<K>>>,
         notices: &mut Notices<'_>,
     ) {
-        for number in 0..slots.len().min(notices.slots()) {
-            serve_slot(rt, alloc, &slots[number], number, notices);
-        }
+        serve_slots(rt, alloc, slots, notices);
     }
-}
-
-// Lives as a helper of the lock that stands in the slot, if there is a place.
-fn serve_slot<K: Job, H: Threads + Wait + Sync>(
-    rt: &H,
-    alloc: Global,
-    slot: &AtomicArc<Child<Nested<K>>>,
-    number: usize,
-    notices: &mut Notices<'_>,
-)
-    requires { number < notices.old.slots }
-    ensures { IsSameThread notices.old notices.new }
-{
-    let Some(guard) = slot.load() else {
-        return;
-    };
-    if !notices.takes_place(number) {
-        guard.leave();
-        return;
-    }
-    guard.get().help(rt, alloc);
-    guard.leave();
 }

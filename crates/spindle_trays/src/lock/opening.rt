@@ -115,10 +115,27 @@ where
         (seat.me.1 ≡ []) × (seat.me.0.board ≡ []) }
 {
     start::<_, D, J, G, L, H>(scope, rt, alloc, tables, workspace, pool, &mut seats);
+    take_post::<D, J, G, L, H>(rt, tables, workspace, pool.gate(), seats)
+}
+
+/// Takes the leader's post of a lock. The leader runs jobs with what comes beside its post.
+pub fn take_post<'s, D: Slots, J: Job, G: Gate, L: TakesPart<J, D>, H: Wait>(
+    rt: &H,
+    tables: &'s Tables<D>,
+    workspace: &'s L,
+    gate: &'s G,
+    seats: Seats<D>,
+) -> (LeaderPost<'s, D>, Runner<'s, J, G>)
+    requires seats { AreSeatsAt tables.now seats }
+    ensures tables { result.0.post.tables.now ≡ tables.now }
+    ensures crew { result.1.site.crew ≡ tables.now.crew }
+    ensures slots { let seat = result.0.post.barrier.seat in
+        (seat.me.1 ≡ []) × (seat.me.0.board ≡ []) }
+{
     let notices = Notices::new(&tables.ledger, seats.ledger, tables.child_slots);
     let post = LeaderPost::new(Post::join(rt, tables, seats.round, 0));
     let site = tables.site(L::members(tables), 0);
-    let runner = Runner::new(workspace.children(), pool.gate(), site, notices);
+    let runner = Runner::new(workspace.children(), gate, site, notices);
     (post, runner)
 }
 

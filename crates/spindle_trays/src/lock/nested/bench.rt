@@ -1,18 +1,25 @@
 //! Where a helper's seats at the tables of a nested lock rest until a helper comes for them.
-ghost use Rattle.std.specs.Prelude.{◌≡◌, [], IfSome};
+ghost use Rattle.std.specs.Prelude.{◌≡◌, [], IfSome, IfOk, All};
+ghost use denote.Param.Send.{IsSync};
 ghost use Rattle.spindle_trays.specs.Opening.{AreSeatsAt};
 ghost use Rattle.spindle_trays.specs.Nested.{IsBenchAt};
 ghost use Rattle.spindle_trays.specs.Posts.{AreOut};
 
 use crate::crew::seats::Seats;
 use crate::crew::tables::Tables;
+use crate::job::Job;
+use crate::job::gate::NoGate;
 use crate::lock::helper::Recruit;
+use crate::lock::part::TakesPart;
 use atomic_table::Perch;
 use spindle_parts::requests::plays::Account;
 use spindle_parts::{numbers, requests};
 use spindle_rounds::round_table;
-use spindle_rounds::round_table::slots::Bare;
+use spindle_rounds::round_table::slots::Slots;
 use spindle_rounds::round_table::view::View;
+use std::alloc::{AllocError, Global};
+use std::sync::Wait;
+use std::thread::Threads;
 
 /// What a perch's word is where no seat rests there.
 const EMPTY: u64 = 0;
@@ -22,15 +29,15 @@ const SEATED: u64 = 2;
 
 /// A perch for a seat of each table.
 #[derive(Drop)]
-pub(crate) struct Bench {
-    round: Perch<(), View<()>>,
+pub struct Bench<D: Slots> {
+    round: Perch<D::Slot, View<D::Note>>,
     numbers: Perch<(), numbers::View>,
     ledger: Perch<(), Account>,
 }
 
-impl Bench {
-    /// A bench with the seats of one helper, split from the leader's.
-    pub(crate) fn new(tables: &Tables<Bare>, seats: &mut Seats<Bare>) -> Bench
+impl<D: Slots> Bench<D> {
+    // A bench with the seats of one helper, split from the leader's.
+    fn new(tables: &Tables<D>, seats: &mut Seats<D>) -> Bench<D>
         requires { AreSeatsAt tables.now seats.old }
         ensures seats { AreSeatsAt tables.now seats.new }
         ensures bench { IsBenchAt tables.now result }
@@ -48,7 +55,7 @@ impl Bench {
     }
 
     // Lets the seats rest here. Where a seat rests already, the new one is dropped.
-    fn put(&self, round: round_table::Seat<Bare>, numbers: numbers::Seat, ledger: requests::Seat)
+    fn put(&self, round: round_table::Seat<D>, numbers: numbers::Seat, ledger: requests::Seat)
         requires round { (round.table_id ≡ self.now.round.table_id) × (round.me ≡ (self.now.round.view, [])) }
         requires numbers { (numbers.table_id ≡ self.now.numbers.table_id) × (numbers.me ≡ (self.now.numbers.view, [])) }
         requires ledger { (ledger.table_id ≡ self.now.ledger.table_id) × (ledger.me ≡ (self.now.ledger.view, [])) }
@@ -58,8 +65,8 @@ impl Bench {
         drop(self.round.give(round, EMPTY, SEATED));
     }
 
-    /// The seats, if they rest here.
-    pub(crate) fn take<'a>(&self, tables: &'a Tables<Bare>) -> Option<Recruit<'a, Bare>>
+    // The seats, if they rest here.
+    fn take<'a>(&self, tables: &'a Tables<D>) -> Option<Recruit<'a, D>>
         requires { IsBenchAt tables.now self.now }
         ensures { IfSome result (λ recruit. recruit.tables.now ≡ tables.now) }
     {
@@ -77,8 +84,8 @@ impl Bench {
         Some(Recruit { tables, seats })
     }
 
-    /// Fresh seats, split from those that a helper used, rest here for another.
-    pub(crate) fn give(&self, tables: &Tables<Bare>, mut seats: Seats<Bare>)
+    // Fresh seats, split from those that a helper used, rest here for another.
+    fn give(&self, tables: &Tables<D>, mut seats: Seats<D>)
         requires bench { IsBenchAt tables.now self.now }
         requires seats { AreOut tables.now seats }
     {
@@ -86,5 +93,41 @@ impl Bench {
         let numbers = tables.numbers.new_seat(&mut seats.numbers);
         let ledger = tables.ledger.new_seat(&mut seats.ledger);
         self.put(round, numbers, ledger);
+    }
+}
+
+impl<D: Slots> Tables<D> {
+    /// A bench for each helper, with seats that are split from the leader's.
+    pub fn benches(&self, alloc: Global, seats: &mut Seats<D>) -> Result<Vec<Bench<D>>, AllocError>
+        requires { AreSeatsAt self.now seats.old }
+        ensures seats { AreSeatsAt self.now seats.new }
+        ensures benches { IfOk result (λ benches. All (IsBenchAt self.now) benches.items) }
+    {
+        let mut benches = Vec::with_capacity(alloc, self.crew.threads())?;
+        for _ in 1..self.crew.threads() {
+            benches.push_reserved(Bench::new(self, seats));
+        }
+        Ok(benches)
+    }
+
+    /// Lives as a helper of the lock, with seats that rest on one of its benches; where none do, that life ends at once.
+    pub fn help_from<J: Job, L: TakesPart<J, D>, H: Threads + Wait + Sync>(
+        &self,
+        rt: &H,
+        alloc: Global,
+        workspace: &L,
+        benches: &[Bench<D>],
+    )
+        requires sync { IsSync H.row }
+        requires benches { All (IsBenchAt self.now) benches.now }
+    {
+        let gate = NoGate;
+        for bench in benches {
+            if let Some(recruit) = bench.take(self) {
+                let seats = recruit.help::<J, L, NoGate, H>(rt, alloc, workspace, &gate);
+                bench.give(self, seats);
+                return;
+            }
+        }
     }
 }

@@ -10,7 +10,6 @@ use crate::crew::limits::Limits;
 use crate::crew::seats::Seats;
 use crate::crew::tables::Tables;
 use crate::job::Job;
-use crate::job::gate::NoGate;
 use crate::job::nest::Nest;
 use crate::lock::nested::bench::Bench;
 use crate::lock::workspace::{Opens, Workspace};
@@ -27,16 +26,23 @@ use std::thread::Threads;
 pub struct Nested<K: Job> {
     pub(crate) tables: Tables<Bare>,
     workspace: Workspace<K>,
-    benches: Vec<Bench>,
+    benches: Vec<Bench<Bare>>,
     ghost seated: { All (IsBenchAt tables) benches.items },
 }
 
-/// A share of a nested lock of type N, which is `Nested<K>` for a kind of job K.
+/// A lock that stands in a child slot, whatever its kind: idle helpers of the outer lock may live in it.
+pub trait TakesHelpers {
+    /// Lives as one of its helpers. Where it has no seats for another one, that life ends at once.
+    fn help<H: Threads + Wait + Sync>(&self, rt: &H, alloc: Global)
+        requires { IsSync H.row };
+}
+
+/// A share of a nested lock of type N, which is `Nested<K>` for a kind of job K whose pieces stand in trays.
 ///
 /// Neither the struct nor its fact has a bound on N, so that locks may be nested to any depth that the checker covers.
 #[derive(Drop)]
 pub struct Child<N> {
-    pub(crate) shared: Arc<N>,
+    pub shared: Arc<N>,
 }
 
 /// Any child may stand in any slot: that it is a lock in order is kept by its type.
@@ -44,6 +50,16 @@ impl<N> Fits for Child<N> {
     type Tag = ();
 
     ghost fits = { λ tag child. Unit {0} };
+}
+
+impl<N> Child<N> {
+    /// Another share, unless there are too many.
+    pub(crate) fn again(&self) -> Option<Child<N>> {
+        match Arc::try_clone(&self.shared) {
+            Ok(shared) => Some(Child { shared }),
+            Err(_) => None,
+        }
+    }
 }
 
 impl<K: Job> Child<Nested<K>> {
@@ -61,10 +77,7 @@ impl<K: Job> Child<Nested<K>> {
         let (round, seat) = Round::new(alloc, crew.threads())?;
         let slots = K::Inner::slot_count(crew.threads());
         let (tables, mut seats) = Tables::new(alloc, crew, limits, slots, round, seat)?;
-        let mut benches = Vec::with_capacity(alloc, crew.threads())?;
-        for _ in 1..crew.threads() {
-            benches.push_reserved(Bench::new(&tables, &mut seats));
-        }
+        let benches = tables.benches(alloc, &mut seats)?;
         let shared = Arc::new(
             alloc,
             Nested {
@@ -76,14 +89,6 @@ impl<K: Job> Child<Nested<K>> {
         Ok((Child { shared }, seats))
     }
 
-    /// Another share, unless there are too many.
-    pub(crate) fn again(&self) -> Option<Child<Nested<K>>> {
-        match Arc::try_clone(&self.shared) {
-            Ok(shared) => Some(Child { shared }),
-            Err(_) => None,
-        }
-    }
-
     pub(crate) fn workspace(&self) -> &Workspace<K> {
         &self.shared.workspace
     }
@@ -93,20 +98,12 @@ impl<K: Job> Child<Nested<K>> {
     {
         &self.shared.tables
     }
+}
 
-    /// Lives as a helper of this lock, with seats that rest here; where none do, that life ends at once.
-    pub(crate) fn help<H: Threads + Wait + Sync>(&self, rt: &H, alloc: Global)
-        requires { IsSync H.row }
-    {
-        let nested = &*self.shared;
-        let gate = NoGate;
-        for bench in &nested.benches {
-            if let Some(recruit) = bench.take(&nested.tables) {
-                let workspace = &nested.workspace;
-                let seats = recruit.help::<K, Workspace<K>, NoGate, H>(rt, alloc, workspace, &gate);
-                bench.give(&nested.tables, seats);
-                return;
-            }
-        }
+impl<K: Job> TakesHelpers for Nested<K> {
+    fn help<H: Threads + Wait + Sync>(&self, rt: &H, alloc: Global) {
+        let benches = self.benches.as_slice();
+        self.tables
+            .help_from::<K, Workspace<K>, H>(rt, alloc, &self.workspace, benches);
     }
 }

@@ -2,7 +2,7 @@
 //!
 //! It closes in this order: exit is announced, the places that nobody took are closed, the leader leaves, and the slot is cleared
 //! once no guard is out. A helper's guard is out for its whole life in the lock, which ends once it sees the announcement.
-ghost use Rattle.std.specs.Prelude.{◌≡◌, ◌<◌, ◌≤◌, IfSome, IfOk, OnErr, IsErrOf, vec_len};
+ghost use Rattle.std.specs.Prelude.{◌≡◌, ◌<◌, IfOk, OnErr, IsErrOf};
 ghost use Rattle.std.specs.Fn.{FnOnceReturnsAtMut};
 ghost use Rattle.std.specs.Arc.{arc_value};
 ghost use Rattle.spindle_trays.specs.Leaders.{threads_of};
@@ -10,22 +10,16 @@ ghost use Rattle.spindle_trays.specs.Locks.{lock_threads};
 ghost use Rattle.spindle_trays.specs.Opening.{AreSeatsAt};
 ghost use denote.Param.Send.{IsSync};
 
-use crate::crew::asking::Offered;
-use crate::crew::leader_post::LeaderPost;
-use crate::crew::members::Members;
-use crate::crew::notices::Notices;
-use crate::crew::post::Post;
 use crate::crew::seats::Seats;
 use crate::job::Job;
 use crate::job::context::JobCx;
 use crate::job::gate::NoGate;
 use crate::job::nest::Under;
 use crate::lock::leader::Leader;
+use crate::lock::nested::berth::Berth;
 use crate::lock::nested::child::{Child, Nested};
+use crate::lock::opening::take_post;
 use crate::lock::workspace::Opens;
-use crate::work::runner::Runner;
-use crossbeam_utils::CachePadded;
-use spindle_parts::aarc_imp::AtomicArc;
 use spindle_parts::fault::Fault;
 use spindle_rounds::round_table::slots::Bare;
 use std::alloc::Global;
@@ -61,16 +55,14 @@ impl<'a, K: Job> JobCx<'a, Under<K>> {
         {
             let (child, seats) = Child::open(alloc, crew, limits)?;
             let asked = self.notices.ask(crew.threads() - 1);
-            if let Some(slot) = find_slot(slots, &child, self.notices.slots()) {
-                let offered = asked.install(slot);
-                self.site.sleep.wake(rt);
+            let berth = Berth::take(rt, slots, &child, asked, self.site.sleep);
+            if let Some(berth) = berth {
                 let gate = NoGate;
                 let mut leader = take_lead(rt, &child, &gate, seats);
                 let answer = f(&mut leader);
-                close(rt, leader, offered, &slots[slot]);
+                close(rt, leader, berth);
                 return Ok(answer);
             }
-            drop(asked.withdraw());
         }
         let (child, seats) = Child::open(alloc, crew.alone(), limits)?;
         let gate = NoGate;
@@ -79,33 +71,14 @@ impl<'a, K: Job> JobCx<'a, Under<K>> {
     }
 }
 
-// The first free slot, in which a share of the lock stands from now on.
-fn find_slot<K: Job>(
-    slots: &Vec<CachePadded<AtomicArc<Child<Nested<K>>>>>,
-    child: &Child<Nested<K>>,
-    places: usize,
-) -> Option<usize>
-    ensures { IfSome result (λ slot. (slot < vec_len slots.now) × (slot < places)) }
-{
-    let mut share = child.again()?;
-    for number in 0..slots.len().min(places) {
-        share = match slots[number].compare_exchange_null(share) {
-            Ok(()) => return Some(number),
-            Err(back) => back,
-        };
-    }
-    None
-}
-
-// Closes a lock that stands in the slot. The order is binding.
+// Closes a lock that stands in a child slot. The order is binding.
 fn close<K: Opens<L>, L, H: Wait>(
     rt: &H,
     mut leader: Leader<'_, K, NoGate, L>,
-    offered: Offered<'_>,
-    slot: &AtomicArc<Child<Nested<K>>>,
+    berth: Berth<'_, Nested<K>>,
 ) {
     leader.dismiss(rt);
-    drop(offered.close());
+    let slot = berth.close();
     leader.leave(rt);
     drop(slot.clear(rt));
 }
@@ -120,11 +93,13 @@ fn take_lead<'b, K: Opens<L>, L, H: Wait>(
     requires { AreSeatsAt (arc_value child.now.shared).tables seats }
     ensures { threads_of result ≡ (arc_value child.now.shared).tables.crew.most }
 {
-    let tables = child.tables();
     let workspace = K::inner(child);
-    let notices = Notices::new(&tables.ledger, seats.ledger, tables.child_slots);
-    let post = LeaderPost::new(Post::join(rt, tables, seats.round, 0));
-    let site = tables.site(Members::Barrier(tables.round.init()), 0);
-    let runner = Runner::new(K::children(workspace), gate, site, notices);
+    let (post, runner) = take_post::<Bare, K, NoGate, L, H>(
+        rt,
+        child.tables(),
+        workspace,
+        gate,
+        seats,
+    );
     Leader::new(workspace, runner, post)
 }

@@ -4,8 +4,8 @@ use Rattle.spindle_trays.specs.declared.crew.Crew.{Crew}
 use Rattle.spindle_trays.specs.Locks.{lock_threads}
 use Rattle.spindle_trays.proofs.lock.nested.opening.JobCx+Under+K.with_lock.Goals as goal
 
-pub returns-in-Some-find_slot-clause-promise : goal.returns-in-Some-find_slot-clause-promise
-returns-in-Some-find_slot-clause-promise g c =
+pub returns-in-Some-berth-clause-promise : goal.returns-in-Some-berth-clause-promise
+returns-in-Some-berth-clause-promise g c =
     let size = c.nested-crew.ensures.most ∙ ap (λ v. lock_threads v.pool c.args.max_threads) c.self.view_is in (
       c.take_lead-leader.result,
       _,

@@ -2,12 +2,12 @@
 use Rattle.std.proofs.Common.{◌≡◌, ◌+◌, ◌≤◌, vec_len, vec_capacity, All}
 use Rattle.spindle_trays.specs.Nested.{IsBenchAt}
 use Rattle.spindle_trays.specs.Opening.{AreSeatsAt}
-use Rattle.spindle_trays.proofs.lock.nested.child.Child+Nested+K.open.Given as goal
+use Rattle.spindle_trays.proofs.crew.tables.Tables.benches.Given as goal
 
 abbrev pub invariant-loop : goal.invariant-loop
 invariant-loop g l = record {
-  seats : AreSeatsAt l.tables l.seats;
-  benches : All (IsBenchAt l.tables) l.benches.items;
+  seats : AreSeatsAt l.fn.self l.seats;
+  benches : All (IsBenchAt l.fn.self) l.benches.items;
   len : vec_len l.benches + 1 ≡ l.counter;
   room : l.end ≤ vec_capacity l.benches;
 }

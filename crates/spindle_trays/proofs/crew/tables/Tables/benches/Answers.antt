@@ -3,13 +3,13 @@ use Rattle.std.proofs.Common.{rules, ◌∷◌, []}
 use Rattle.std.proofs.lemmas.List.Elements.{All-append}
 use Rattle.spindle_trays.specs.Nested.{IsBenchAt}
 use Rattle.spindle_trays.proofs.Benches.{all_of_one}
-use Rattle.spindle_trays.proofs.lock.nested.child.Child+Nested+K.open.Goals as goal
+use Rattle.spindle_trays.proofs.crew.tables.Tables.benches.Goals as goal
 
 pub loop-preserved : goal.loop-preserved
-loop-preserved g c = let t = c.in_ok-tables.tables in let i = c.loop.invariant in let b = c.new-in-loop.result in record {
-  seats = c.new-in-loop.ensures.seats;
+loop-preserved g c = let t = c.args.self.now in let i = c.loop.invariant in let b = c.new.result in record {
+  seats = c.new.ensures.seats;
   benches = rw c.push_reserved.ensures.items (All-append (IsBenchAt t) c.loop.benches.items (b ∷ []) i.benches
-      (all_of_one (IsBenchAt t) b c.new-in-loop.ensures.bench));
+      (all_of_one (IsBenchAt t) b c.new.ensures.bench));
   len = search rules;
   room = search rules;
 }
