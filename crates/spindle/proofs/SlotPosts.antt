@@ -21,6 +21,7 @@ use Rattle.spindle_rounds.specs.SlotSteps.{numbered}
 use Rattle.spindle_rounds.specs.Stances.{IsStanceOf}
 use Rattle.spindle_rounds.specs.Working.{IsIdle}
 use Rattle.spindle_trays.specs.declared.crew.tables.Tables.{Tables}
+use Rattle.spindle_trays.specs.Posts.{IsAt}
 use Rattle.spindle_trays.specs.SlotPosts.{StandsAt, HoldsEmpty, empty_slots, view_in}
 use Rattle.spindle.specs.SlotRounds.{LeadsIn}
 
@@ -46,6 +47,26 @@ module _ {P A : Type 0} where
   pub holds_empty : (slots : ℕ) (c : List (ℕ × Stand P A)) → c ≡ empty_slots slots → HoldsEach IsEmpty slots c
   holds_empty slots c e = record { ys = replicate slots Empty; many = many_same slots Empty; hand = e; each = in_empty slots }
 
+-- who stands there without its barrier stands at it as it did
+pub stood : {T S N : Type 0} (tables : Tables T S N) (b : Barrier T S N) (s : Stance T S N) → IsStanceOf b s → b.init.now ≡ tables.round.init
+    → StandsAt tables s → IsAt tables b × (b.seat.me.0.leader ≡ true) × MayFill b.seat.me.0 × IsIdle b.seat.me.0
+stood {T} {S} {N} tables b s is home h = let e : s.seat ≡ b.seat = is.seat in let seated = ap (λ (z : Seat S (View N)). z.table_id) (sym e) ∙ h.0 in
+    let sense : HasSense s.seat.me.0.standing s.sense = subst (λ (z : Standing). HasSense z s.sense) (sym h.3) h.6 in
+    let part : HasPart s.seat.me.0.standing s.is_member = subst (λ (z : Standing). HasPart z s.is_member) (sym h.3) h.7 in (
+      (
+        (
+          seated ∙ sym (ap (λ (i : BarrierInit T S N). i.table.shared.table_id) home),
+          subst (λ (z : Seat S (View N) × ℕ). HasSense z.0.me.0.standing z.1) (λ i. (e i, is.sense i)) sense,
+          subst (λ (z : Seat S (View N) × Bool). HasPart z.0.me.0.standing z.1) (λ i. (e i, is.member i)) part,
+        ),
+        seated,
+        ap (λ (z : Seat S (View N)). z.me.0.threads) (sym e) ∙ h.1,
+      ),
+      ap (λ (z : Seat S (View N)). z.me.0.leader) (sym e) ∙ h.2,
+      subst (λ (z : Seat S (View N)). MayFill z.me.0) e ((_, h.3), h.4),
+      subst (λ (z : Seat S (View N)). IsIdle z.me.0) e h.5,
+    )
+
 -- a seat of such a lock
 abbrev Own : (P A : Type 0) → Type 0
 Own P A = Seat (Stand P A) (View P)
@@ -54,26 +75,16 @@ module _ {T P A : Type 0} where
   -- at its barrier it leads as it did without
   pub resumed : (tables : Tables T (Stand P A) P) (b : Barrier T (Stand P A) P) (s : Stance T (Stand P A) P) → IsStanceOf b s
       → b.init.now ≡ tables.round.init → StandsAt tables s → HoldsEmpty (slots_of tables.round.init) s → LeadsIn tables b
-  resumed tables b s is home h held = let e : s.seat ≡ b.seat = is.seat in let seated = ap (λ (z : Own P A). z.table_id) (sym e) ∙ h.0 in
-      let sense : HasSense s.seat.me.0.standing s.sense = subst (λ (z : Standing). HasSense z s.sense) (sym h.3) h.6 in
-      let part : HasPart s.seat.me.0.standing s.is_member = subst (λ (z : Standing). HasPart z s.is_member) (sym h.3) h.7 in record {
-        stands = record {
-          at = (
-            (
-              seated ∙ sym (ap (λ (i : BarrierInit T (Stand P A) P). i.table.shared.table_id) home),
-              subst (λ (z : Own P A × ℕ). HasSense z.0.me.0.standing z.1) (λ i. (e i, is.sense i)) sense,
-              subst (λ (z : Own P A × Bool). HasPart z.0.me.0.standing z.1) (λ i. (e i, is.member i)) part,
-            ),
-            seated,
-            ap (λ (z : Own P A). z.me.0.threads) (sym e) ∙ h.1,
-          );
-          leads = ap (λ (z : Own P A). z.me.0.leader) (sym e) ∙ h.2;
-          between = subst (λ (z : Own P A). MayFill z.me.0) e ((_, h.3), h.4);
-          idle = subst (λ (z : Own P A). IsIdle z.me.0) e h.5;
-          out = subst (λ (z : Own P A). AllOut (slots_of tables.round.init) z.me.0.board) e held.1;
-        };
-        hand = subst (λ (z : Own P A). HoldsEach IsEmpty (slots_of tables.round.init) z.me.1) e (holds_empty (slots_of tables.round.init) s.seat.me.1 held.0);
-      }
+  resumed tables b s is home h held = let e : s.seat ≡ b.seat = is.seat in let there = stood tables b s is home h in record {
+    stands = record {
+      at = there.0;
+      leads = there.1;
+      between = there.2;
+      idle = there.3;
+      out = subst (λ (z : Own P A). AllOut (slots_of tables.round.init) z.me.0.board) e held.1;
+    };
+    hand = subst (λ (z : Own P A). HoldsEach IsEmpty (slots_of tables.round.init) z.me.1) e (holds_empty (slots_of tables.round.init) s.seat.me.1 held.0);
+  }
 
   -- and the other way round
   pub parted : (tables : Tables T (Stand P A) P) (b : Barrier T (Stand P A) P) (s : Stance T (Stand P A) P) → IsStanceOf b s → LeadsIn tables b

@@ -13,7 +13,9 @@ mod pieces;
 mod work;
 
 pub use free::{for_each, for_each_raw};
-pub use lock::{play_in_place, reduce, run_one, with_lock, with_slots, with_slots_in_place};
+pub use lock::{
+    nested, play_in_place, reduce, run_one, with_lock, with_slots, with_slots_in_place,
+};
 pub use spindle_lists::{Chunk, EqualIsSame, ListRun, SharedList, gathered};
 pub use spindle_parts::fault::Fault;
 pub use spindle_parts::{aarc_imp, cut, numbers, requests, steps};

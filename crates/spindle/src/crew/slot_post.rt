@@ -10,8 +10,9 @@ use spindle_rounds::barrier::stance::Stance;
 use spindle_rounds::round_table::pieces::{Answers, Pieces};
 use spindle_rounds::round_table::slots::Slots;
 use spindle_trays::crew::leader_post::LeaderPost;
+use spindle_trays::crew::post::Post;
 use spindle_trays::crew::tables::Tables;
-use std::sync::Arc;
+use std::sync::{Arc, Wait};
 
 /// A leader that stands at its barrier, and has done nothing with the slots: its share of the tables, and what it keeps.
 #[derive(Drop)]
@@ -83,5 +84,18 @@ impl<A: Answers> SlotPost<A> {
         ensures between { MayFill (view_in self.now.stance) }
     {
         self.slots
+    }
+
+    /// Leaves the barrier. The slots go with the post.
+    pub(crate) fn leave<H: Wait>(self, rt: &H) {
+        let SlotPost {
+            tables,
+            slots: _,
+            stance,
+        } = self;
+        let Some(stance) = stance else { unreachable!() };
+        let tables: &Tables<Pieces<A>> = &*tables;
+        let barrier = tables.round.init().resume(stance);
+        drop(Post::new(tables, barrier, 0).leave(rt));
     }
 }

@@ -38,7 +38,7 @@ pub trait Remake {
 
 /// The kind of job that stands for a kind M of remaking where a lock asks for one. As a job it is given nothing and answers nothing;
 /// what it does in place is what M does.
-pub struct InPlace<M: Remake> {
+pub struct InPlace<M> {
     kind: PhantomData<M>,
 }
 

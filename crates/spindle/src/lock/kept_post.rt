@@ -39,6 +39,10 @@ impl<J: Job, A: RunsPieces<J>> OpensSlots<KeptPost<A>> for J {
     fn wake<H: Wait>(rt: &H, post: &KeptPost<A>) {
         post.post.tables.sleep.wake(rt);
     }
+
+    fn leave<H: Wait>(rt: &H, post: KeptPost<A>) {
+        post.post.leave(rt);
+    }
 }
 
 impl<J: Job, A: RunsPieces<J>> MakesSlots<KeptPost<A>, Pieces<A>, SlotWorkspace<J>> for J {

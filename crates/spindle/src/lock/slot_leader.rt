@@ -40,6 +40,11 @@ impl<'a, J: OpensSlots<P>, G: Gate, P> SlotLeader<'a, J, G, P> {
         J::wake(rt, &self.post);
     }
 
+    /// Leaves the lock's barrier.
+    pub(crate) fn leave<H: Wait>(self, rt: &H) {
+        J::leave(rt, self.post);
+    }
+
     /// How many threads take part in the lock now, the leader counted.
     pub fn current_num_threads(&self) -> usize
         ensures leader { 0 < result }

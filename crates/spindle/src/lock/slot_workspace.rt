@@ -77,6 +77,9 @@ pub trait OpensSlots<P>: Job + HasPost<P> {
 
     /// Wakes all who sleep.
     fn wake<H: Wait>(rt: &H, post: &P);
+
+    /// Leaves the lock's barrier.
+    fn leave<H: Wait>(rt: &H, post: P);
 }
 
 /// How such a lock is made, where its round table has D's slots. Each kind of job has one D, `Pieces<PieceOf<J>>`.

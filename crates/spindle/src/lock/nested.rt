@@ -1,0 +1,181 @@
+//! Locks with slots that a job opens: over lists, and in place. Idle helpers of the job's lock move there, as to those that
+//! `JobCx::with_lock` opens, and no piece is lost in them.
+//!
+//! They are functions over the job's context, which is of the crate below.
+ghost use Rattle.std.specs.Prelude.{◌≡◌, ◌<◌, ◌≤◌, IfOk, OnErr, IsErrOf};
+ghost use Rattle.std.specs.Arc.{arc_value};
+ghost use Rattle.std.specs.Fn.{FnOnceReturnsAtMut};
+ghost use Rattle.spindle_trays.specs.Locks.{lock_threads};
+ghost use Rattle.spindle.specs.SlotLeaders.{TakesLeaders, IsLeaderOf, threads_of};
+
+use crate::crew::slot_post::Newcomer;
+use crate::job::remake::Remakes;
+use crate::lock::slot_leader::SlotLeader;
+use crate::lock::slot_nest::{Entry, NestedSlots, UnderPieces};
+use crate::lock::slot_workspace::{MakesSlots, OpensSlots, SlotWorkspace};
+use crate::pieces::of_kind::{ChunkOf, PieceOf};
+use crate::work::in_slots::RunsPieces;
+use spindle_parts::fault::Fault;
+use spindle_rounds::round_table::pieces::Pieces;
+use spindle_trays::job::Job;
+use spindle_trays::job::context::JobCx;
+use spindle_trays::job::gate::NoGate;
+use spindle_trays::lock::nested::Berth;
+use spindle_trays::lock::opening::take_post;
+use std::alloc::Global;
+use std::sync::Wait;
+use std::thread::Threads;
+
+/// Opens a lock with slots over jobs of kind J in a job, whose rounds have at most so many jobs, runs f with its leader, and closes the
+/// lock.
+///
+/// The lock has the least of the pool's threads, `max_threads` and 32767, its leader counted. With one thread, or where the
+/// job's lock has no free child slot, its leader works alone. `Memory` hasn't run f, and is the only refusal.
+pub fn with_slots<
+    J: MakesSlots<P, Pieces<PieceOf<J>>, SlotWorkspace<J>>,
+    R,
+    F: FnOnce(&mut SlotLeader<J, NoGate, P>) -> R,
+    P: Drop,
+    H: Threads + Wait + Sync,
+>(
+    rt: &H,
+    alloc: Global,
+    cx: &mut JobCx<'_, UnderPieces<J, PieceOf<J>>>,
+    max_threads: usize,
+    slots: usize,
+    f: F,
+) -> Result<R, Fault>
+    requires some { 0 < max_threads }
+    requires slots { (1 ≤ slots) × (slots ≤ 4294967295) }
+    requires callable { TakesLeaders J.OpensSlots.slot_count slots F.FnOnce f }
+    ensures promise { IfOk result (λ r. (old : _) × (new : _)
+        × (threads_of old ≡ lock_threads cx.old.pool max_threads)
+        × (J.OpensSlots.slot_count old.post ≡ slots)
+        × FnOnceReturnsAtMut F.FnOnce f old r new) }
+    ensures memory { OnErr result (IsErrOf result Fault.Memory) }
+    ensures lock { (cx.new.threads ≡ cx.old.threads) × (cx.new.pool ≡ cx.old.pool) }
+{
+    open::<J, PieceOf<J>, R, F, P, H>(rt, alloc, cx, max_threads, slots, f)
+}
+
+/// Opens a lock in a job whose rounds remake lists in place, in at most so many jobs, runs f with its leader, and closes the lock.
+///
+/// J is `InPlace<M>` for a kind M of remaking. It is a lock as `with_slots` opens it, and a refusal hasn't run f.
+pub fn with_slots_in_place<
+    J: MakesSlots<P, Pieces<ChunkOf<J>>, SlotWorkspace<J>> + Remakes,
+    R,
+    F: FnOnce(&mut SlotLeader<J, NoGate, P>) -> R,
+    P: Drop,
+    H: Threads + Wait + Sync,
+>(
+    rt: &H,
+    alloc: Global,
+    cx: &mut JobCx<'_, UnderPieces<J, ChunkOf<J>>>,
+    max_threads: usize,
+    slots: usize,
+    f: F,
+) -> Result<R, Fault>
+    requires some { 0 < max_threads }
+    requires slots { (1 ≤ slots) × (slots ≤ 4294967295) }
+    requires callable { TakesLeaders J.OpensSlots.slot_count slots F.FnOnce f }
+    ensures promise { IfOk result (λ r. (old : _) × (new : _)
+        × (threads_of old ≡ lock_threads cx.old.pool max_threads)
+        × (J.OpensSlots.slot_count old.post ≡ slots)
+        × FnOnceReturnsAtMut F.FnOnce f old r new) }
+    ensures memory { OnErr result (IsErrOf result Fault.Memory) }
+    ensures lock { (cx.new.threads ≡ cx.old.threads) × (cx.new.pool ≡ cx.old.pool) }
+{
+    open::<J, ChunkOf<J>, R, F, P, H>(rt, alloc, cx, max_threads, slots, f)
+}
+
+// Opens a lock whose slots hold A's pieces, runs f with its leader, and closes the lock.
+fn open<
+    J: Job + MakesSlots<P, Pieces<A>, SlotWorkspace<J>>,
+    A: RunsPieces<J>,
+    R,
+    F: FnOnce(&mut SlotLeader<J, NoGate, P>) -> R,
+    P: Drop,
+    H: Threads + Wait + Sync,
+>(
+    rt: &H,
+    alloc: Global,
+    cx: &mut JobCx<'_, UnderPieces<J, A>>,
+    max_threads: usize,
+    slots: usize,
+    f: F,
+) -> Result<R, Fault>
+    requires some { 0 < max_threads }
+    requires slots { (1 ≤ slots) × (slots ≤ 4294967295) }
+    requires callable { TakesLeaders J.OpensSlots.slot_count slots F.FnOnce f }
+    ensures promise { IfOk result (λ r. (old : _) × (new : _)
+        × (threads_of old ≡ lock_threads cx.old.pool max_threads)
+        × (J.OpensSlots.slot_count old.post ≡ slots)
+        × FnOnceReturnsAtMut F.FnOnce f old r new) }
+    ensures memory { OnErr result (IsErrOf result Fault.Memory) }
+    ensures lock { (cx.new.threads ≡ cx.old.threads) × (cx.new.pool ≡ cx.old.pool) }
+{
+    let crew = cx.site.crew.nested(max_threads);
+    let limits = cx.site.sleep.limits();
+    let gate = NoGate;
+    if let Some(places) = cx.slots
+        && crew.threads() > 1
+    {
+        let (child, entry) = NestedSlots::open(alloc, crew, limits, slots)?;
+        let asked = cx.notices.ask(crew.threads() - 1);
+        let berth = Berth::take(rt, places, &child, asked, cx.site.sleep);
+        if let Some(berth) = berth {
+            let mut leader = take_lead(rt, &*child.shared, &gate, entry);
+            let answer = f(&mut leader);
+            close(rt, leader, berth);
+            return Ok(answer);
+        }
+    }
+    let (child, entry) = NestedSlots::open(alloc, crew.alone(), limits, slots)?;
+    let mut leader = take_lead(rt, &*child.shared, &gate, entry);
+    Ok(f(&mut leader))
+}
+
+// Closes a lock that stands in a child slot. The order is binding.
+fn close<J: OpensSlots<P>, P: Drop, N: Drop, H: Wait>(
+    rt: &H,
+    mut leader: SlotLeader<'_, J, NoGate, P>,
+    berth: Berth<'_, N>,
+) {
+    leader.dismiss(rt);
+    let slot = berth.close();
+    leader.leave(rt);
+    drop(slot.clear(rt));
+}
+
+// The leader of a lock that nobody leads yet.
+fn take_lead<
+    'b,
+    J: Job + MakesSlots<P, Pieces<A>, SlotWorkspace<J>>,
+    A: RunsPieces<J>,
+    P: Drop,
+    H: Wait,
+>(
+    rt: &H,
+    nested: &'b NestedSlots<SlotWorkspace<J>, A>,
+    gate: &'b NoGate,
+    entry: Entry<A>,
+) -> SlotLeader<'b, J, NoGate, P>
+    requires { arc_value entry.share ≡ arc_value nested.now.tables }
+    ensures { IsLeaderOf J.OpensSlots.slot_count (arc_value nested.now.tables).crew.most entry.slots result }
+{
+    let Entry {
+        share,
+        seats,
+        slots,
+    } = entry;
+    let tables = &*nested.tables;
+    let (post, runner) = take_post::<Pieces<A>, J, NoGate, SlotWorkspace<J>, H>(
+        rt,
+        tables,
+        &nested.workspace,
+        gate,
+        seats,
+    );
+    let mut newcomer = Some(Newcomer::new(share, post, slots));
+    SlotLeader::new(runner, J::settle(&mut newcomer))
+}

@@ -1,0 +1,133 @@
+//! The locks with slots that a job may open, and what the threads of one share.
+ghost use Rattle.std.specs.Prelude.{◌≡◌, ◌≤◌, IfOk, OnErr, IsErrOf, All};
+ghost use Rattle.std.specs.Arc.{arc_value};
+ghost use denote.Param.Send.{IsSync};
+ghost use Rattle.spindle_rounds.specs.Seating.{HasSlots};
+ghost use Rattle.spindle_trays.specs.Nested.{IsBenchAt};
+ghost use Rattle.spindle_trays.specs.Opening.{AreSeatsAt};
+
+use crate::job::remake::InPlace;
+use crate::lock::slot_workspace::SlotWorkspace;
+use crate::pieces::of_kind::{ChunkOf, PieceOf};
+use crate::work::in_slots::RunsPieces;
+use spindle_parts::fault::Fault;
+use spindle_rounds::round::Round;
+use spindle_rounds::round_table::pieces::{Answers, Pieces};
+use spindle_trays::crew::Crew;
+use spindle_trays::crew::limits::Limits;
+use spindle_trays::crew::notices::Notices;
+use spindle_trays::crew::seats::Seats;
+use spindle_trays::crew::tables::Tables;
+use spindle_trays::job::Job;
+use spindle_trays::job::nest::Nest;
+use spindle_trays::job::sealed::IsNest;
+use spindle_trays::lock::nested::{Bench, Child, ChildSlot, TakesHelpers, make_slots, serve_slots};
+use std::alloc::Global;
+use std::marker::PhantomData;
+use std::sync::{Arc, Wait};
+use std::thread::Threads;
+
+/// Nested locks with slots over jobs of kind J, whose slots hold A's pieces: `UnderSlots<K>` or `UnderInPlace<M>`.
+pub struct UnderPieces<J, A> {
+    kind: PhantomData<(J, A)>,
+}
+
+/// Nested locks with slots over jobs of kind K.
+pub type UnderSlots<K> = UnderPieces<K, PieceOf<K>>;
+
+/// Nested locks whose rounds remake items of the kind M in place.
+pub type UnderInPlace<M> = UnderPieces<InPlace<M>, ChunkOf<InPlace<M>>>;
+
+/// What the threads of a nested lock with slots share: its tables, what stands beside them, and seats for its helpers. W is
+/// `SlotWorkspace<J>` for its kind of job J; a bound on it here would be passed on with each lock that stands in another.
+#[derive(Drop)]
+pub struct NestedSlots<W, A: Answers> {
+    pub(crate) tables: Arc<Tables<Pieces<A>>>,
+    pub(crate) workspace: W,
+    pub(crate) benches: Vec<Bench<Pieces<A>>>,
+    ghost seated: { All (IsBenchAt (arc_value tables)) benches.items },
+}
+
+/// What the leader of a nested lock with slots comes with: a share of the lock's tables, its seats there, and the number of slots.
+#[derive(Drop)]
+pub(crate) struct Entry<A: Answers> {
+    pub(crate) share: Arc<Tables<Pieces<A>>>,
+    pub(crate) seats: Seats<Pieces<A>>,
+    pub(crate) slots: usize,
+    ghost seated: { AreSeatsAt (arc_value share) seats },
+    ghost many: { HasSlots (arc_value share).round.init slots },
+    ghost few: { (1 ≤ slots) × (slots ≤ 4294967295) },
+}
+
+impl<J: Job, A: RunsPieces<J>> NestedSlots<SlotWorkspace<J>, A> {
+    /// A nested lock of so many slots, and what its leader comes with.
+    pub(crate) fn open(
+        alloc: Global,
+        crew: Crew,
+        limits: Limits,
+        slots: usize,
+    ) -> Result<(Child<NestedSlots<SlotWorkspace<J>, A>>, Entry<A>), Fault>
+        requires slots { (1 ≤ slots) × (slots ≤ 4294967295) }
+        ensures share { IfOk result (λ t. arc_value t.1.share ≡ arc_value (arc_value t.0.shared).tables) }
+        ensures crew { IfOk result (λ t. (arc_value t.1.share).crew ≡ crew) }
+        ensures slots { IfOk result (λ t. t.1.slots ≡ slots) }
+        ensures memory { OnErr result (IsErrOf result Fault.Memory) }
+    {
+        let threads = crew.threads();
+        let children = <J::Inner as Nest>::make(alloc, threads)?;
+        let (round, seat) = Round::with_slots(alloc, threads, slots)?;
+        let places = J::Inner::slot_count(threads);
+        let (tables, mut seats) = Tables::new(alloc, crew, limits, places, round, seat)?;
+        let benches = tables.benches(alloc, &mut seats)?;
+        let tables = Arc::new(alloc, tables)?;
+        let share = Arc::try_clone(&tables)?;
+        let shared = Arc::new(
+            alloc,
+            NestedSlots {
+                tables,
+                workspace: SlotWorkspace { children },
+                benches,
+            },
+        )?;
+        let entry = Entry {
+            share,
+            seats,
+            slots,
+        };
+        Ok((Child { shared }, entry))
+    }
+}
+
+impl<J: Job, A: RunsPieces<J>> TakesHelpers for NestedSlots<SlotWorkspace<J>, A> {
+    fn help<H: Threads + Wait + Sync>(&self, rt: &H, alloc: Global) {
+        let benches = self.benches.as_slice();
+        self.tables
+            .help_from::<J, SlotWorkspace<J>, H>(rt, alloc, &self.workspace, benches);
+    }
+}
+
+impl<J: Job, A: RunsPieces<J>> IsNest for UnderPieces<J, A> {}
+
+impl<J: Job, A: RunsPieces<J>> Nest for UnderPieces<J, A> {
+    type Slots = Vec<ChildSlot<NestedSlots<SlotWorkspace<J>, A>>>;
+
+    fn slot_count(threads: usize) -> usize {
+        threads
+    }
+
+    fn make(
+        alloc: Global,
+        threads: usize,
+    ) -> Result<Vec<ChildSlot<NestedSlots<SlotWorkspace<J>, A>>>, Fault> {
+        make_slots(alloc, threads)
+    }
+
+    fn serve<H: Threads + Wait + Sync>(
+        rt: &H,
+        alloc: Global,
+        slots: &Vec<ChildSlot<NestedSlots<SlotWorkspace<J>, A>>>,
+        notices: &mut Notices<'_>,
+    ) {
+        serve_slots(rt, alloc, slots, notices);
+    }
+}
