@@ -5,7 +5,13 @@
 #[cfg(test)]
 mod checks;
 #[cfg(test)]
+mod nested_jobs;
+#[cfg(test)]
+mod nested_rows;
+#[cfg(test)]
 mod place_rows;
+#[cfg(test)]
+mod refused_nested;
 #[cfg(test)]
 mod refused_slots;
 #[cfg(test)]

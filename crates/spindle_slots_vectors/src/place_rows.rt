@@ -14,7 +14,7 @@ use std::sync::Wait;
 use std::thread::Threads;
 
 /// Adds 3 to a number, modulo 2^64.
-struct Step;
+pub struct Step;
 
 impl Remake for Step {
     ghost use Rattle.std.specs.Prelude.{◌≡◌, ◌+◌, ◌%◌, ◌^◌};
@@ -68,8 +68,8 @@ impl RoundsInPlace for Steps {
     }
 }
 
-// Whether each number from 0 up has made so many steps.
-fn have_stepped(list: &[usize], steps: usize) -> bool {
+/// Whether each number from 0 up has made so many steps.
+pub fn have_stepped(list: &[usize], steps: usize) -> bool {
     for number in 0..list.len() {
         if list[number] != number.wrapping_add(steps.wrapping_mul(3)) {
             return false;
