@@ -3,7 +3,7 @@ ghost use Rattle.std.specs.Prelude.{◌≡◌};
 
 use crate::locks::{in_place, in_slots, in_trays};
 use crate::rounds::maps::{MapPlaceRounds, MapRounds};
-use crate::rounds::nested::NestedRounds;
+use crate::rounds::nested::{NestedPlaceRounds, NestedRounds};
 use crate::rounds::products::ProductRounds;
 use crate::rounds::small::{EmptyPlaceRounds, EmptyRounds, TinyPlaceRounds, TinyRounds, TryRounds};
 use crate::rounds::smooth::{SmoothPlaceRounds, SmoothRounds};
@@ -87,7 +87,8 @@ fn run_in_trays<H: Threads + Wait + Sync + Clock + Print + Alloc<A = Global>>(
     }
 }
 
-// Runs a shape in a lock whose rounds are played in place: empty, tiny8, the stencils and map have such a line.
+// Runs a shape in a lock whose rounds are played in place, `nested` in one whose jobs open such locks; `try8` and the products have no
+// such line.
 fn run_in_place<H: Threads + Wait + Sync + Clock + Print + Alloc<A = Global>>(
     rt: &H,
     settings: &Settings,
@@ -98,6 +99,7 @@ fn run_in_place<H: Threads + Wait + Sync + Clock + Print + Alloc<A = Global>>(
     match shape {
         Shape::Empty => in_place(rt, settings, shape, EmptyPlaceRounds::new(alloc, jobs)?),
         Shape::Tiny8 => in_place(rt, settings, shape, TinyPlaceRounds::new(alloc, jobs)?),
+        Shape::Nested => in_trays(rt, settings, shape, NestedPlaceRounds::new(alloc, jobs)?),
         Shape::Map => in_place(rt, settings, shape, MapPlaceRounds::new(alloc, jobs)?),
         Shape::Stencil4k => in_place(
             rt,

@@ -124,7 +124,7 @@ fn led_in_trays<S: TrayRounds, H: Threads + Wait + Sync + Clock + Print + Alloc<
             requires { IsSync H.row }
         { rounds.in_trays(rt, alloc, leader) },
     )?;
-    finish(rt, settings, Line::Trays, shape, &rounds, &times)
+    finish(rt, settings, S::line(), shape, &rounds, &times)
 }
 
 /// Runs a shape's rounds in a lock with a slot for each of their jobs, in place.

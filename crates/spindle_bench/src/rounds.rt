@@ -10,6 +10,7 @@ pub mod smooth;
 pub mod stencils;
 
 use spindle::lock::{Job, Leader, NoGate, PlacePost, Remakes, SlotLeader};
+use spindle_timing::line::Line;
 use spindle_timing::stop::Stop;
 use std::alloc::Global;
 use std::sync::Wait;
@@ -40,6 +41,11 @@ pub trait SlotRounds: Rounds {
 pub trait TrayRounds: Rounds {
     /// The kind of job.
     type Kind: Job;
+
+    /// The line that is printed: that of trays, or where jobs open locks in place and run all but a round there, that of these.
+    fn line() -> Line {
+        Line::Trays
+    }
 
     /// Runs one round.
     fn in_trays<H: Threads + Wait + Sync>(

@@ -6,8 +6,11 @@ ghost use Rattle.spindle_lists.specs.Same.{equal_lists_are_same};
 ghost use denote.Param.Send.{IsSync};
 ghost use Rattle.spindle_bench.specs.Kernels.{one_more_of};
 
-use crate::jobs::stencils::one_more_each;
-use spindle::lock::{End, Job, JobCx, Leader, NoGate, Opens, Under};
+use crate::jobs::stencils::{AddOneInPlace, one_more_each};
+use spindle::lock::{
+    End, InPlace, Job, JobCx, Leader, NoGate, Opens, PlaceLeader, Under, UnderInPlace,
+};
+use spindle::nested::with_slots_in_place;
 use spindle::{Fault, SharedList};
 use spindle_timing::shape::{NESTED_LEN, NESTED_PARTS, NESTED_ROUNDS};
 use std::alloc::Global;
@@ -90,6 +93,63 @@ where
 {
     for _ in 0..NESTED_ROUNDS {
         parts = leader.for_each(rt, alloc, NESTED_PARTS, parts)?;
+    }
+    Ok(parts)
+}
+
+/// Opens a lock in place of half as many threads as its own lock has, and there adds one to each number of a list in each of so many
+/// rounds, a part a job.
+pub struct AddInRoundsInPlace;
+
+impl Job for AddInRoundsInPlace {
+    type In = SharedList<u64>;
+
+    type Out = Result<SharedList<u64>, Fault>;
+
+    type Inner = UnderInPlace<AddOneInPlace>;
+
+    ghost meets = { λ _ _. Unit {0} };
+
+    fn run<H: Threads + Wait + Sync>(
+        rt: &H,
+        alloc: Global,
+        numbers: &SharedList<u64>,
+        cx: &mut JobCx<UnderInPlace<AddOneInPlace>>,
+    ) -> Result<SharedList<u64>, Fault> {
+        let mut parts = Vec::with_capacity(alloc, NESTED_PARTS)?;
+        for part in numbers.as_slice().chunks(NESTED_LEN / NESTED_PARTS) {
+            parts.push(part.to_vec(alloc)?)?;
+        }
+        let threads = (cx.max_num_threads() / 2).max(1);
+        let sums = with_slots_in_place::<InPlace<AddOneInPlace>, _, _, _, _>(
+            rt,
+            alloc,
+            cx,
+            threads,
+            NESTED_PARTS,
+            |leader| -> Result<Vec<Vec<u64>>, Fault>
+                requires { IsSync H.row }
+            { added_in_place(rt, alloc, leader, parts) },
+        )??;
+        let mut numbers = Vec::with_capacity(alloc, NESTED_LEN)?;
+        for part in &sums {
+            numbers.extend_from_slice(part.as_slice())?;
+        }
+        Ok(SharedList::from_vec(alloc, numbers)?)
+    }
+
+    ghost equal_is_same = { Prim.search rules };
+}
+
+// The parts after all rounds of a lock that a job opened.
+fn added_in_place<H: Threads + Wait + Sync>(
+    rt: &H,
+    alloc: Global,
+    leader: &mut PlaceLeader<AddOneInPlace, NoGate>,
+    mut parts: Vec<Vec<u64>>,
+) -> Result<Vec<Vec<u64>>, Fault> {
+    for _ in 0..NESTED_ROUNDS {
+        leader.remake_each(rt, alloc, NESTED_PARTS, &mut parts)?;
     }
     Ok(parts)
 }

@@ -2,10 +2,11 @@
 ghost use Rattle.std.specs.Prelude.{◌≡◌};
 ghost use denote.Param.Send.{IsSync};
 
-use crate::jobs::nested::{AddInRounds, Part};
+use crate::jobs::nested::{AddInRounds, AddInRoundsInPlace, Part};
 use crate::rounds::{Rounds, TrayRounds};
 use spindle::SharedList;
 use spindle::lock::{Leader, NoGate};
+use spindle_timing::line::Line;
 use spindle_timing::shape::{NESTED_LEN, NESTED_PARTS, NESTED_ROUNDS};
 use spindle_timing::stop::Stop;
 use std::alloc::Global;
@@ -56,6 +57,62 @@ impl TrayRounds for NestedRounds {
         rt: &H,
         alloc: Global,
         leader: &mut Leader<AddInRounds, NoGate>,
+    ) -> Result<(), Stop> {
+        let lists = self.take(alloc)?;
+        for sums in leader.for_each(rt, alloc, lists.len(), lists)? {
+            self.lists.push(sums?)?;
+        }
+        Ok(())
+    }
+}
+
+/// Rounds over a list a job, which the job changes in a lock in place.
+#[derive(Drop)]
+pub struct NestedPlaceRounds {
+    jobs: usize,
+    lists: Vec<SharedList<u64>>,
+}
+
+impl NestedPlaceRounds {
+    /// So many lists of zeros.
+    pub fn new(alloc: Global, jobs: usize) -> Result<NestedPlaceRounds, Stop> {
+        let mut lists = Vec::with_capacity(alloc, jobs)?;
+        for _ in 0..jobs {
+            let zeros = vec![in alloc; 0u64; NESTED_LEN]?;
+            lists.push(SharedList::from_vec(alloc, zeros)?)?;
+        }
+        Ok(NestedPlaceRounds { jobs, lists })
+    }
+
+    // Takes the lists, in whose place stands room for as many.
+    fn take(&mut self, alloc: Global) -> Result<Vec<SharedList<u64>>, Stop> {
+        let next = Vec::with_capacity(alloc, self.lists.len())?;
+        Ok(mem::replace(&mut self.lists, next))
+    }
+}
+
+impl Rounds for NestedPlaceRounds {
+    fn is_right(&self, rounds: u64) -> bool {
+        let sum = rounds.saturating_mul(NESTED_ROUNDS);
+        let is_sum = |x: &u64| *x == sum;
+        let is_right = |list: &SharedList<u64>| list.len() == NESTED_LEN
+            && list.as_slice().iter().all(is_sum);
+        self.lists.len() == self.jobs && self.lists.iter().all(is_right)
+    }
+}
+
+impl TrayRounds for NestedPlaceRounds {
+    type Kind = AddInRoundsInPlace;
+
+    fn line() -> Line {
+        Line::Place
+    }
+
+    fn in_trays<H: Threads + Wait + Sync>(
+        &mut self,
+        rt: &H,
+        alloc: Global,
+        leader: &mut Leader<AddInRoundsInPlace, NoGate>,
     ) -> Result<(), Stop> {
         let lists = self.take(alloc)?;
         for sums in leader.for_each(rt, alloc, lists.len(), lists)? {
