@@ -1,39 +1,21 @@
-//! Programs of the users' fields, each a few dozen lines over the public calls of `spindle`, with its contract in its own
-//! terms: a batch that loses nothing, one that a failure stops, prefix sums in two rounds, a matrix product in blocks that
-//! stand in place and in tiles of these, a stencil of many passes, in place too, keys looked up in a table that all jobs are lent, and a game evaluated by rounds
-//! in rounds.
+//! The program of the examples: it runs each once over fixed numbers, and prints what comes out. Where the variable TRACE is set, it
+//! also prints who ran which job of recorded rounds when, which differs from run to run.
 //!
-//! The program runs each once over fixed numbers, and prints what comes out. The tests compute the same plainly. Where the
-//! variable TRACE is set, it also prints who ran which job of recorded rounds when, which differs from run to run.
+//! The tests beside it compute the same plainly.
 #![tactic(auto)]
 
-mod batch;
 #[cfg(test)]
 mod batch_tests;
-mod block;
-mod checked;
-mod chomp;
-mod clocked;
-mod entries;
-mod evaluator;
-mod prefix;
-mod product;
-mod ranks;
-mod stencil;
-mod stop;
-mod strip;
-mod sums;
 #[cfg(test)]
 mod tests;
-mod tile;
-mod trace;
 
-use crate::batch::Order;
-use crate::checked::Checked;
-use crate::chomp::Board;
-use crate::evaluator::{Evaluate, Recurse};
-use crate::stop::Stop;
 use spindle::lock::{NoGate, Pool};
+use spindle_examples::batch::{self, Order};
+use spindle_examples::checked::{self, Checked};
+use spindle_examples::chomp::Board;
+use spindle_examples::evaluator::{self, Evaluate, Recurse};
+use spindle_examples::stop::Stop;
+use spindle_examples::{prefix, product, ranks, stencil, trace};
 use std::alloc::Global;
 use std::env;
 use std::io::Print;

@@ -1,10 +1,10 @@
 //! The examples against the same computed plainly, over random inputs, with one thread and with several.
 
-use crate::chomp::Board;
-use crate::evaluator::{Evaluate, Recurse};
-use crate::{evaluator, prefix, product, ranks, stencil};
 use spindle::Fault;
 use spindle::lock::{Limits, NoGate, Pool};
+use spindle_examples::chomp::Board;
+use spindle_examples::evaluator::{Evaluate, Recurse};
+use spindle_examples::{evaluator, prefix, product, ranks, stencil};
 use std::alloc::Global;
 use std::sync::Wait;
 use std::thread::Threads;

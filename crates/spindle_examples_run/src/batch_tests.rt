@@ -1,11 +1,11 @@
 //! Batches of orders against what each order comes to, over random orders and by rows, with one thread and with several.
 
-use crate::batch::{self, Order};
-use crate::checked::{self, Checked};
 use crate::tests::next;
 use spindle::Fault;
 use spindle::cut::cut;
 use spindle::lock::{Limits, NoGate, Pool};
+use spindle_examples::batch::{self, Order};
+use spindle_examples::checked::{self, Checked};
 use std::alloc::Global;
 use std::process::Abort;
 

@@ -1,0 +1,25 @@
+//! Examples of the users' fields, each a few dozen lines over the public calls of `spindle`, with its contract in its own
+//! terms: a batch that loses nothing, one that a failure stops, prefix sums in two rounds, a matrix product in blocks that
+//! stand in place and in tiles of these, a stencil of many passes, in place too, keys looked up in a table that all jobs are lent, and a game evaluated by rounds
+//! in rounds.
+//!
+//! Beside them `trace` records who ran which job of a round when. The program that runs each once, and the tests that compute the
+//! same plainly, are the crate above.
+#![tactic(auto)]
+
+pub mod batch;
+mod block;
+pub mod checked;
+pub mod chomp;
+mod clocked;
+mod entries;
+pub mod evaluator;
+pub mod prefix;
+pub mod product;
+pub mod ranks;
+pub mod stencil;
+pub mod stop;
+mod strip;
+mod sums;
+mod tile;
+pub mod trace;
