@@ -8,7 +8,7 @@ ghost use Rattle.spindle_trays.specs.Accounts.{IsSameThread};
 
 use crate::crew::notices::Notices;
 use crate::job::Job;
-use crate::job::sealed::IsNest;
+use crate::job::is_nest::IsNest;
 use crate::lock::nested::{ChildSlot, Nested, make_slots, serve_slots};
 use spindle_parts::fault::Fault;
 use std::alloc::Global;
@@ -16,8 +16,8 @@ use std::marker::PhantomData;
 use std::sync::Wait;
 use std::thread::Threads;
 
-/// The locks that a job may open. A user names `End` or `Under<K>`; the trait's calls are the library's own, and nobody else can
-/// implement it.
+/// The locks that a job may open. A user names `End` or `Under<K>`, or of the crate above `UnderSlots<K>` or `UnderInPlace<M>`. The
+/// trait's calls are the library's own, and who names `spindle` alone can't implement it.
 pub trait Nest: IsNest {
     /// Where a lock keeps the locks that its jobs open.
     type Slots: Drop;

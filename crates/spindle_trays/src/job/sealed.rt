@@ -1,7 +1,4 @@
-//! Traits that can't be named outside the library: what has one of them as its supertrait is implemented here alone.
-
-/// What `Nest` is implemented for.
-pub trait IsNest {}
+//! A trait that can't be named outside the library: what has it as its supertrait is implemented here alone.
 
 /// What `Opens` is implemented for.
 pub trait HasWorkspace<L> {}

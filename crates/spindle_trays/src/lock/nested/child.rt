@@ -42,6 +42,7 @@ pub trait TakesHelpers {
 /// Neither the struct nor its fact has a bound on N, so that locks may be nested to any depth that the checker covers.
 #[derive(Drop)]
 pub struct Child<N> {
+    /// The lock.
     pub shared: Arc<N>,
 }
 
