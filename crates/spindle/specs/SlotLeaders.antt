@@ -6,7 +6,7 @@ use Rattle.std.specs.Prelude.{◌≡◌, ℕ, min}
 use Rattle.spindle_parts.specs.declared.requests.plays.Account.{Account}
 use Rattle.spindle_trays.specs.Accounts as accounts
 use Rattle.spindle_trays.specs.Notices as notices
-use Rattle.spindle.specs.declared.lock.kept_post.KeptPost.{KeptPost}
+use Rattle.spindle_slots.specs.declared.posts.kept_post.KeptPost.{KeptPost}
 use Rattle.spindle.specs.declared.lock.slot_leader.SlotLeader.{SlotLeader}
 use Rattle.spindle_rounds.specs.declared.round_table.view.View.{View}
 use Rattle.spindle_rounds.specs.RoundConditions.{MayFill}

@@ -1,16 +1,12 @@
 //! A fork-join lock for many short parallel rounds: a leader hands lists of items to its rounds, and outputs come back
 //! in the order of the items.
 //!
-//! Here stands what a user names, and the locks whose pieces stand in the slots of the round table. The locks whose pieces stand in
-//! trays are those of `spindle_trays`.
+//! Here stands what a user names, and the locks whose pieces stand in the slots of the round table, which play their rounds by
+//! `spindle_slots`. The locks whose pieces stand in trays are those of `spindle_trays`.
 #![tactic(auto)]
 
-mod crew;
 pub mod free;
-mod job;
 pub mod lock;
-mod pieces;
-mod work;
 
 pub use free::{for_each, for_each_raw};
 pub use lock::{

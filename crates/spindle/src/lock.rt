@@ -2,39 +2,34 @@
 //! out here.
 //!
 //! Locks with slots: `slot_root` has the calls that open them and `slot_opening` how, `slot_leader` what both kinds of their leader share,
-//! `slot_rounds` and `place_rounds` their rounds, `slot_workspace` what they know their posts by, `kept_post` their posts, and `piece_post` and `place_post` how they play a round. `nested`
-//! has the calls by which a job opens them, and `slot_nest` what stands in a child slot then. Locks for one call: `one_round` opens one for a round, `folds` for the total of a
-//! list.
+//! `slot_rounds` and `place_rounds` their rounds, which `spindle_slots` plays. `nested` has the calls by which a job opens them, and
+//! `slot_nest` what stands in a child slot then. Locks for one call: `one_round` opens one for a round, `folds` for the total of a
+//! list, `place_once` for rounds in place.
 
 mod folds;
-mod kept_post;
 pub mod nested;
 mod one_round;
-mod piece_post;
 mod place_once;
-mod place_post;
 mod place_rounds;
-mod sealed;
 mod slot_leader;
 mod slot_nest;
 mod slot_opening;
 mod slot_root;
 mod slot_rounds;
-mod slot_workspace;
 
 pub use self::folds::{Combine, Folds, reduce};
-pub use self::kept_post::KeptPost;
 pub use self::one_round::run_one;
-pub use self::piece_post::{PiecePost, PlaysPieces};
 pub use self::place_once::{RoundsInPlace, play_in_place};
-pub use self::place_post::{PlacePost, PlaysInPlace};
 pub use self::place_rounds::PlaceLeader;
 pub use self::slot_leader::SlotLeader;
 pub use self::slot_nest::{NestedSlots, UnderInPlace, UnderPieces, UnderSlots};
 pub use self::slot_root::{with_slots, with_slots_in_place};
-pub use self::slot_workspace::{MakesSlots, OpensSlots, SlotWorkspace};
-pub use crate::job::remake::{InPlace, Remake, Remakes};
-pub use crate::pieces::of_kind::{ChunkOf, Keeps, PieceOf};
+pub use spindle_slots::job::remake::{InPlace, Remake, Remakes};
+pub use spindle_slots::pieces::of_kind::{ChunkOf, Keeps, PieceOf};
+pub use spindle_slots::posts::kept_post::KeptPost;
+pub use spindle_slots::posts::piece_post::{PiecePost, PlaysPieces};
+pub use spindle_slots::posts::place_post::{PlacePost, PlaysInPlace};
+pub use spindle_slots::posts::slot_workspace::{MakesSlots, OpensSlots, SlotWorkspace};
 pub use spindle_trays::crew::limits::Limits;
 pub use spindle_trays::job::context::JobCx;
 pub use spindle_trays::job::gate::{Gate, NoGate};

@@ -6,17 +6,17 @@ ghost use Rattle.std.specs.Prelude.{◌≡◌, ◌<◌, ◌≤◌, IfOk, OnErr, 
 ghost use Rattle.std.specs.Arc.{arc_value};
 ghost use Rattle.std.specs.Fn.{FnOnceReturnsAtMut};
 ghost use Rattle.spindle_trays.specs.Locks.{lock_threads};
-ghost use Rattle.spindle.specs.SlotLeaders.{TakesLeaders, IsLeaderOf, threads_of};
+ghost use Rattle.spindle.specs.SlotLeaders.{TakesLeaders, IsLeaderOf};
 
-use crate::crew::slot_post::Newcomer;
-use crate::job::remake::Remakes;
 use crate::lock::slot_leader::SlotLeader;
 use crate::lock::slot_nest::{Entry, NestedSlots, UnderPieces};
-use crate::lock::slot_workspace::{MakesSlots, OpensSlots, SlotWorkspace};
-use crate::pieces::of_kind::{ChunkOf, PieceOf};
-use crate::work::in_slots::RunsPieces;
 use spindle_parts::fault::Fault;
 use spindle_rounds::round_table::pieces::Pieces;
+use spindle_slots::crew::slot_post::Newcomer;
+use spindle_slots::job::remake::Remakes;
+use spindle_slots::pieces::of_kind::{ChunkOf, PieceOf};
+use spindle_slots::posts::slot_workspace::{MakesSlots, OpensSlots, SlotWorkspace};
+use spindle_slots::work::in_slots::RunsPieces;
 use spindle_trays::job::Job;
 use spindle_trays::job::context::JobCx;
 use spindle_trays::job::gate::NoGate;
@@ -49,8 +49,7 @@ pub fn with_slots<
     requires slots { (1 ≤ slots) × (slots ≤ 4294967295) }
     requires callable { TakesLeaders J.OpensSlots.slot_count slots F.FnOnce f }
     ensures promise { IfOk result (λ r. (old : _) × (new : _)
-        × (threads_of old ≡ lock_threads cx.old.pool max_threads)
-        × (J.OpensSlots.slot_count old.post ≡ slots)
+        × IsLeaderOf J.OpensSlots.slot_count (lock_threads cx.old.pool max_threads) slots old
         × FnOnceReturnsAtMut F.FnOnce f old r new) }
     ensures memory { OnErr result (IsErrOf result Fault.Memory) }
     ensures lock { (cx.new.threads ≡ cx.old.threads) × (cx.new.pool ≡ cx.old.pool) }
@@ -79,8 +78,7 @@ pub fn with_slots_in_place<
     requires slots { (1 ≤ slots) × (slots ≤ 4294967295) }
     requires callable { TakesLeaders J.OpensSlots.slot_count slots F.FnOnce f }
     ensures promise { IfOk result (λ r. (old : _) × (new : _)
-        × (threads_of old ≡ lock_threads cx.old.pool max_threads)
-        × (J.OpensSlots.slot_count old.post ≡ slots)
+        × IsLeaderOf J.OpensSlots.slot_count (lock_threads cx.old.pool max_threads) slots old
         × FnOnceReturnsAtMut F.FnOnce f old r new) }
     ensures memory { OnErr result (IsErrOf result Fault.Memory) }
     ensures lock { (cx.new.threads ≡ cx.old.threads) × (cx.new.pool ≡ cx.old.pool) }
@@ -104,35 +102,30 @@ fn open<
     slots: usize,
     f: F,
 ) -> Result<R, Fault>
-    requires some { 0 < max_threads }
-    requires slots { (1 ≤ slots) × (slots ≤ 4294967295) }
+    requires some { (0 < max_threads) × (1 ≤ slots) × (slots ≤ 4294967295) }
     requires callable { TakesLeaders J.OpensSlots.slot_count slots F.FnOnce f }
     ensures promise { IfOk result (λ r. (old : _) × (new : _)
-        × (threads_of old ≡ lock_threads cx.old.pool max_threads)
-        × (J.OpensSlots.slot_count old.post ≡ slots)
+        × IsLeaderOf J.OpensSlots.slot_count (lock_threads cx.old.pool max_threads) slots old
         × FnOnceReturnsAtMut F.FnOnce f old r new) }
     ensures memory { OnErr result (IsErrOf result Fault.Memory) }
     ensures lock { (cx.new.threads ≡ cx.old.threads) × (cx.new.pool ≡ cx.old.pool) }
 {
     let crew = cx.site.crew.nested(max_threads);
     let limits = cx.site.sleep.limits();
-    let gate = NoGate;
     if let Some(places) = cx.slots
         && crew.threads() > 1
     {
         let (child, entry) = NestedSlots::open(alloc, crew, limits, slots)?;
         let asked = cx.notices.ask(crew.threads() - 1);
-        let berth = Berth::take(rt, places, &child, asked, cx.site.sleep);
-        if let Some(berth) = berth {
-            let mut leader = take_lead(rt, &*child.shared, &gate, entry);
+        if let Some(berth) = Berth::take(rt, places, &child, asked, cx.site.sleep) {
+            let mut leader = take_lead(rt, &*child.shared, &NoGate, entry);
             let answer = f(&mut leader);
             close(rt, leader, berth);
             return Ok(answer);
         }
     }
     let (child, entry) = NestedSlots::open(alloc, crew.alone(), limits, slots)?;
-    let mut leader = take_lead(rt, &*child.shared, &gate, entry);
-    Ok(f(&mut leader))
+    Ok(f(&mut take_lead(rt, &*child.shared, &NoGate, entry)))
 }
 
 // Closes a lock that stands in a child slot. The order is binding.

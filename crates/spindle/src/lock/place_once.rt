@@ -2,11 +2,11 @@
 ghost use Rattle.std.specs.Prelude.{◌≡◌, ◌<◌, ◌≤◌, IfOk, OnOk, OnErr, IsErrOf};
 ghost use denote.Param.Send.{IsSync};
 
-use crate::job::remake::Remakes;
-use crate::lock::place_post::PlacePost;
 use crate::lock::slot_leader::SlotLeader;
 use crate::lock::slot_root::with_slots_in_place;
 use spindle_parts::fault::Fault;
+use spindle_slots::job::remake::Remakes;
+use spindle_slots::posts::place_post::PlacePost;
 use spindle_trays::job::Job;
 use spindle_trays::job::gate::Gate;
 use spindle_trays::job::nest::Nest;

@@ -3,11 +3,11 @@ ghost use Rattle.std.specs.Prelude.{◌≡◌, ◌<◌, ◌≤◌, IfOk, OnOk, O
 ghost use Rattle.std.specs.List.{AllZip};
 ghost use Rattle.spindle.specs.SlotLeaders.{threads_of, slot_jobs, IsAsBefore, IsBetweenRounds, PlayedOnce};
 
-use crate::job::remake::InPlace;
-use crate::lock::place_post::{PlacePost, PlaysInPlace};
 use crate::lock::slot_leader::SlotLeader;
-use crate::lock::slot_workspace::OpensSlots;
 use spindle_parts::fault::Fault;
+use spindle_slots::job::remake::InPlace;
+use spindle_slots::posts::place_post::{PlacePost, PlaysInPlace};
+use spindle_slots::posts::slot_workspace::OpensSlots;
 use spindle_trays::job::gate::Gate;
 use std::alloc::Global;
 use std::sync::Wait;

@@ -5,8 +5,8 @@
 ghost use Rattle.std.specs.Prelude.{◌≡◌, ◌<◌, ◌≤◌, IsNone};
 ghost use Rattle.spindle.specs.SlotLeaders.{threads_of, AnnouncedRest, IsAsBefore};
 
-use crate::lock::piece_post::PiecePost;
-use crate::lock::slot_workspace::OpensSlots;
+use spindle_slots::posts::piece_post::PiecePost;
+use spindle_slots::posts::slot_workspace::OpensSlots;
 use spindle_trays::crew::Crew;
 use spindle_trays::job::Job;
 use spindle_trays::job::gate::Gate;

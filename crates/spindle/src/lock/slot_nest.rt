@@ -6,13 +6,13 @@ ghost use Rattle.spindle_rounds.specs.Seating.{HasSlots};
 ghost use Rattle.spindle_trays.specs.Nested.{IsBenchAt};
 ghost use Rattle.spindle_trays.specs.Opening.{AreSeatsAt};
 
-use crate::job::remake::InPlace;
-use crate::lock::slot_workspace::SlotWorkspace;
-use crate::pieces::of_kind::{ChunkOf, PieceOf};
-use crate::work::in_slots::RunsPieces;
 use spindle_parts::fault::Fault;
 use spindle_rounds::round::Round;
 use spindle_rounds::round_table::pieces::{Answers, Pieces};
+use spindle_slots::job::remake::InPlace;
+use spindle_slots::pieces::of_kind::{ChunkOf, PieceOf};
+use spindle_slots::posts::slot_workspace::SlotWorkspace;
+use spindle_slots::work::in_slots::RunsPieces;
 use spindle_trays::crew::Crew;
 use spindle_trays::crew::limits::Limits;
 use spindle_trays::crew::notices::Notices;
@@ -85,7 +85,7 @@ impl<J: Job, A: RunsPieces<J>> NestedSlots<SlotWorkspace<J>, A> {
             alloc,
             NestedSlots {
                 tables,
-                workspace: SlotWorkspace { children },
+                workspace: SlotWorkspace::new(children),
                 benches,
             },
         )?;

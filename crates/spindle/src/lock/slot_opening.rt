@@ -8,12 +8,12 @@ ghost use Rattle.spindle_trays.specs.Opening.{AreSeatsAt};
 ghost use Rattle.spindle.specs.SlotLeaders.{TakesLeaders, IsLeaderOf, threads_of};
 ghost use Rattle.spindle_rounds.specs.Seating.{HasSlots};
 
-use crate::crew::slot_post::Newcomer;
 use crate::lock::slot_leader::SlotLeader;
-use crate::lock::slot_workspace::MakesSlots;
 use spindle_parts::fault::Fault;
 use spindle_rounds::round_table::pieces::{Answers, Pieces};
 use spindle_rounds::round_table::slots::Slots;
+use spindle_slots::crew::slot_post::Newcomer;
+use spindle_slots::posts::slot_workspace::MakesSlots;
 use spindle_trays::crew::Crew;
 use spindle_trays::crew::limits::Limits;
 use spindle_trays::crew::seats::Seats;

@@ -4,13 +4,13 @@ ghost use Rattle.std.specs.Fn.{FnOnceReturnsAtMut};
 ghost use Rattle.spindle_trays.specs.Locks.{lock_threads};
 ghost use Rattle.spindle.specs.SlotLeaders.{TakesLeaders, threads_of};
 
-use crate::job::remake::Remakes;
 use crate::lock::slot_leader::SlotLeader;
 use crate::lock::slot_opening::open;
-use crate::lock::slot_workspace::{MakesSlots, SlotWorkspace};
-use crate::pieces::of_kind::{ChunkOf, PieceOf};
 use spindle_parts::fault::Fault;
 use spindle_rounds::round_table::pieces::Pieces;
+use spindle_slots::job::remake::Remakes;
+use spindle_slots::pieces::of_kind::{ChunkOf, PieceOf};
+use spindle_slots::posts::slot_workspace::{MakesSlots, SlotWorkspace};
 use spindle_trays::job::Job;
 use spindle_trays::job::gate::Gate;
 use spindle_trays::job::nest::Nest;

@@ -8,10 +8,10 @@ ghost use Rattle.spindle_parts.specs.Pieces.{counted};
 ghost use Rattle.spindle_parts.specs.declared.fault.Fault.TheVariants.{Memory};
 ghost use Rattle.spindle.specs.SlotLeaders.{threads_of, slots_of, slot_jobs, IsAsBefore, IsBetweenRounds, PlayedOnce};
 
-use crate::lock::piece_post::PlaysPieces;
 use crate::lock::slot_leader::SlotLeader;
-use crate::pieces::items::{FillsSlots, Items, Numbers};
 use spindle_parts::fault::Fault;
+use spindle_slots::pieces::items::{FillsSlots, Items, Numbers};
+use spindle_slots::posts::piece_post::PlaysPieces;
 use spindle_trays::job::gate::Gate;
 use spindle_trays::lock::rounds::Rounds;
 use std::alloc::Global;

@@ -4,27 +4,31 @@ use Rattle.spindle_trays.specs.declared.crew.Crew.{Crew}
 use Rattle.spindle_trays.specs.Locks.{lock_threads}
 use Rattle.spindle.proofs.lock.nested.open.Goals as goal
 
-pub returns-in-Some-berth-clause-promise : goal.returns-in-Some-berth-clause-promise
-returns-in-Some-berth-clause-promise g c =
+pub returns-in-Some-take-clause-promise : goal.returns-in-Some-take-clause-promise
+returns-in-Some-take-clause-promise g c =
     let size = c.nested-crew.ensures.most ∙ ap (λ v. lock_threads v.pool c.args.max_threads) c.cx.view_is in
     let made = c.in_ok-child.ensures in let leads = c.take_lead-leader.ensures in (
       c.take_lead-leader.result,
       _,
-      leads.0
-          ∙ (ap (λ n. n.tables.value.crew.most) c.deref.ensures ∙ (sym (ap (λ t. t.crew.most) made.share) ∙ (ap (λ (k : Crew). k.most) made.crew ∙ size))),
-      leads.1 ∙ made.slots,
+      (
+        leads.0
+            ∙ (ap (λ n. n.tables.value.crew.most) c.deref.ensures ∙ (sym (ap (λ t. t.crew.most) made.share) ∙ (ap (λ (k : Crew). k.most) made.crew ∙ size))),
+        leads.1 ∙ made.slots,
+      ),
       record { shown = _; shows = refl; left = _; met = c.f-answer.ensures; leaves = refl },
     )
 
 pub returns-clause-promise : goal.returns-clause-promise
 returns-clause-promise g c =
     let size = c.nested-crew.ensures.most ∙ ap (λ v. lock_threads v.pool c.args.max_threads) c.cx.view_is in
-    let made = c.in_ok-child-2.ensures in let leads = c.take_lead-leader-2.ensures in (
-      c.take_lead-leader-2.result,
+    let made = c.in_ok-child-2.ensures in let leads = c.take_lead.ensures in (
+      c.take_lead.result,
       _,
-      leads.0
-          ∙ (ap (λ n. n.tables.value.crew.most) c.deref-2.ensures
-          ∙ (sym (ap (λ t. t.crew.most) made.share) ∙ (ap (λ (k : Crew). k.most) made.crew ∙ (c.alone.ensures.most ∙ size)))),
-      leads.1 ∙ made.slots,
+      (
+        leads.0
+            ∙ (ap (λ n. n.tables.value.crew.most) c.deref-2.ensures
+            ∙ (sym (ap (λ t. t.crew.most) made.share) ∙ (ap (λ (k : Crew). k.most) made.crew ∙ (c.alone.ensures.most ∙ size)))),
+        leads.1 ∙ made.slots,
+      ),
       record { shown = _; shows = refl; left = _; met = c.f.ensures; leaves = refl },
     )

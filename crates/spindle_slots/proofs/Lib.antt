@@ -1,0 +1,4 @@
+-- The lemmas of this crate.
+mod SlotRounds
+mod SlotPosts
+mod InPlace

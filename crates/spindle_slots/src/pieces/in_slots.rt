@@ -1,0 +1,100 @@
+//! The items of a round on their way into the slots of its table: the leader puts each piece into the slot of its number.
+ghost use Rattle.std.specs.Prelude.{◌≡◌, ◌<◌, ◌≤◌, [], IfOk, OnOk, OnErr, IsErrOf, vec_len, vec_capacity};
+ghost use Rattle.spindle_rounds.specs.Seating.{IsSeatAt, IsSameSeat};
+ghost use Rattle.spindle_rounds.specs.SlotHands.{WaitsAs};
+ghost use Rattle.spindle_rounds.specs.SlotLoops.{HoldsEach, IsEmpty, Turning};
+ghost use Rattle.spindle_parts.specs.Pieces.{counted};
+ghost use Rattle.spindle_slots.specs.SlotPieces.{IsItemOf, IsPieceOf};
+
+use crate::crew::slot_tables::SlotTables;
+use crate::pieces::of_kind::PieceOf;
+use crate::pieces::rooms::Rooms;
+use crate::pieces::slot_piece::{Batch, OneOr};
+use spindle_parts::fault::Fault;
+use spindle_rounds::round_table::Seat;
+use spindle_rounds::round_table::pieces::{Answers, Pieces};
+use spindle_trays::job::Job;
+use spindle_trays::pieces::runs;
+use std::alloc::{AllocError, Global};
+
+// The piece of a number, with this room for its outputs.
+fn batch<T: Drop, U: Drop>(
+    pieces: &runs::Pieces<T>,
+    number: usize,
+    room: Vec<U>,
+) -> Result<OneOr<T, Batch<T, U>>, AllocError>
+    requires { number < pieces.now.count }
+    ensures { IfOk result (IsPieceOf pieces.now.items pieces.now.count number) }
+{
+    Ok(OneOr::Many(Batch::new(pieces.run(number)?, room)?))
+}
+
+impl<'t, T: Drop, M: Drop, A: Answers<Piece = OneOr<T, M>>> SlotTables<'t, Pieces<A>> {
+    /// Puts each item into a slot of its own, in order. The list keeps its room.
+    pub(crate) fn fill_each(&self, seat: &mut Seat<Pieces<A>>, items: &mut Vec<T>)
+        requires seated { IsSeatAt self.now.tables.now.round.init seat.old }
+        requires held { HoldsEach IsEmpty self.now.slots seat.old.me.1 }
+        requires few { vec_len items.old ≤ self.now.slots }
+        ensures seat { IsSameSeat seat.old seat.new × (seat.new.me.0 ≡ seat.old.me.0) }
+        ensures put { Turning IsEmpty (WaitsAs (IsItemOf items.old.items))
+            self.now.slots (vec_len items.old) seat.new.me.1 }
+        ensures items { (items.new.items ≡ [])
+            × (vec_capacity items.new ≡ vec_capacity items.old) }
+    {
+        items.reverse();
+        for slot in 0..items.len() {
+            let item = items.take_last();
+            self.tables.round.put_piece(seat, slot, OneOr::One(item));
+        }
+    }
+}
+
+impl<'t, M: Drop, A: Answers<Piece = OneOr<usize, M>>> SlotTables<'t, Pieces<A>> {
+    /// Puts the numbers from 0 up to a count into slots, each into its own.
+    pub(crate) fn fill_counted(&self, seat: &mut Seat<Pieces<A>>, count: usize)
+        requires seated { IsSeatAt self.now.tables.now.round.init seat.old }
+        requires held { HoldsEach IsEmpty self.now.slots seat.old.me.1 }
+        requires few { count ≤ self.now.slots }
+        ensures seat { IsSameSeat seat.old seat.new × (seat.new.me.0 ≡ seat.old.me.0) }
+        ensures put { Turning IsEmpty (WaitsAs (IsItemOf (counted 0 count)))
+            self.now.slots count seat.new.me.1 }
+    {
+        for slot in 0..count {
+            self.tables.round.put_piece(seat, slot, OneOr::One(slot));
+        }
+    }
+}
+
+impl<'t, J: Job> SlotTables<'t, Pieces<PieceOf<J>>> {
+    /// Puts the runs into slots, in order, each with the room that is kept for its outputs. After a refusal all slots are empty.
+    pub(crate) fn fill_runs(
+        &self,
+        alloc: Global,
+        seat: &mut Seat<Pieces<PieceOf<J>>>,
+        pieces: &runs::Pieces<J::In>,
+        rooms: &mut Rooms<J::Out>,
+    ) -> Result<(), Fault>
+        requires seated { IsSeatAt self.now.tables.now.round.init seat.old }
+        requires held { HoldsEach IsEmpty self.now.slots seat.old.me.1 }
+        requires few { pieces.now.count ≤ self.now.slots }
+        ensures seat { IsSameSeat seat.old seat.new × (seat.new.me.0 ≡ seat.old.me.0) }
+        ensures put { OnOk result
+            (Turning IsEmpty (WaitsAs (IsPieceOf pieces.now.items pieces.now.count))
+            self.now.slots pieces.now.count seat.new.me.1) }
+        ensures empty { OnErr result (HoldsEach IsEmpty self.now.slots seat.new.me.1) }
+        ensures memory { OnErr result (IsErrOf result Fault.Memory) }
+    {
+        rooms.furnish(alloc, pieces.count())?;
+        let round = &self.tables.round;
+        for slot in 0..pieces.count() {
+            let room = rooms.take(alloc, slot);
+            let Ok(piece) = batch(pieces, slot, room) else {
+                round.turn_slots(seat, slot, self.slots);
+                round.empty_slots(seat, self.slots);
+                return Err(Fault::Memory);
+            };
+            round.put_piece(seat, slot, piece);
+        }
+        Ok(())
+    }
+}

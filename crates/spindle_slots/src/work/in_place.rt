@@ -1,0 +1,146 @@
+//! Rounds in place: a thread remakes the items of its piece, and puts back what became of them.
+ghost use Rattle.std.specs.Prelude.{◌≡◌, ◌≤◌, ◌<◌, true, vec_len, vec_capacity};
+ghost use Rattle.std.specs.List.{AllZip};
+ghost use Rattle.std.specs.Option.{ForSome};
+ghost use Rattle.spindle_rounds.specs.Holding.{Keeps};
+ghost use Rattle.spindle_rounds.specs.Working.{PlayedRound};
+ghost use Rattle.spindle_slots.specs.InPlace.{IsReady};
+ghost use Rattle.spindle_slots.specs.SlotRounds.{LeadsIn};
+
+use crate::crew::slot_tables::SlotTables;
+use crate::job::remake::Remakes;
+use crate::pieces::chunk::{Chunk, Remade};
+use crate::pieces::of_kind::ChunkOf;
+use crate::pieces::slot_piece::OneOr;
+use crate::pieces::store::Store;
+use crate::work::in_slots::{RunsPieces, SlotWork};
+use spindle_rounds::barrier::Barrier;
+use spindle_rounds::round_table::pieces::Pieces;
+use spindle_trays::job::context::JobCx;
+use spindle_trays::job::gate::Gate;
+use spindle_trays::work::runner::Runner;
+use std::alloc::Global;
+use std::sync::Wait;
+use std::thread::Threads;
+
+impl<'t, J: Remakes> SlotTables<'t, Pieces<ChunkOf<J>>> {
+    /// A leader's round in place, for which all room is ready that it needs: the items go into the slots, are remade, and come out of
+    /// the slots, in order.
+    pub(crate) fn remake<G: Gate, H: Threads + Wait + Sync>(
+        &self,
+        rt: &H,
+        alloc: Global,
+        barrier: &mut Barrier<'_, Pieces<ChunkOf<J>>>,
+        runner: &mut Runner<'_, J, G>,
+        store: &mut Store<J::Item>,
+        jobs: usize,
+        items: &mut Vec<J::Item>,
+    )
+        requires leads { LeadsIn self.now.tables.now barrier.old }
+        requires counted { (2 ≤ jobs) × (jobs ≤ 4294967295) × (jobs ≤ self.now.slots)
+            × (jobs ≤ vec_len items.old) }
+        requires ready { jobs < vec_len items.old → IsReady (vec_len items.old) jobs
+            store.old.ready.items store.old.chunks.items (vec_capacity store.old.chunks) }
+        ensures leads { LeadsIn self.now.tables.now barrier.new }
+        ensures same { Keeps barrier.old barrier.new }
+        ensures remade { AllZip J.remade items.old.items items.new.items }
+        ensures played { PlayedRound jobs barrier.old.seat.me.0 barrier.new.seat.me.0 }
+    {
+        let round = &self.tables.round;
+        self.fill_in_place(&mut barrier.seat, store, jobs, items);
+        runner.notices.end_rest();
+        let work = SlotWork {
+            runner,
+            alloc,
+            leads: true,
+        };
+        self.play_held(rt, barrier, jobs as u64, work);
+        for slot in 0..jobs {
+            let answer = round.take_answer(&mut barrier.seat, slot);
+            store.keep_ready(answer.unload(items));
+        }
+        round.turn_slots(&mut barrier.seat, jobs, self.slots);
+    }
+}
+
+impl<J: Remakes> RunsPieces<J> for ChunkOf<J> {
+    fn run_piece<G: Gate, H: Threads + Wait + Sync>(
+        rt: &H,
+        alloc: Global,
+        runner: &mut Runner<'_, J, G>,
+        number: usize,
+        piece: &mut Option<OneOr<J::Item, Chunk<J::Item>>>,
+    ) -> OneOr<J::Item, Remade<J::Item>> {
+        let index = runner.site.index;
+        let Some(piece) = piece.take() else {
+            unreachable!()
+        };
+        match piece {
+            OneOr::One(item) => OneOr::One(remake_one(rt, alloc, runner, number, index, item)),
+            OneOr::Many(chunk) => OneOr::Many(remake_chunk(
+                rt, alloc, runner, number, index, chunk,
+            )),
+        }
+    }
+}
+
+// Remakes an item, between the two calls of the gate.
+fn remake_one<J: Remakes, G: Gate, H: Threads + Wait + Sync>(
+    rt: &H,
+    alloc: Global,
+    runner: &mut Runner<'_, J, G>,
+    number: usize,
+    index: Option<usize>,
+    item: J::Item,
+) -> J::Item
+    requires index { ForSome index (λ i. i < runner.old.site.crew.most) }
+    ensures remade { J.remade item result }
+    ensures site { runner.new.site ≡ runner.old.site }
+{
+    let site = runner.site.under(index);
+    let notices = runner.notices.another();
+    let mut context = JobCx::new(Some(runner.slots), notices, site);
+    runner.gate.begun(number);
+    let remade = J::remake(rt, alloc, &mut Some(item), &mut context);
+    runner.gate.done(number);
+    remade
+}
+
+/// Remakes the items of a chunk, between the two calls of the gate.
+pub(crate) fn remake_chunk<J: Remakes, G: Gate, H: Threads + Wait + Sync>(
+    rt: &H,
+    alloc: Global,
+    runner: &mut Runner<'_, J, G>,
+    number: usize,
+    index: Option<usize>,
+    chunk: Chunk<J::Item>,
+) -> Remade<J::Item>
+    requires index { ForSome index (λ i. i < runner.old.site.crew.most) }
+    ensures remade { AllZip J.remade chunk result }
+    ensures site { runner.new.site ≡ runner.old.site }
+{
+    let site = runner.site.under(index);
+    let notices = runner.notices.another();
+    let mut context = JobCx::new(Some(runner.slots), notices, site);
+    runner.gate.begun(number);
+    let remade = remake_each::<J, H>(rt, alloc, chunk, &mut context);
+    runner.gate.done(number);
+    remade
+}
+
+// Remakes the items one after the other.
+fn remake_each<J: Remakes, H: Threads + Wait + Sync>(
+    rt: &H,
+    alloc: Global,
+    chunk: Chunk<J::Item>,
+    context: &mut JobCx<'_, J::Inner>,
+) -> Remade<J::Item>
+    ensures { AllZip J.remade chunk result }
+{
+    let (mut todo, mut done) = chunk.into_parts();
+    for _ in 0..todo.len() {
+        let mut item = Some(todo.take_last());
+        done.push_reserved(J::remake(rt, alloc, &mut item, context));
+    }
+    Remade::new(todo, done)
+}
