@@ -1,11 +1,12 @@
 //! What a lock's threads announce to each other: that all rest until the next round, that the helpers end, and how many
 //! helpers nested locks ask for.
-ghost use Rattle.std.specs.Prelude.{◌≡◌, ◌<◌, []};
+ghost use Rattle.std.specs.Prelude.{◌≡◌, ◌<◌, ◌+◌, []};
 ghost use Rattle.spindle_parts.specs.LedgerSeats.{IsSeatOf, slot_count};
 ghost use Rattle.spindle_parts.specs.LedgerSteps.{blank};
 ghost use Rattle.spindle_parts.specs.declared.words.TheConstants.{REQUESTS};
 ghost use Rattle.spindle_trays.specs.Notices.{Read, ReadExit, ReadRest, AnnouncedExit, AnnouncedRest, EndedRest, TookPlace};
 
+use crate::crew::Crew;
 use crate::crew::asking::Asked;
 use spindle_parts::requests::{Requests, Seat, TakePlace};
 
@@ -80,15 +81,15 @@ impl<'a> Notices<'a> {
         }
     }
 
-    /// Asks for so many helpers, by a seat that answers for them.
-    pub fn ask(&mut self, helpers: usize) -> Asked<'a>
+    /// Asks for a helper for each of the crew's threads but its leader, by a seat that answers for them.
+    pub fn ask(&mut self, crew: Crew) -> Asked<'a>
         ensures old { self.new.seat.me ≡ self.old.seat.me }
         ensures same { IsSameThread self.old self.new }
         ensures slots { result.slots ≡ self.old.slots }
-        ensures helpers { result.helpers ≡ helpers }
+        ensures helpers { 1 + result.helpers ≡ crew.threads }
     {
         let seat = self.ledger.new_seat(&mut self.seat);
-        Asked::new(self.ledger, seat, self.slots, helpers)
+        Asked::new(self.ledger, seat, self.slots, crew.threads() - 1)
     }
 
     /// Whether the helpers are to end.
