@@ -251,10 +251,7 @@ fn threads_that_cannot_be_started_change_no_answer_in_slots(rt: HostRuntime) -> 
     for starts in 0..4 {
         let pool = Pool::with_starts(4, Limits::new(), NoGate, starts);
         let numbers = vec![in alloc; 0, 1, 2, 3, 4, 5, 6, 7, 8, 9]?;
-        let squares = with_slots::<Square, _, _, _, _, _>(&rt, alloc, &pool, 4, 7, |leader| {
-            is(&rt, leader.max_num_threads(), 4);
-            leader.for_each(&rt, alloc, 7, numbers)
-        })??;
+        let squares = squares(&rt, alloc, &pool, 7, 7, numbers)?;
         are(&rt, &squares, &[0, 1, 4, 9, 16, 25, 36, 49, 64, 81]);
     }
     Ok(())
@@ -286,9 +283,6 @@ fn many_threads_that_sleep_at_once_miss_no_round_in_slots(rt: HostRuntime) -> Re
 
 #[test]
 fn a_lock_with_slots_in_which_nothing_is_published(rt: HostRuntime) -> Result<(), Fault> {
-    let alloc = rt.alloc();
     let pool = Pool::new(4, Limits::new(), NoGate);
-    let answer = with_slots::<Square, _, _, _, _, _>(&rt, alloc, &pool, 4, 3, |_leader| 7)?;
-    is(&rt, answer, 7);
-    Ok(())
+    square_often(&rt, rt.alloc(), &pool, 3, 4, 0, &[])
 }

@@ -91,9 +91,7 @@ fn a_lock_in_a_lock_answers_128_zeros(rt: HostRuntime) -> Result<(), Fault> {
 fn two_units_answer_two_units(rt: HostRuntime) -> Result<(), Fault> {
     let alloc = rt.alloc();
     let pool = Pool::new(16, Limits::new(), NoGate);
-    let units = with_lock::<Nothing, _, _, _, _, _>(&rt, alloc, &pool, 8, |leader| {
-        leader.for_each(&rt, alloc, 2, vec![in alloc; (), ()]?)
-    })??;
+    let units = round_of::<Nothing, _, _>(&rt, alloc, &pool, 8, 2, vec![in alloc; (), ()]?)?;
     is(&rt, units.len(), 2);
     Ok(())
 }
@@ -119,10 +117,7 @@ fn a_leader_has_no_number_between_rounds_nor_in_a_round_of_one_job(
 fn a_leader_alone_has_number_0_in_a_round_of_two_jobs(rt: HostRuntime) -> Result<(), Fault> {
     let alloc = rt.alloc();
     let pool = Pool::new(16, Limits::new(), NoGate);
-    let places = with_lock::<Place, _, _, _, _, _>(&rt, alloc, &pool, 1, |leader| {
-        is(&rt, leader.current_num_threads(), 1);
-        leader.for_each(&rt, alloc, 2, vec![in alloc; 0, 1]?)
-    })??;
+    let places = round_of::<Place, _, _>(&rt, alloc, &pool, 1, 2, vec![in alloc; 0, 1]?)?;
     are(&rt, &places, &[(Some(0), 1, 1), (Some(0), 1, 1)]);
     Ok(())
 }
@@ -154,20 +149,6 @@ fn more_jobs_than_items_are_as_many_as_items(rt: HostRuntime) -> Result<(), Faul
 }
 
 #[test]
-fn the_gate_is_called_once_before_and_once_after_each_job(rt: HostRuntime) -> Result<(), Fault> {
-    let alloc = rt.alloc();
-    let calls = Calls::new();
-    let pool = Pool::new(4, Limits::new(), Counting { calls: &calls });
-    let numbers = vec![in alloc; 0, 1, 2, 3, 4, 5, 6, 7, 8, 9]?;
-    round_of::<Square, _, _>(&rt, alloc, &pool, 4, 4, numbers)?;
-    for number in 0..4 {
-        is(&rt, calls.of_job(number), (1, 1));
-    }
-    is(&rt, calls.in_all(), (4, 4));
-    Ok(())
-}
-
-#[test]
 fn numbers_alone_are_items_from_0(rt: HostRuntime) -> Result<(), Fault> {
     let alloc = rt.alloc();
     let pool = Pool::new(2, Limits::new(), NoGate);
@@ -195,18 +176,6 @@ fn a_lock_has_the_least_of_three_numbers_of_threads(rt: HostRuntime) -> Result<(
             is(&rt, leader.max_num_threads(), threads);
             is(&rt, leader.current_num_threads(), 1);
         })?;
-    }
-    Ok(())
-}
-
-#[test]
-fn fewer_starts_change_no_answer(rt: HostRuntime) -> Result<(), Fault> {
-    let alloc = rt.alloc();
-    for starts in 0..4 {
-        let pool = Pool::with_starts(4, Limits::new(), NoGate, starts);
-        let numbers = vec![in alloc; 0, 1, 2, 3, 4, 5, 6, 7, 8, 9]?;
-        let squares = round_of::<Square, _, _>(&rt, alloc, &pool, 4, 4, numbers)?;
-        are(&rt, &squares, &[0, 1, 4, 9, 16, 25, 36, 49, 64, 81]);
     }
     Ok(())
 }

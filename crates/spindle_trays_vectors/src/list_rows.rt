@@ -97,17 +97,30 @@ fn a_list_is_shared_out_in_runs_of_the_lengths_given(rt: HostRuntime) -> Result<
     let alloc = rt.alloc();
     let list = SharedList::from_vec(alloc, vec![in alloc; 1u32, 2, 3, 4, 5]?)?;
     let runs = list.share_out(alloc, &[2, 0, 3])?;
-    assert!(rt; runs.len() == 3);
     are_runs(&rt, &runs, &[&[1, 2], &[], &[3, 4, 5]]);
-    let inner = runs[2].share_out(alloc, &[1, 2])?;
-    assert!(rt; inner.len() == 2);
-    are_runs(&rt, &inner, &[&[3], &[4, 5]]);
+    Ok(())
+}
+
+#[test]
+fn a_run_is_shared_out_from_its_own_start(rt: HostRuntime) -> Result<(), Fault> {
+    let alloc = rt.alloc();
+    let list = SharedList::from_vec(alloc, vec![in alloc; 1u32, 2, 3, 4, 5]?)?;
+    let runs = list.run(2, 5)?.share_out(alloc, &[1, 2])?;
+    are_runs(&rt, &runs, &[&[3], &[4, 5]]);
+    assert!(rt; runs.len() == 2);
     holds(
         &rt,
-        is_run(&inner[1].run(1, 2)?, &[5]) && inner[1].clone()? == list.run(3, 5)?,
+        is_run(&runs[1].run(1, 2)?, &[5]) && runs[1].clone()? == list.run(3, 5)?,
     );
+    Ok(())
+}
+
+#[test]
+fn nothing_is_shared_out_in_no_runs(rt: HostRuntime) -> Result<(), Fault> {
+    let alloc = rt.alloc();
     let none = SharedList::from_vec(alloc, Vec::<u32>::new(alloc))?;
     holds(&rt, none.share_out(alloc, &[])?.is_empty());
+    holds(&rt, none.share_out_evenly(alloc, 0)?.is_empty());
     Ok(())
 }
 
@@ -119,8 +132,6 @@ fn the_first_runs_are_longer_by_one(rt: HostRuntime) -> Result<(), Fault> {
     are_runs(&rt, &runs, &[&[1, 2, 3], &[4, 5]]);
     let runs = list.share_out_evenly(alloc, 9)?;
     are_runs(&rt, &runs, &[&[1], &[2], &[3], &[4], &[5]]);
-    let none = SharedList::from_vec(alloc, Vec::<u32>::new(alloc))?;
-    holds(&rt, none.share_out_evenly(alloc, 0)?.is_empty());
     Ok(())
 }
 

@@ -117,18 +117,10 @@ fn threads_that_cannot_be_started_change_no_answer(rt: HostRuntime) -> Result<()
     for starts in 0..4 {
         let pool = Pool::with_starts(4, Limits::new(), NoGate, starts);
         let numbers = vec![in alloc; 0, 1, 2, 3, 4, 5, 6, 7, 8, 9]?;
-        let squares = with_lock::<Square, _, _, _, _, _>(&rt, alloc, &pool, 4, |leader| {
-            is(&rt, leader.max_num_threads(), 4);
-            leader.for_each(&rt, alloc, 4, numbers)
-        })??;
+        let squares = round_of::<Square, _, _>(&rt, alloc, &pool, 4, 4, numbers)?;
         are(&rt, &squares, &[0, 1, 4, 9, 16, 25, 36, 49, 64, 81]);
     }
-    let pool = Pool::with_starts(4, Limits::new(), NoGate, 0);
-    with_lock::<Square, _, _, _, _, _>(&rt, alloc, &pool, 4, |leader| {
-        is(&rt, leader.max_num_threads(), 4);
-        is(&rt, leader.current_num_threads(), 1);
-        Ok::<(), Fault>(())
-    })?
+    Ok(())
 }
 
 #[test]
@@ -186,11 +178,8 @@ fn sixty_four_threads_on_few_processors(rt: HostRuntime) -> Result<(), Fault> {
 
 #[test]
 fn a_lock_in_which_nothing_is_published(rt: HostRuntime) -> Result<(), Fault> {
-    let alloc = rt.alloc();
     let pool = Pool::new(4, Limits::new(), NoGate);
-    let answer = with_lock::<Square, _, _, _, _, _>(&rt, alloc, &pool, 4, |_leader| 7)?;
-    is(&rt, answer, 7);
-    Ok(())
+    square_often(&rt, rt.alloc(), &pool, 4, 0, &[])
 }
 
 #[test]
