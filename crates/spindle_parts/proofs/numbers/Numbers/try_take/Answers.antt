@@ -84,6 +84,9 @@ loop-index-preserved c =
       read = (found, read_next _ i word read.0 b (λ k lt _. ones.2 k (omega arith)) past read.1, seen ∙ sym is);
     }
 
+pub returns-clause-answer : goal.returns-clause-answer
+returns-clause-answer c = search rules
+
 pub returns-clause-number : goal.returns-clause-number
 returns-clause-number c =
     let read = c.loop-index.invariant.read in

@@ -13,3 +13,6 @@ pub compare_exchange-found-requires : goal.compare_exchange-found-requires
 compare_exchange-found-requires g c =
     let free = subst MayClaim (sym (c.load-range.ensures.2.1 c.args.t refl)) c.requires.free in
     (search rules, omega arith, kept (claims g.D.Slots.discipline g.met.D.Slots.lawful _ _ _ _ _ _ (omega arith) free (omega arith) (omega arith)))
+
+pub returns-then-range-clause-step : goal.returns-then-range-clause-step
+returns-then-range-clause-step g c = search rules

@@ -14,3 +14,6 @@ compare_exchange-requires g c = let r = c.longest-thread.ensures.read in let b =
       kept (steals g.D.Slots.discipline g.met.D.Slots.lawful _ _ _ _ _ _ _ (omega arith)
           (subst MayClaim (sym w) (may_still 0 r.0 c.args.seat.now.me.0 c.requires.free)) (omega arith) (omega arith) c.last_half-first.ensures),
     )
+
+pub returns-then-compare_exchange-range-clause-step : goal.returns-then-compare_exchange-range-clause-step
+returns-then-compare_exchange-range-clause-step g c = search rules

@@ -1,5 +1,5 @@
 -- Who arrives was counted among those inside.
-use Rattle.std.proofs.Common.{sym, ◌∙◌, subst, arith}
+use Rattle.std.proofs.Common.{sym, ◌∙◌, subst, arith, rules}
 use Rattle.spindle_parts.specs.Registers.{shown, IsTidy}
 use Rattle.spindle_parts.proofs.Reached.{bounds}
 use Rattle.spindle_parts.proofs.Marks.{known_inside, sense_kept}
@@ -9,6 +9,9 @@ pub overflow_sub-self : goal.overflow_sub-self
 overflow_sub-self c =
     let b = (bounds (shown c.args.self.now) c.requires.reached).in_counts c.args.party (sym c.is_inside.ensures ∙ c.if-not-is_inside.false) in
     let b₀ = b.0 in omega arith
+
+pub returns-clause-served : goal.returns-clause-served
+returns-clause-served c = search rules
 
 pub returns-clause-tidy : goal.returns-clause-tidy
 returns-clause-tidy c = let r = c.args.self.now in let t = c.requires.tidy in

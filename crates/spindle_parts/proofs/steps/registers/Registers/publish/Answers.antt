@@ -1,5 +1,6 @@
 -- There are counters, and not too many.
-use Rattle.std.proofs.Common.{arith}
+use Rattle.std.proofs.Common.{arith, rules}
+use Rattle.std.proofs.lemmas.Grind.{common_steps}
 use Rattle.spindle_parts.specs.Registers.{shown}
 use Rattle.spindle_parts.proofs.Reached.{bounds}
 use Rattle.spindle_parts.proofs.steps.registers.Registers.publish.Goals as goal
@@ -15,3 +16,9 @@ nonzero_div-count c = let some = (bounds (shown c.args.self.now) c.requires.reac
 pub nonzero_rem-self : goal.nonzero_rem-self
 nonzero_rem-self c = let some = (bounds (shown c.args.self.now) c.requires.reached).some in
     let n = c.len-threads.ensures in let size = c.args.self.now.counters.ok.0 in omega arith
+
+pub returns-clause-served : goal.returns-clause-served
+returns-clause-served c = search rules
+
+pub returns-clause-tidy : goal.returns-clause-tidy
+returns-clause-tidy c = grind (arith, common_steps)

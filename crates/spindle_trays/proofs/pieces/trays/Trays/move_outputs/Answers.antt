@@ -1,3 +1,4 @@
+use Rattle.std.proofs.lemmas.Grind.{common_steps}
 -- The rest of a tray's run ends where the next one begins.
 use Rattle.std.proofs.Common.{◌≡◌, ℕ, ◌+◌, ◌-◌, ◌/◌, ◌<◌, arith, subst}
 use Rattle.std.specs.List.{AllZip}
@@ -32,3 +33,6 @@ loop-thread-preserved g c =
         room = rw w.outputs-is i.room;
       }
     ]
+
+pub returns-clause-answers : goal.returns-clause-answers
+returns-clause-answers g c = grind (arith, common_steps)

@@ -11,3 +11,6 @@ loop-number-preserved g c =
       len = search rules;
       room = search rules;
     }
+
+pub returns-clause-answer : goal.returns-clause-answer
+returns-clause-answer g c = search rules
