@@ -1,5 +1,5 @@
-use Rattle.std.proofs.Common.{rules}
+use Rattle.std.proofs.Common.{arith}
 use Rattle.spindle_trays.proofs.crew.notices.Notices.ask.Goals as goal
 
 pub returns-clause-helpers : goal.returns-clause-helpers
-returns-clause-helpers c = search rules
+returns-clause-helpers c = omega arith
