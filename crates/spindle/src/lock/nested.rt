@@ -116,7 +116,7 @@ fn open<
         && crew.threads() > 1
     {
         let (child, entry) = NestedSlots::open(alloc, crew, limits, slots)?;
-        let asked = cx.notices.ask(crew);
+        let asked = cx.notices.ask(&*child.shared.tables);
         if let Some(berth) = Berth::take(rt, places, &child, asked, cx.site.sleep) {
             let mut leader = take_lead(rt, &*child.shared, &NoGate, entry);
             let answer = f(&mut leader);

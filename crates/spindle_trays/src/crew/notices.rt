@@ -6,9 +6,10 @@ ghost use Rattle.spindle_parts.specs.LedgerSteps.{blank};
 ghost use Rattle.spindle_parts.specs.declared.words.TheConstants.{REQUESTS};
 ghost use Rattle.spindle_trays.specs.Notices.{Read, ReadExit, ReadRest, AnnouncedExit, AnnouncedRest, EndedRest, TookPlace};
 
-use crate::crew::Crew;
 use crate::crew::asking::Asked;
+use crate::crew::tables::Tables;
 use spindle_parts::requests::{Requests, Seat, TakePlace};
+use spindle_rounds::round_table::slots::Slots;
 
 /// A thread's access to the notices of its lock. It answers for no request between two calls.
 #[derive(Drop)]
@@ -81,15 +82,15 @@ impl<'a> Notices<'a> {
         }
     }
 
-    /// Asks for a helper for each of the crew's threads but its leader, by a seat that answers for them.
-    pub fn ask(&mut self, crew: Crew) -> Asked<'a>
+    /// Asks for a helper for each thread but the leader of the lock with these tables, by a seat that answers for them.
+    pub fn ask<D: Slots>(&mut self, tables: &Tables<D>) -> Asked<'a>
         ensures old { self.new.seat.me ≡ self.old.seat.me }
         ensures same { IsSameThread self.old self.new }
         ensures slots { result.slots ≡ self.old.slots }
-        ensures helpers { 1 + result.helpers ≡ crew.threads }
+        ensures helpers { 1 + result.helpers ≡ tables.now.crew.threads }
     {
         let seat = self.ledger.new_seat(&mut self.seat);
-        Asked::new(self.ledger, seat, self.slots, crew.threads() - 1)
+        Asked::new(self.ledger, seat, self.slots, tables.crew.threads() - 1)
     }
 
     /// Whether the helpers are to end.

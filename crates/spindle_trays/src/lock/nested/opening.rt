@@ -54,7 +54,7 @@ impl<'a, K: Job> JobCx<'a, Under<K>> {
             && crew.threads() > 1
         {
             let (child, seats) = Child::open(alloc, crew, limits)?;
-            let asked = self.notices.ask(crew);
+            let asked = self.notices.ask(child.tables());
             let berth = Berth::take(rt, slots, &child, asked, self.site.sleep);
             if let Some(berth) = berth {
                 let gate = NoGate;

@@ -12,7 +12,8 @@ returns-in-Some-take-clause-promise g c =
       _,
       (
         leads.0
-            ∙ (ap (λ n. n.tables.value.crew.most) c.deref.ensures ∙ (sym (ap (λ t. t.crew.most) made.share) ∙ (ap (λ (k : Crew). k.most) made.crew ∙ size))),
+            ∙ (ap (λ n. n.tables.value.crew.most) c.deref-in-Some-take.ensures
+            ∙ (sym (ap (λ t. t.crew.most) made.share) ∙ (ap (λ (k : Crew). k.most) made.crew ∙ size))),
         leads.1 ∙ made.slots,
       ),
       record { shown = _; shows = refl; left = _; met = c.f-answer.ensures; leaves = refl },
@@ -26,7 +27,7 @@ returns-clause-promise g c =
       _,
       (
         leads.0
-            ∙ (ap (λ n. n.tables.value.crew.most) c.deref-2.ensures
+            ∙ (ap (λ n. n.tables.value.crew.most) c.deref-3.ensures
             ∙ (sym (ap (λ t. t.crew.most) made.share) ∙ (ap (λ (k : Crew). k.most) made.crew ∙ (c.alone.ensures.most ∙ size)))),
         leads.1 ∙ made.slots,
       ),
