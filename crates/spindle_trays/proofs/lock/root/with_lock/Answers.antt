@@ -1,5 +1,5 @@
 -- The closure was called with a leader of this lock.
-use Rattle.std.proofs.Common.{◌≡◌, ap, sym, ◌∙◌}
+use Rattle.std.proofs.Common.{◌≡◌, ap, sym, ◌∙◌, rules}
 use Rattle.spindle_trays.specs.declared.crew.Crew.{Crew}
 use Rattle.spindle_trays.specs.Locks.{lock_threads}
 use Rattle.spindle_trays.proofs.lock.root.with_lock.Goals as goal
@@ -12,3 +12,6 @@ returns-clause-promise g c =
     let p = c.scoped.ensures in
     let most = p.2 ∙ ap (λ (k : Crew). k.most) crew in
     (p.0, p.1, most ∙ size, p.3 ∙ (ap (λ (k : Crew). k.threads) crew ∙ new.all ∙ sym most), p.4)
+
+pub returns-in_err-workspace-clause-memory : goal.returns-in_err-workspace-clause-memory
+returns-in_err-workspace-clause-memory g c = search rules
