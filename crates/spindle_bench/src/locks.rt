@@ -3,7 +3,10 @@ ghost use Rattle.std.specs.Prelude.{◌≡◌, ◌*◌, ◌<◌, ◌≤◌};
 ghost use denote.Param.Send.{IsSync};
 
 use crate::rounds::{PlaceRounds, Rounds, SlotRounds, TrayRounds};
-use spindle::lock::{Job, Leader, Limits, Nest, NoGate, PlacePost, Pool, Remakes, SlotLeader};
+use spindle::lock::{
+    Gate, Job, Leader, Limits, Nest, NoGate, Opens, OpensSlots, PlacePost, Pool, Remakes,
+    SlotLeader,
+};
 use spindle::{with_lock, with_slots, with_slots_in_place};
 use spindle_timing::line::Line;
 use spindle_timing::settings::Settings;
@@ -61,9 +64,7 @@ fn led_in_slots<S: SlotRounds, H: Threads + Wait + Sync + Clock + Print + Alloc<
     requires { IsSync H.row }
 {
     let alloc = rt.alloc();
-    await_helpers(rt, settings, || {
-        leader.current_num_threads() == leader.max_num_threads()
-    })?;
+    await_helpers(rt, settings, &*leader)?;
     let times = run(
         rt,
         alloc,
@@ -112,9 +113,7 @@ fn led_in_trays<S: TrayRounds, H: Threads + Wait + Sync + Clock + Print + Alloc<
     requires { IsSync H.row }
 {
     let alloc = rt.alloc();
-    await_helpers(rt, settings, || {
-        leader.current_num_threads() == leader.max_num_threads()
-    })?;
+    await_helpers(rt, settings, &*leader)?;
     let times = run(
         rt,
         alloc,
@@ -165,9 +164,7 @@ fn led_in_place<S: PlaceRounds, H: Threads + Wait + Sync + Clock + Print + Alloc
     requires { IsSync H.row }
 {
     let alloc = rt.alloc();
-    await_helpers(rt, settings, || {
-        leader.current_num_threads() == leader.max_num_threads()
-    })?;
+    await_helpers(rt, settings, &*leader)?;
     let times = run(
         rt,
         alloc,
@@ -193,21 +190,36 @@ fn finish<S: Rounds>(
     times.print(rt, settings, line, shape)
 }
 
+/// A leader that tells whether all threads of its lock are there.
+trait SeesThreads {
+    fn are_all_there(&self) -> bool;
+}
+
+impl<'a, J: Opens<L>, G: Gate, L> SeesThreads for Leader<'a, J, G, L> {
+    fn are_all_there(&self) -> bool {
+        self.current_num_threads() == self.max_num_threads()
+    }
+}
+
+impl<'a, J: OpensSlots<P>, G: Gate, P> SeesThreads for SlotLeader<'a, J, G, P> {
+    fn are_all_there(&self) -> bool {
+        self.current_num_threads() == self.max_num_threads()
+    }
+}
+
 // Waits until all threads of the lock are there, so that no round is timed in which the leader is alone; for two
 // seconds at most, since a machine may start fewer. Rounds that are only checked don't wait.
-fn await_helpers<H: Wait + Clock, F: Fn() -> bool>(
-    rt: &H,
+fn await_helpers(
+    rt: &(impl Wait + Clock),
     settings: &Settings,
-    are_all: F,
-) -> Result<(), Stop>
-    requires callable { F.IsAlwaysCallable are_all }
-{
+    leader: &impl SeesThreads,
+) -> Result<(), Stop> {
     if settings.is_check {
         return Ok(());
     }
     let begin = Instant::now(rt)?;
     for _ in rt.forever() {
-        if are_all() || MOST_WAITED < nanos_since(rt, begin)? {
+        if leader.are_all_there() || MOST_WAITED < nanos_since(rt, begin)? {
             return Ok(());
         }
         yield_now();
