@@ -9,19 +9,19 @@ use lib.ListN.{get_elem?}
 use Rattle.spindle_parts.specs.State.{State, Party, Round, now, party, times, Free, weight_in, weight_member, is_in, is_member}
 use Rattle.spindle_parts.specs.Steps.{Finish, after, ended_by}
 use Rattle.spindle_parts.specs.Runs.{state}
-use Rattle.spindle_parts.proofs.Fates.{Fate, Open, Held, Ran, Done, over}
+use Rattle.spindle_parts.proofs.Fates.{Fate, Open, Held, Ran, Done, started, over}
 use Rattle.spindle_parts.proofs.Parties.{put_here, put_all, look_here, look_else, times_same, times_else, tick, tick_same, tick_else}
 use Rattle.spindle_parts.proofs.Soundness.{Sound, sound}
 use Rattle.spindle_rounds.specs.declared.round_table.view.View.{View}
 use Rattle.spindle_rounds.specs.RoundSlots.{Discipline, Lawful, Finishes}
-use Rattle.spindle_rounds.specs.RoundRule.{Ended, ended_in, deeds, Stands, Words, home_of}
+use Rattle.spindle_rounds.specs.RoundRule.{Ended, ended_in, deeds, Stands, Words, home_of, IsListed, IsEmptied}
 use Rattle.spindle_rounds.specs.Words.{finished_at, stopped_at, remainder_at, range_at, most_jobs}
-use Rattle.spindle_rounds.specs.RoundSteps.{round_of, number_or, finishing}
+use Rattle.spindle_rounds.specs.RoundSteps.{round_of, number_or, list_all, list_finished, finishing}
 use Rattle.spindle_rounds.specs.RoundTells.{FinishTells}
 use Rattle.spindle_rounds.specs.RoundConditions.{MayFinish}
 use Rattle.spindle_rounds.specs.RoundRuns.{Addition}
 use Rattle.spindle_rounds.proofs.RoundMoves.{SeatOf, moves_with, still_laid}
-use Rattle.spindle_rounds.proofs.RoundWords.{counts_stay, word_stays, counters_stay}
+use Rattle.spindle_rounds.proofs.RoundWords.{by_equal, counts_stay, word_stays, counters_stay}
 use Rattle.spindle_rounds.proofs.RoundChanges.{changed_words, some_published}
 
 -- the party id finishes k
@@ -53,6 +53,11 @@ module _ (S : State) (id k : ℕ) (runs : (party S id).running ≡ Some k) where
     λ a. sym (taken_same a j)
         ∙ f.2 a,
   )
+
+  -- where it is the last, as many have finished as there are jobs
+  pub all_done : (x m : ℕ) → x ≡ length (now S).finished → m ≡ x + 1 → (now S).jobs ≡ m → length (now done).finished ≡ (now done).jobs
+  all_done x m is last jobs = let a = ap (λ (z : Round). length z.finished) its_round ∙ length-append (now S).finished (k ∷ []) in
+      let b = ap (λ (z : Round). z.jobs) its_round in omega arith
 
   -- to the slots, k finishes
   pub finishes_here : Finishes S done k
@@ -108,10 +113,8 @@ spread_few : (n : ℕ) (l : List ℕ) → ((k : ℕ) → times k l ≤ 1) → sp
 spread_few zero l once = omega arith
 spread_few (suc n) l once = let a = spread_few n l once in let b = once n in omega arith
 
--- no more numbers have finished than there are jobs
-few_finished : (S : State) → Sound S → (now S).jobs ≤ most_jobs → length (now S).finished < 18446744073709551615
-few_finished S h few = let l : List ℕ = (now S).finished in let n : ℕ = (now S).jobs in let a = spread_all n l (λ k lt. below k lt) in
-    let b = spread_few n l (λ k. let e = h.work.finished k in let c = over_le (h.fate k) in omega arith) in omega arith
+once_finished : (S : State) (h : Sound S) (k : ℕ) → times k (now S).finished ≤ 1
+once_finished S h k = let e = h.work.finished k in let c = over_le (h.fate k) in omega arith
   where
     over_le : (f : Fate) → over f ≤ 1
     over_le Open = omega arith
@@ -119,8 +122,13 @@ few_finished S h few = let l : List ℕ = (now S).finished in let n : ℕ = (now
     over_le (Ran p) = omega arith
     over_le Done = omega arith
 
-    below : (k : ℕ) → 0 < times k (now S).finished → k < (now S).jobs
-    below k lt = h.work.below k (λ e. let a = h.work.finished k in let c = ap over e in omega arith)
+below_jobs : (S : State) (h : Sound S) (k : ℕ) → 0 < times k (now S).finished → k < (now S).jobs
+below_jobs S h k lt = h.work.below k (λ e. let a = h.work.finished k in let c = ap over e in omega arith)
+
+-- no more numbers have finished than there are jobs
+few_finished : (S : State) → Sound S → (now S).jobs ≤ most_jobs → length (now S).finished < 18446744073709551615
+few_finished S h few = let l : List ℕ = (now S).finished in let n : ℕ = (now S).jobs in let a = spread_all n l (λ k lt. below_jobs S h k lt) in
+    let b = spread_few n l (λ k. once_finished S h k) in omega arith
 
 -- and no round has more jobs than a published one may have
 few_jobs : (S : State) → Sound S → S.published ≢ None → (now S).jobs ≤ most_jobs
@@ -129,6 +137,35 @@ few_jobs S h shown = go S.published shown (λ m e. let g = h.gate.shown m e in l
     go : (o : Option ℕ) → o ≢ None → ((m : ℕ) → o ≡ Some m → (now S).jobs ≤ most_jobs) → (now S).jobs ≤ most_jobs
     go None n f = absurd (n refl)
     go (Some m) n f = f m refl
+
+-- where as many numbers stand in a list as there are below n, each once, none is missing
+spread_full : (n : ℕ) (l : List ℕ) → ((k : ℕ) → times k l ≤ 1) → spread n l ≡ n → (k : ℕ) → k < n → times k l ≡ 1
+spread_full zero l once all k lt = absurd (omega arith)
+spread_full (suc n) l once all k lt = let few = spread_few n l once in let last = once n in
+    dite (ℕ_discrete k n) (λ e. subst (λ (z : ℕ). times z l ≡ 1) (sym e) (omega arith)) (λ other. spread_full n l once (omega arith) k (omega arith))
+
+-- once as many have finished as there are jobs, no number is free
+none_free : (S : State) → Sound S → length (now S).finished ≡ (now S).jobs → (k : ℕ) → Free S k → ⊥
+none_free S h all k free = let l : List ℕ = (now S).finished in let n : ℕ = (now S).jobs in let a = spread_all n l (λ j lt. below_jobs S h j lt) in
+    let one = spread_full n l (λ j. once_finished S h j) (omega arith) k free.0 in
+    begun_first (h.fate k) (sym (h.work.finished k) ∙ one) (sym (h.work.begun k) ∙ free.1)
+  where
+    begun_first : (f : Fate) → over f ≡ 1 → started f ≡ 0 → ⊥
+    begun_first Open a b = absurd cc
+    begun_first (Held p) a b = absurd cc
+    begun_first (Ran p) a b = absurd cc
+    begun_first Done a b = absurd cc
+
+-- what the list says once so many have finished
+listed_finished : (o : Option ℕ) (n done t : ℕ) (l : List ℕ) (P : ℕ → Type 0) → o ≡ Some n → (n ≡ done → (i : ℕ) → P i) → ((j : ℕ) → IsListed j l → P j)
+    → (j : ℕ) → IsListed j (list_finished o done t l) → P j
+listed_finished None n done t l P e here old j = absurd cc
+listed_finished (Some m) n done t l P e here old j = let same : m ≡ n = cc in
+    by_equal m done (λ b. IsListed j (if b then list_all t l else l) → P j) (λ is _. here (sym same ∙ is) j) (λ _ h. old j h)
+
+unlisted_finished : (o : Option ℕ) (done t : ℕ) (l : List ℕ) → o ≡ None → l ≡ [] → list_finished o done t l ≡ []
+unlisted_finished None done t l e z = z
+unlisted_finished (Some n) done t l e z = absurd cc
 
 module _ {X N : Type 0} (D : Discipline X N) (law : Lawful D) (t : ℕ) where
   pub finishes : (slots id : ℕ) (me : SeatOf D t) (k : ℕ) → MayFinish k me.0 → D.may_give k me.0.note me.1 → Addition D t slots id me finished_at
@@ -161,9 +198,11 @@ module _ {X N : Type 0} (D : Discipline X N) (law : Lawful D) (t : ℕ) where
                   number = λ m e. let old = knows.number m e in (old.0, ap (λ (z : Round). z.stoppable) round ∙ old.1);
                   unpublished = knows.unpublished;
                   seen = ap (λ (z : Round). z.seen id) round ∙ knows.seen;
-                  emptied = λ m j e l. ⊎_elim (λ (u : (a : ℕ) → Free S a → home_of me.0.threads m a ≡ j → ⊥). inl (λ a f. u a (free_back S id k runs a f)))
-                      (λ u. inr (ap (λ (z : Round). z.stopped) round ∙ u)) (knows.emptied m j e l);
-                  unread = knows.unread;
+                  emptied = λ m j e l. listed_finished me.0.known.number m (x + 1) me.0.threads me.0.known.emptied (IsEmptied me.0.threads m S') e
+                      (λ last i. inl (λ a f _. none_free S' (sound (Finish id ∷ run) ((k, runs), r.is_run)) (all_done S id k runs x m is last (h.gate.shown m (knows.number m e).0).0) a f))
+                      (λ i' l'. ⊎_elim (λ (u : (a : ℕ) → Free S a → home_of me.0.threads m a ≡ i' → ⊥). inl (λ a f. u a (free_back S id k runs a f)))
+                      (λ u. inr (ap (λ (z : Round). z.stopped) round ∙ u)) (knows.emptied m i' e l')) j l;
+                  unread = λ e. unlisted_finished me.0.known.number (x + 1) me.0.threads me.0.known.emptied e (knows.unread e);
                 };
               }
               ((λ z. Ended (sym own z) (number_or (may.1 z)) ∷ (r.seats id me.0 at).1 z) ∙ sym

@@ -1,5 +1,5 @@
 -- How a party's work goes on with its seat, from one claim to the next.
-use Rattle.std.proofs.Common.{◌≡◌, ℕ, List, Bool, true, false, MatchBool, None, Some, inl, inr, refl, sym, ap, ◌∙◌, subst, arith}
+use Rattle.std.proofs.Common.{◌≡◌, ℕ, List, Bool, true, false, ◌+◌, MatchBool, None, Some, inl, inr, refl, sym, ap, ◌∙◌, subst, arith}
 use Rattle.atomic_table.specs.Table.{Me}
 use Rattle.atomic_table.specs.declared.shared.Seat.{Seat}
 use Rattle.spindle_rounds.specs.declared.round.Round.{Round}
@@ -10,19 +10,29 @@ use Rattle.spindle_rounds.specs.declared.round.stopping.PutBack.TheVariants as b
 use Rattle.spindle_rounds.specs.declared.round_table.view.View.{View}
 use Rattle.spindle_rounds.specs.Spans.{Span}
 use Rattle.spindle_rounds.specs.RoundAnswers.{SharedBy, PutBy}
-use Rattle.spindle_rounds.specs.RoundConditions.{MayClaim, IsDone}
+use Rattle.spindle_rounds.specs.RoundConditions.{MayClaim, IsDone, HasEmptiedAll}
 use Rattle.spindle_rounds.specs.RoundSlots.{Discipline}
 use Rattle.spindle_rounds.specs.RoundViews.{Onward, SeesAsBefore, SharesAsBefore}
 use Rattle.spindle_rounds.specs.Seating.{IsSameSeat}
 use Rattle.spindle_rounds.specs.Sources.{HasEmptied}
 use Rattle.spindle_rounds.specs.Working.{IsIdle}
-use Rattle.spindle_rounds.specs.PartyWork.{IsAtTask, WentOn, HasTaken}
+use Rattle.spindle_rounds.specs.PartyWork.{IsAtTask, WentOn, HasTaken, HasFinished}
 use Rattle.spindle_rounds.proofs.RoundClients.{all_empty}
 use Rattle.spindle_rounds.proofs.RoundOnward.{onward_same, onward_then, still_at_work, may_claim}
 
 -- who shares as before has no number left where it had none
 pub still_idle : {N : Type 0} (v w : View N) → IsIdle v → SharesAsBefore v w → w.claim ≡ None → IsIdle w
 still_idle v w idle same claim = (claim, (let from = same.0 in let to = same.1 in let le = idle.1 in omega arith))
+
+-- where nothing is left, that stays so
+pub over_on : {N : Type 0} (v w : View N) → Onward v w → HasEmptiedAll v → HasEmptiedAll w
+over_on v w on all = λ i le. on.emptied i (all i (let same = on.threads in omega arith))
+
+-- who has gone on with its claim and its share, and then finishes, has finished
+pub finish_after : {N : Type 0} (found : ℕ) (u v w : View N) → Onward u v → (u.known.may_stop ≡ false → SeesAsBefore u v) → SharesAsBefore u v
+    → HasFinished found v w → HasFinished found u w
+finish_after found u v w on sees same f =
+    (onward_then u v w on f.0, (λ plain. f.1 (on.may_stop ∙ plain) ∙ sees plain), (f.2.0 ∙ same.0, f.2.1 ∙ same.1), f.3, λ last. f.4 (on.number ∙ last))
 
 module _ {T S N : Type 0} (round : Round T S N) (task : Task) where
   pub went_first : (s : Seat S (View N)) → IsAtTask round task s → WentOn round task s s
@@ -53,10 +63,18 @@ module _ {T S N : Type 0} (round : Round T S N) (task : Task) where
   pub claims_at : (s : Seat S (View N)) → IsAtTask round task s → IsIdle s.me.0 → s.me.0.known.seen_stop ≡ false → MayClaim s.me.0
   claims_at s at idle unseen = may_claim task.jobs task.may_stop s.me.0 at.on.0 idle.0 idle.1 unseen
 
-  -- who has seen the stop is done, and so is who has read all ranges and the remainder as empty
-  pub done_at : (s t : Seat S (View N)) → WentOn round task s t → HasEmptied Longest s.me.0 → (stopped : Bool) → MatchBool stopped
-      (t.me.0.known.seen_stop ≡ true) (HasEmptied Remainder t.me.0) → IsDone t.me.0
-  done_at s t went searched true seen = inr (inl seen)
+  -- after the round's last job nothing is left
+  pub over_at : (s t : Seat S (View N)) (before : ℕ) → IsAtTask round task s → HasFinished before s.me.0 t.me.0 → task.jobs ≡ before + 1
+      → HasEmptiedAll t.me.0
+  over_at s t before at f last = f.4 (at.on.0.number ∙ ap (λ (k : ℕ). Some k) last)
+
+  pub done_over : (s : Seat S (View N)) → IsAtTask round task s → HasEmptiedAll s.me.0 → IsDone s.me.0
+  done_over s at all = inr (inr (inr (task.jobs, at.on.0.number, all)))
+
+  -- who is done is done, and so is who has read all ranges and the remainder as empty
+  pub done_at : (s t : Seat S (View N)) → WentOn round task s t → HasEmptied Longest s.me.0 → (over : Bool) → MatchBool over
+      (IsDone t.me.0) (HasEmptied Remainder t.me.0) → IsDone t.me.0
+  done_at s t went searched true done = done
   done_at s t went searched false rest = all_empty task.jobs task.may_stop t.me.0 went.at.on.0
       (λ i lt. went.on.emptied i (searched i (let same = went.on.threads in omega arith))) rest
 

@@ -17,16 +17,17 @@ use Rattle.spindle_rounds.specs.RoundSlots.{Discipline}
 use Rattle.spindle_rounds.specs.RoundRule.{Showed, IsListed}
 use Rattle.spindle_rounds.specs.Words.{remainder_at, range_at, high_half, most_jobs, start_of, range_word}
 use Rattle.spindle_rounds.specs.RoundSteps.{round_of, missing, learning, publishing, searching, reading_remainder, recalling, claiming, stealing}
-use Rattle.spindle_rounds.specs.RoundSteps.{claiming_remainder, stopping, putting_back}
+use Rattle.spindle_rounds.specs.RoundSteps.{claiming_remainder, finishing, stopping, putting_back}
 use Rattle.spindle_rounds.specs.RoundConditions.{MayPublish, MayClaim, MayBegin, MayFinish, MayPutBack, IsItsShare, IsDone}
-use Rattle.spindle_rounds.specs.RoundAnswers.{searching_all, OwnClaimedBy, StolenBy, RemainderClaimedBy, SharedBy, FinishedBy, SeenBy, PutBy, FilledBy}
+use Rattle.spindle_rounds.specs.RoundAnswers.{searching_all, OwnClaimedBy, StolenBy, RemainderClaimedBy, SharedBy, SeenBy, PutBy, FilledBy}
 use Rattle.spindle_rounds.specs.Leftovers.{finding, LeftOverBy}
+use Rattle.spindle_rounds.specs.PartyWork.{HasFinished}
 use Rattle.spindle_rounds.specs.RoundViews.{published_of, AtWork, Onward, SeesAsBefore, SharesAsBefore, AfterClaim, AfterSteal}
 use Rattle.spindle_rounds.proofs.RoundWords.{by_less, by_equal}
 use Rattle.spindle_rounds.proofs.RoundSearch.{may_still}
 use Rattle.spindle_rounds.proofs.RoundFilled.{filled_stands, filled_quiet}
 use Rattle.spindle_rounds.proofs.RoundOnward.{onward_then, searched_on, remainder_on, remainder_empty, all_searched_on, all_listed, missed_on, began_on}
-use Rattle.spindle_rounds.proofs.RoundOnward.{stole_on, shared_on, recalled_on, finished_on, stopped_on, saw_on, put_on, found_on}
+use Rattle.spindle_rounds.proofs.RoundOnward.{stole_on, shared_on, recalled_on, finished_on, stopped_on, saw_on, put_on, found_on, finished_all}
 
 -- Claims.
 
@@ -103,11 +104,10 @@ share_next {N = N} D m w i k share left may own a = let word : ℕ = range_word 
     subst (λ (u : View N). Onward m.0 u × SeesAsBefore m.0 u × MayFinish k u × IsItsShare left u) (sym a.1)
     (shared_on (range_at i) word a.0 m.0, refl, (may.0, ap (λ (j : ℕ). Some j) (sym is)), (a.5 ∙ ap (λ (j : ℕ). j + 1) is, a.6 ∙ own.1))
 
--- A number has finished: the seat may begin the next of its share, and share and stop are as before.
-pub finish_done : {S N : Type 0} (D : Discipline S N) (m w : Me S (View N)) (k : ℕ) → MayFinish k m.0 → FinishedBy D m w → Onward m.0 w.0 × SeesAsBefore m.0 w.0
-    × SharesAsBefore m.0 w.0 × (w.0.claim ≡ None)
-finish_done {N = N} D m w k may a = subst (λ (u : View N). Onward m.0 u × SeesAsBefore m.0 u × SharesAsBefore m.0 u × (u.claim ≡ None))
-    (sym (ap (λ z. z.0) a.1)) (finished_on a.0 m.0, refl, (refl, refl), refl)
+-- A number has finished: the seat may begin the next of its share, and share and stop are as before. After the last one it knows that nothing is left.
+pub finish_done : {N : Type 0} (found : ℕ) (v w : View N) → w ≡ finishing found v → HasFinished found v w
+finish_done {N = N} found v w a = subst (λ (u : View N). HasFinished found v u) (sym a)
+    (finished_on found v, (λ _. refl), (refl, refl), refl, λ last i le. finished_all v.known.number (found + 1) v.threads v.known.emptied last i le)
 
 -- The stop was seen, or not.
 pub stop_seen : {S N : Type 0} (m w : Me S (View N)) (stopped : Bool) → SeenBy stopped m w → Onward m.0 w.0 × (w.0.known.seen_stop ≡ stopped)

@@ -1,16 +1,18 @@
 -- What reads and steps of a round leave as it was in what its party knows, so that the party goes on.
 use Rattle.std.proofs.Common.{◌≡◌, inl, inr, ℕ, zero, suc, ◌+◌, ◌<◌, ◌≤◌, Bool, true, false, List, [], ◌∷◌, length, get_or, sym, refl, ap, ◌∙◌, subst}
 use Rattle.std.proofs.Common.{arith, Option, Some, None, if◌then◌else◌, nat_lt, ◌==◌}
+use mathlib.Core.Logic.{dite}
+use native.Mathlib.Decide.{ℕ_discrete}
 use Rattle.spindle_rounds.specs.declared.round_table.view.View.{View}
 use Rattle.spindle_rounds.specs.RoundRule.{IsListed}
 use Rattle.spindle_rounds.specs.Words.{start_of, end_of}
 use Rattle.spindle_rounds.specs.Leftovers.{finding}
 use Rattle.spindle_rounds.specs.RoundSteps.{missing, list_empty, searching, reading_remainder, recalling, beginning, stealing, sharing, finishing, stopping}
-use Rattle.spindle_rounds.specs.RoundSteps.{seeing, putting_back}
+use Rattle.spindle_rounds.specs.RoundSteps.{seeing, putting_back, list_all, list_finished}
 use Rattle.spindle_rounds.specs.RoundConditions.{MayClaim}
 use Rattle.spindle_rounds.specs.RoundAnswers.{searching_all}
 use Rattle.spindle_rounds.specs.RoundViews.{AtWork, Onward, SeesAsBefore, SharesAsBefore}
-use Rattle.spindle_rounds.proofs.RoundWords.{by_less}
+use Rattle.spindle_rounds.proofs.RoundWords.{by_less, by_equal}
 
 -- Going on.
 
@@ -55,6 +57,24 @@ more_listed : (o : Option ℕ) (b : Bool) (i j : ℕ) (l : List ℕ) → IsListe
 more_listed None b i j l h = h
 more_listed (Some n) true i j l h = inr h
 more_listed (Some n) false i j l h = h
+
+-- the list has what it had, and each range and the remainder
+all_more : (t : ℕ) (l : List ℕ) (j : ℕ) → IsListed j l → IsListed j (list_all t l)
+all_more zero l j h = inr h
+all_more (suc t) l j h = inr (all_more t l j h)
+
+all_now : (t : ℕ) (l : List ℕ) (i : ℕ) → i ≤ t → IsListed i (list_all t l)
+all_now zero l i le = inl (omega arith)
+all_now (suc t) l i le = dite (ℕ_discrete (suc t) i) (λ e. inl e) (λ n. inr (all_now t l i (omega arith)))
+
+finished_still : (o : Option ℕ) (done t : ℕ) (l : List ℕ) (i : ℕ) → IsListed i l → IsListed i (list_finished o done t l)
+finished_still None done t l i h = h
+finished_still (Some n) done t l i h = by_equal n done (λ b. IsListed i (if b then list_all t l else l)) (λ _. all_more t l i h) (λ _. h)
+
+pub finished_all : (o : Option ℕ) (done t : ℕ) (l : List ℕ) → o ≡ Some done → (i : ℕ) → i ≤ t → IsListed i (list_finished o done t l)
+finished_all None done t l e i le = absurd cc
+finished_all (Some n) done t l e i le = let same : n ≡ done = cc in
+    by_equal n done (λ b. IsListed i (if b then list_all t l else l)) (λ _. all_now t l i le) (λ other. absurd (other same))
 
 now_listed : (o : Option ℕ) (n i : ℕ) (b : Bool) (l : List ℕ) → o ≡ Some n → b ≡ true → IsListed i (list_empty o b i l)
 now_listed None n i b l e is = absurd cc
@@ -201,7 +221,7 @@ module _ {N : Type 0} where
     number = refl;
     may_stop = refl;
     unpublished = refl;
-    emptied = λ i l. l;
+    emptied = λ i l. finished_still v.known.number (found + 1) v.threads v.known.emptied i l;
     laid = refl;
     board = refl;
     published = refl;

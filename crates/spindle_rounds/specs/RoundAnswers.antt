@@ -201,9 +201,9 @@ module _ {S N : Type 0} where
       (k ≡ share.from) × (share.from < share.to) × (left.from ≡ k + 1) × (left.to ≡ share.to)
   SharedBy D i share None left m w = (w ≡ m) × (left ≡ share) × (share.from ≡ share.to)
 
-  -- a finish: one more is counted, and the claim's slot goes back
-  abbrev pub FinishedBy : Discipline S N → Me S (View N) → Me S (View N) → Type 0
-  FinishedBy D m w = (found : ℕ) × (w ≡ (finishing found m.0, carried_after m.1 D.gives))
+  -- a finish: one more is counted than were found, and the claim's slot goes back
+  abbrev pub FinishedBy : Discipline S N → ℕ → Me S (View N) → Me S (View N) → Type 0
+  FinishedBy D found m w = w ≡ (finishing found m.0, carried_after m.1 D.gives)
 
   -- the word `stopped` says whether the round was stopped
   abbrev pub SeenBy : Bool → Me S (View N) → Me S (View N) → Type 0

@@ -21,12 +21,15 @@ IsFreeInside v = (q : ℕ) × (v.standing ≡ Inside q) × (v.claim ≡ None) ×
 abbrev pub MayClaim : {N : Type 0} → View N → Type 0
 MayClaim v = IsFreeInside v × ((n : ℕ) × (v.known.number ≡ Some n)) × (v.known.seen_stop ≡ false)
 
+-- it knows of each range, and of the remainder, that nothing is left there
+abbrev pub HasEmptiedAll : {N : Type 0} → View N → Type 0
+HasEmptiedAll v = (i : ℕ) → i ≤ v.threads → IsListed i v.known.emptied
+
 -- it knows that nothing of the round is left for it
 abbrev pub IsDone : {N : Type 0} → View N → Type 0
 IsDone v = (v.known.unpublished ≡ true) ⊎ ((v.known.seen_stop ≡ true) ⊎
     ((v.threads ≡ 0)
-    ⊎ ((n : ℕ) × (v.known.number ≡ Some n)
-    × ((i : ℕ) → i ≤ v.threads → IsListed i v.known.emptied))))
+    ⊎ ((n : ℕ) × (v.known.number ≡ Some n) × HasEmptiedAll v)))
 
 -- the leader, inside a round in which it has published nothing
 abbrev pub MayFill : {N : Type 0} → View N → Type 0

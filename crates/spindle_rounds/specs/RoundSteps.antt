@@ -1,7 +1,7 @@
 -- What becomes of a seat's view by each kind of step on a round table (`joining`:
 -- the view after a join). What a step tells its seat is in RoundTells (`JoinTells`),
 -- and what a call answers by it in RoundAnswers (`JoinedBy`).
-use Rattle.std.specs.Prelude.{ℕ, ◌+◌, ◌-◌, ◌*◌, ◌/◌, ◌%◌, Bool, true, false, List, [], ◌∷◌, Option}
+use Rattle.std.specs.Prelude.{ℕ, zero, suc, ◌+◌, ◌-◌, ◌*◌, ◌/◌, ◌%◌, Bool, true, false, List, [], ◌∷◌, Option}
 use Rattle.std.specs.Prelude.{Some, None, if◌then◌else◌, ◌==◌, ◌&&◌, nat_lt}
 use Rattle.spindle_parts.specs.declared.trail.Trace.{Trace}
 use Rattle.spindle_parts.specs.Trail.{trace}
@@ -259,11 +259,27 @@ number_or (Some n) = n
 abbrev pub sharing : {N : Type 0} → ℕ → ℕ → Option N → View N → View N
 sharing i stored x v = record (beginning i v.from stored stored x v) { from = v.from + 1 }
 
--- after its claim was counted as finished
+-- before those of the list, all ranges of t threads and the remainder
+abbrev pub list_all : ℕ → List ℕ → List ℕ
+list_all zero l = zero ∷ l
+list_all (suc t) l = suc t ∷ list_all t l
+
+-- once so many jobs have finished it is known, where the number is and they are all, that nothing is left on t threads
+abbrev pub list_finished : Option ℕ → ℕ → ℕ → List ℕ → List ℕ
+list_finished None done t l = l
+list_finished (Some n) done t l = if n == done then list_all t l else l
+
+-- after its claim was counted as finished: who counts the last one knows that nothing is left
 abbrev pub finishing : {N : Type 0} → ℕ → View N → View N
 finishing found v =
     record (noted (trace finished_at (kind.Finish (round_of v.standing) (number_or v.claim)) found
-    (found + 1)) v) { claim = None; note = None }
+    (found + 1)) v) {
+      claim = None;
+      note = None;
+      known = record v.known {
+        emptied = list_finished v.known.number (found + 1) v.threads v.known.emptied;
+      };
+    }
 
 -- Stopping.
 

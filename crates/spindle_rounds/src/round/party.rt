@@ -11,9 +11,9 @@
 //!
 //! Who calls `Party::work` has a seat that is on the round's task (`IsAtTask`), with nothing claimed and no share, and
 //! afterwards one that may arrive: the clauses `idle` and `done` are what `Barrier::arrive` asks.
-ghost use Rattle.std.specs.Prelude.{◌≡◌, ◌<◌, ℕ, List, None, true, MatchBool};
+ghost use Rattle.std.specs.Prelude.{◌≡◌, ◌+◌, ◌<◌, ℕ, List, None, true, MatchBool};
 ghost use denote.Param.Send.{IsSync};
-ghost use Rattle.spindle_rounds.specs.RoundConditions.{MayFinish, MayPutBack, IsItsShare, IsDone};
+ghost use Rattle.spindle_rounds.specs.RoundConditions.{MayFinish, MayPutBack, IsItsShare, IsDone, HasEmptiedAll};
 ghost use Rattle.spindle_rounds.specs.RoundViews.{SharesAsBefore};
 ghost use Rattle.spindle_rounds.specs.Seating.{IsSameSeat};
 ghost use Rattle.spindle_rounds.specs.Sources.{IsIn, HasEmptied, HasLeft};
@@ -51,20 +51,21 @@ pub trait Work<D: Slots> {
     /// What stays of the work from one number to the next.
     ghost keeps: { Self → Self → Type 0 };
 
-    /// Does what belongs to a number that has begun, and finishes it. It may stop a round that may stop.
+    /// Does what belongs to a number that has begun, and finishes it. It may stop a round that may stop. Answers how many jobs of
+    /// the round were finished before this one.
     fn run<H: Threads + Wait + Sync>(
         &mut self,
         rt: &H,
         party: &Party<'_, D>,
         seat: &mut Seat<D>,
         claimed: Claimed,
-    )
+    ) -> u64
         requires sync { IsSync H.row }
         requires at { IsAtTask party.now.round.now party.now.task seat.old }
         requires own { MayFinish claimed seat.old.me.0 }
         requires taken { HasTaken D.discipline (holds self.old) claimed seat.old.me }
         ensures seat { IsSameSeat seat.old seat.new }
-        ensures finished { HasFinished seat.old.me.0 seat.new.me.0 }
+        ensures finished { HasFinished result seat.old.me.0 seat.new.me.0 }
         ensures holds { holds self.new seat.new.me.1 }
         ensures keeps { keeps self.old self.new };
 
@@ -110,7 +111,9 @@ impl<'r, D: Slots> Party<'r, D> {
         ensures holds { W.holds work.new seat.new.me.1 }
         ensures keeps { W.keeps work.old work.new }
     {
-        self.run_from(rt, seat, work, Source::Range(self.thread));
+        if self.run_from(rt, seat, work, Source::Range(self.thread)) {
+            return;
+        }
         if self.run_from(rt, seat, work, Source::Longest) {
             return;
         }
@@ -129,7 +132,7 @@ impl<'r, D: Slots> Party<'r, D> {
         self.task.may_stop && self.round.stopped(seat)
     }
 
-    // The numbers of a source, until it is empty, or the round is stopped: then it answers true.
+    // The numbers of a source until it is empty, or until nothing of the round is left for the party: then it answers true.
     fn run_from<W: Work<D>, H: Threads + Wait + Sync>(
         &self,
         rt: &H,
@@ -143,8 +146,7 @@ impl<'r, D: Slots> Party<'r, D> {
         requires holds { W.holds work.old seat.old.me.1 }
         ensures went { WentOn self.now.round.now self.now.task seat.old seat.new }
         ensures idle { IsIdle seat.new.me.0 }
-        ensures left { MatchBool result (seat.new.me.0.known.seen_stop ≡ true)
-            (HasEmptied source seat.new.me.0) }
+        ensures left { MatchBool result (IsDone seat.new.me.0) (HasEmptied source seat.new.me.0) }
         ensures holds { W.holds work.new seat.new.me.1 }
         ensures keeps { W.keeps work.old work.new }
     {
@@ -153,7 +155,11 @@ impl<'r, D: Slots> Party<'r, D> {
                 return true;
             }
             match source.try_claim(self.round, seat) {
-                Taken::Job(claimed, share) => self.run(rt, seat, work, claimed, share),
+                Taken::Job(claimed, share) => {
+                    if self.run(rt, seat, work, claimed, share) {
+                        return true;
+                    }
+                }
                 Taken::Nothing => return false,
                 Taken::Again => {}
             }
@@ -161,7 +167,7 @@ impl<'r, D: Slots> Party<'r, D> {
         unreachable!()
     }
 
-    // A number that has begun, and then the share that was taken with it.
+    // A number that has begun, and then the share that was taken with it. True where nothing of the round is left for the party.
     fn run<W: Work<D>, H: Threads + Wait + Sync>(
         &self,
         rt: &H,
@@ -169,46 +175,63 @@ impl<'r, D: Slots> Party<'r, D> {
         work: &mut W,
         claimed: Claimed,
         share: Option<Share>,
-    )
+    ) -> bool
         requires at { IsAtTask self.now.round.now self.now.task seat.old }
         requires own { MayFinish claimed seat.old.me.0 }
         requires share { HasLeft share seat.old.me.0 }
         requires taken { HasTaken D.discipline (W.holds work.old) claimed seat.old.me }
         ensures went { WentOn self.now.round.now self.now.task seat.old seat.new }
         ensures idle { IsIdle seat.new.me.0 }
+        ensures over { result ≡ true → IsDone seat.new.me.0 }
         ensures holds { W.holds work.new seat.new.me.1 }
         ensures keeps { W.keeps work.old work.new }
     {
-        work.run(rt, self, seat, claimed);
-        if let Some(share) = share {
-            self.run_share(rt, seat, work, share);
+        let is_over = self.is_last(work.run(rt, self, seat, claimed));
+        match share {
+            Some(share) => self.run_share(rt, seat, work, share, is_over),
+            None => is_over,
         }
     }
 
-    // The numbers of a share. Where the round is stopped the rest of the share goes back.
+    // Whether the job before which so many were finished is the round's last.
+    fn is_last(&self, before: u64) -> bool
+        ensures { result ≡ true → self.now.task.jobs ≡ before + 1 }
+    {
+        self.task.jobs.saturating_sub(before) == 1
+    }
+
+    // The numbers of a share, where `is_over` says whether nothing of the round is left beside them; true where nothing is left
+    // for the party. Where the round is stopped the rest of the share goes back.
     fn run_share<W: Work<D>, H: Threads + Wait + Sync>(
         &self,
         rt: &H,
         seat: &mut Seat<D>,
         work: &mut W,
         mut share: Share,
-    )
+        mut is_over: bool,
+    ) -> bool
         requires at { IsAtTask self.now.round.now self.now.task seat.old }
         requires idle { seat.old.me.0.claim ≡ None }
         requires share { IsItsShare share seat.old.me.0 }
+        requires over { is_over ≡ true → HasEmptiedAll seat.old.me.0 }
         requires holds { W.holds work.old seat.old.me.1 }
         ensures went { WentOn self.now.round.now self.now.task seat.old seat.new }
         ensures idle { IsIdle seat.new.me.0 }
+        ensures over { result ≡ true → IsDone seat.new.me.0 }
         ensures holds { W.holds work.new seat.new.me.1 }
         ensures keeps { W.keeps work.old work.new }
     {
         for _ in rt.forever() {
             if self.sees_stop(seat) {
-                return self.put_back(rt, seat, share);
+                self.put_back(rt, seat, share);
+                return true;
             }
             match self.round.next_of_share(seat, self.thread, &mut share) {
-                Some(claimed) => work.run(rt, self, seat, claimed),
-                None => return share.done(),
+                Some(claimed) => is_over = self.is_last(work.run(rt, self, seat, claimed)),
+                None => {
+                    share.done();
+                    return is_over;
+                }
             }
         }
         unreachable!()
@@ -235,6 +258,7 @@ impl<'r, D: Slots> Party<'r, D> {
         requires share { IsItsShare share seat.old.me.0 }
         ensures went { WentOn self.now.round.now self.now.task seat.old seat.new }
         ensures idle { IsIdle seat.new.me.0 }
+        ensures seen { seat.new.me.0.known.seen_stop ≡ true }
         ensures hands { seat.new.me.1 ≡ seat.old.me.1 }
     {
         let mut turn = 0;

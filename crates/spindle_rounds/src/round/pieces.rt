@@ -5,6 +5,7 @@
 ghost use Rattle.std.specs.Prelude.{◌≡◌, ◌≤◌, ◌<◌, ℕ, [], ◌∷◌, ◌++◌, true, IfOk, OnErr, IsErrOf};
 ghost use Rattle.atomic_table.specs.Table.{rest};
 ghost use Rattle.spindle_rounds.specs.RoundSteps.{outsider, finishing};
+ghost use Rattle.spindle_rounds.specs.PartyWork.{HasFinished};
 ghost use Rattle.spindle_rounds.specs.RoundConditions.{MayFinish};
 ghost use Rattle.spindle_rounds.specs.RoundPieces.{IsAtHand, AnswersNote};
 ghost use Rattle.spindle_rounds.specs.Seating.{HasSlots, IsSeatAt, IsSameSeat};
@@ -56,30 +57,35 @@ impl<A: Answers> Round<Pieces<A>> {
     }
 
     /// Finishes the claim with what its piece was run to, which goes into the slot; the slot goes back.
-    pub fn finish(&self, seat: &mut Seat<Pieces<A>>, claimed: Claimed, finished: A::Answer)
+    pub fn finish(&self, seat: &mut Seat<Pieces<A>>, claimed: Claimed, finished: A::Answer) -> u64
         requires seated { IsSeatAt self.now.init seat.old }
         requires own { MayFinish claimed seat.old.me.0 }
         requires held { (y : _) × IsAtHand claimed y seat.old.me.1 }
         requires answers { AnswersNote A.answers seat.old.me.0.note finished }
         ensures seat { IsSameSeat seat.old seat.new }
-        ensures step { (found : ℕ)
-            × (seat.new.me ≡ (finishing found seat.old.me.0, rest seat.old.me.1)) }
+        ensures step { seat.new.me ≡ (finishing result seat.old.me.0, rest seat.old.me.1) }
+        ensures finished { HasFinished result seat.old.me.0 seat.new.me.0 }
     {
         let slot = claimed.number() as usize;
         let done = Stand::Done(finished);
         let _ = self.init.table.shared.exchange(seat, slot, done);
-        self.count_finished(seat, claimed);
+        self.count_finished(seat, claimed)
     }
 
     /// Finishes as `finish` does a claim whose piece was taken: nothing stands in its slot, so nothing is dropped.
-    pub fn finish_taken(&self, seat: &mut Seat<Pieces<A>>, claimed: Claimed, finished: A::Answer)
+    pub fn finish_taken(
+        &self,
+        seat: &mut Seat<Pieces<A>>,
+        claimed: Claimed,
+        finished: A::Answer,
+    ) -> u64
         requires seated { IsSeatAt self.now.init seat.old }
         requires own { MayFinish claimed seat.old.me.0 }
         requires taken { IsAtHand claimed Empty seat.old.me.1 }
         requires answers { AnswersNote A.answers seat.old.me.0.note finished }
         ensures seat { IsSameSeat seat.old seat.new }
-        ensures step { (found : ℕ)
-            × (seat.new.me ≡ (finishing found seat.old.me.0, rest seat.old.me.1)) }
+        ensures step { seat.new.me ≡ (finishing result seat.old.me.0, rest seat.old.me.1) }
+        ensures finished { HasFinished result seat.old.me.0 seat.new.me.0 }
     {
         let slot = claimed.number() as usize;
         let done = Stand::Done(finished);
@@ -88,7 +94,7 @@ impl<A: Answers> Round<Pieces<A>> {
             Stand::Waits(_) => unreachable!(),
             Stand::Done(_) => unreachable!(),
         }
-        self.count_finished(seat, claimed);
+        self.count_finished(seat, claimed)
     }
 
     /// Puts a piece into the slot at the leader's hand, in which nothing stands, and which then goes behind the others that it

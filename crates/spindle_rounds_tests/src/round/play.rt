@@ -20,8 +20,9 @@ use std::thread::Threads;
 
 /// A piece of no items.
 #[derive(Drop)]
-struct Empty {
-    number: u64,
+pub struct Empty {
+    /// Its number.
+    pub number: u64,
 }
 
 impl Numbered for Empty {

@@ -52,10 +52,10 @@ impl<'a> Work<Pieces<Twice>> for Doubling<'a> {
         party: &Party<'_, Pieces<Twice>>,
         seat: &mut Seat<Pieces<Twice>>,
         claimed: Claimed,
-    ) {
+    ) -> u64 {
         self.counts.count(claimed.number());
         let piece = party.round.take_piece(seat, &claimed);
-        party.round.finish(seat, claimed, piece as u64 * 2);
+        party.round.finish(seat, claimed, piece as u64 * 2)
     }
 
     ghost keeps_same = { λ work. tt };

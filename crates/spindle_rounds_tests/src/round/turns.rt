@@ -7,7 +7,7 @@ ghost use Rattle.spindle_rounds.specs.Working.{OnTask, IsIdle};
 ghost use Rattle.spindle_rounds.specs.PartyWork.{IsAtTask};
 
 use super::counts::Counts;
-use super::play;
+use super::play::Empty;
 use spindle_rounds::round::Round;
 use spindle_rounds::round::claim::Claimed;
 use spindle_rounds::round::party::{Party, Work};
@@ -50,11 +50,12 @@ impl<'a> Work<Bare> for Count<'a> {
         party: &Party<'_, Bare>,
         seat: &mut Seat<Bare>,
         claimed: Claimed,
-    ) {
-        self.counts.count(claimed.number());
+    ) -> u64 {
+        let number = claimed.number();
+        self.counts.count(number);
         thread::yield_now();
         stop_at(party, seat, &claimed);
-        play::finish(party.round, seat, claimed);
+        party.round.finish(seat, claimed, &Empty { number })
     }
 
     ghost keeps_same = { λ count. tt };

@@ -131,11 +131,11 @@ impl<'r, 'a, J: Job, G: Gate, A: RunsPieces<J>> Work<Pieces<A>> for SlotWork<'r,
         party: &Party<'_, Pieces<A>>,
         seat: &mut Seat<Pieces<A>>,
         claimed: Claimed,
-    ) {
+    ) -> u64 {
         let number = claimed.number() as usize;
         let mut piece = Some(party.round.take_piece(seat, &claimed));
         let answer = A::run_piece(rt, self.alloc, self.runner, number, &mut piece);
-        party.round.finish_taken(seat, claimed, answer);
+        party.round.finish_taken(seat, claimed, answer)
     }
 
     ghost keeps_same = { λ work. refl };

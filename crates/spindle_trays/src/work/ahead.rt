@@ -87,20 +87,21 @@ impl<'t, 'p, 'r, 'a, J: Job, G: Gate> Work<Bare> for AheadWork<'t, 'p, 'r, 'a, J
         party: &Party<'_, Bare>,
         seat: &mut Seat<Bare>,
         claimed: Claimed,
-    ) {
+    ) -> u64 {
         let number = claimed.number() as usize;
         if number == self.own.next && number < self.own.pieces.count() {
             self.own.run_next(rt);
             let finished: Finished<J> = Finished::empty(self.own.alloc, number);
-            party.round.finish(seat, claimed, &finished);
+            party.round.finish(seat, claimed, &finished)
         } else {
             let (alloc, pieces) = (self.own.alloc, self.own.pieces.count());
             let held = self.held.take();
             let finished = self
                 .trays
                 .run_piece(rt, alloc, self.own.runner, pieces, held, number);
-            party.round.finish(seat, claimed, &finished);
+            let before = party.round.finish(seat, claimed, &finished);
             self.held = Some(finished);
+            before
         }
     }
 

@@ -81,13 +81,13 @@ impl<'p, 'r, 'a, J: Job, G: Gate> Work<Bare> for LoneWork<'p, 'r, 'a, J, G> {
         party: &Party<'_, Bare>,
         seat: &mut Seat<Bare>,
         claimed: Claimed,
-    ) {
+    ) -> u64 {
         let number = claimed.number() as usize;
         if number == self.next && number < self.pieces.count() {
             self.run_next(rt);
         }
         let finished: Finished<J> = Finished::empty(self.alloc, number);
-        party.round.finish(seat, claimed, &finished);
+        party.round.finish(seat, claimed, &finished)
     }
 
     ghost keeps_same = { λ w. refl };

@@ -17,15 +17,15 @@ pub(crate) fn finish<P: Numbered>(
     claimed: Claimed,
     piece: &P,
     failed: bool,
-)
+) -> u64
     requires at { IsAtTask party.now.round.now party.now.task seat.old }
     requires own { MayFinish claimed seat.old.me.0 }
     requires piece { P.number piece.now ≡ claimed }
     ensures seat { IsSameSeat seat.old seat.new }
-    ensures finished { HasFinished seat.old.me.0 seat.new.me.0 }
+    ensures finished { HasFinished result seat.old.me.0 seat.new.me.0 }
 {
     if failed && party.task.may_stop {
         party.round.stop(seat, &claimed);
     }
-    party.round.finish(seat, claimed, piece);
+    party.round.finish(seat, claimed, piece)
 }

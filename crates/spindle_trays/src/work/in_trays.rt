@@ -111,7 +111,7 @@ impl<'t, 'r, 'a, J: Job, G: Gate> Work<Bare> for TrayWork<'t, 'r, 'a, J, G> {
         party: &Party<'_, Bare>,
         seat: &mut Seat<Bare>,
         claimed: Claimed,
-    ) {
+    ) -> u64 {
         let number = claimed.number() as usize;
         let pieces = party.task.jobs as usize;
         let held = self.held.take();
@@ -119,8 +119,9 @@ impl<'t, 'r, 'a, J: Job, G: Gate> Work<Bare> for TrayWork<'t, 'r, 'a, J, G> {
             .trays
             .run_piece(rt, self.alloc, self.runner, pieces, held, number);
         let failed = party.task.may_stop && finished.has_failed();
-        finish(party, seat, claimed, &finished, failed);
+        let before = finish(party, seat, claimed, &finished, failed);
         self.held = Some(finished);
+        before
     }
 
     ghost keeps_same = { λ w. tt };

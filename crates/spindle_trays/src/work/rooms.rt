@@ -87,11 +87,11 @@ impl<'p, 'r, 'a, J: Job, G: Gate> Work<Bare> for RoomWork<'p, 'r, 'a, J, G> {
         party: &Party<'_, Bare>,
         seat: &mut Seat<Bare>,
         claimed: Claimed,
-    ) {
+    ) -> u64 {
         let number = claimed.number() as usize;
         let failed = self.run_piece(rt, number);
         let finished: Finished<J> = Finished::empty(self.alloc, number);
-        finish(party, seat, claimed, &finished, failed);
+        finish(party, seat, claimed, &finished, failed)
     }
 
     ghost keeps_same = { λ w. refl };

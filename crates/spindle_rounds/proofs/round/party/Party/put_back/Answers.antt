@@ -20,6 +20,10 @@ returns-in-Put-clause-went g c = let i = c.loop.invariant in
     let a = share_put c.loop.seat.me c.put_back.new.seat.me _ back.Put c.loop.share c.put_back.new.share i.may i.own c.in-Put.ensures.step in
     went_more _ _ _ c.loop.seat c.put_back.new.seat i.went c.put_back.ensures.seat a.0 (λ _. a.1.2 ∙ sym i.may.2)
 
+pub returns-in-Put-clause-seen : goal.returns-in-Put-clause-seen
+returns-in-Put-clause-seen g c = let i = c.loop.invariant in
+    let a = share_put c.loop.seat.me c.put_back.new.seat.me _ back.Put c.loop.share c.put_back.new.share i.may i.own c.in-Put.ensures.step in a.1.2
+
 pub returns-in-Put-clause-idle : goal.returns-in-Put-clause-idle
 returns-in-Put-clause-idle g c = let i = c.loop.invariant in
     let a = share_put c.loop.seat.me c.put_back.new.seat.me _ back.Put c.loop.share c.put_back.new.share i.may i.own c.in-Put.ensures.step in

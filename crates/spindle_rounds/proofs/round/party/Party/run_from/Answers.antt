@@ -1,5 +1,5 @@
 -- The party claims from the source, and has worked on after each claim.
-use Rattle.std.proofs.Common.{◌∙◌, sym, subst}
+use Rattle.std.proofs.Common.{◌∙◌, sym, subst, inl, inr}
 use Rattle.spindle_rounds.proofs.PartyWork.{went_first, went_then, went_more, still_idle, claims_at}
 use Rattle.spindle_rounds.proofs.round.party.Party.run_from.Goals as goal
 
@@ -33,14 +33,27 @@ run-requires-clause-at g c κs within = let e = c.sees_stop.ensures in let a = c
 pub run-requires-clause-taken : goal.run-requires-clause-taken
 run-requires-clause-taken g c κs within = (c.sees_stop.new.seat.me.1, rw c.sees_stop.ensures.hands c.loop.invariant.holds, c.in-Job.ensures.taken.4)
 
-pub loop-preserved-in-Job : goal.loop-preserved-in-Job
-loop-preserved-in-Job g c = let i = c.loop.invariant in let e = c.sees_stop.ensures in let a = c.in-Job.ensures.taken in let f = c.run.ensures in record {
+pub loop-preserved-else-run : goal.loop-preserved-else-run
+loop-preserved-else-run g c = let i = c.loop.invariant in let e = c.sees_stop.ensures in let a = c.in-Job.ensures.taken in let f = c.run.ensures in record {
   went = went_then _ _ _ _ _ (went_more _ _ _ c.sees_stop.new.seat c.try_claim.new.seat (went_then _ _ _ _ _ i.went e.went) c.try_claim.ensures.seat a.0
       (λ _. a.1)) f.went;
   idle = f.idle;
   holds = f.holds;
   keeps = g.met.W.Work.keeps_then _ _ _ i.keeps f.keeps;
 }
+
+pub returns-then-sees_stop-clause-left : goal.returns-then-sees_stop-clause-left
+returns-then-sees_stop-clause-left g c = inr (inl (c.sees_stop.ensures.seen ∙ c.if-sees_stop.true))
+
+pub returns-then-run-clause-went : goal.returns-then-run-clause-went
+returns-then-run-clause-went g c = let a = c.in-Job.ensures.taken in went_then _ _ _ _ _ (went_more _ _ _ c.sees_stop.new.seat c.try_claim.new.seat
+    (went_then _ _ _ _ _ c.loop.invariant.went c.sees_stop.ensures.went) c.try_claim.ensures.seat a.0 (λ _. a.1)) c.run.ensures.went
+
+pub returns-then-run-clause-left : goal.returns-then-run-clause-left
+returns-then-run-clause-left g c = c.run.ensures.over c.if-run.true
+
+pub returns-then-run-clause-keeps : goal.returns-then-run-clause-keeps
+returns-then-run-clause-keeps g c = g.met.W.Work.keeps_then _ _ _ c.loop.invariant.keeps c.run.ensures.keeps
 
 pub returns-in-Nothing-clause-went : goal.returns-in-Nothing-clause-went
 returns-in-Nothing-clause-went g c = let a = c.in-Nothing.ensures.taken in

@@ -1,8 +1,9 @@
 -- The numbers of a share, one after another, or back into a range.
-use Rattle.std.proofs.Common.{arith, ◌∙◌, sym, subst, ap}
+use Rattle.std.proofs.Common.{arith, ◌∙◌, sym, subst, ap, inl, inr}
+use Rattle.spindle_rounds.specs.RoundConditions.{HasEmptiedAll}
 use Rattle.spindle_rounds.specs.Working.{IsIdle}
 use Rattle.spindle_rounds.proofs.RoundClients.{share_next}
-use Rattle.spindle_rounds.proofs.PartyWork.{went_first, went_then, went_more, went_still, share_taken}
+use Rattle.spindle_rounds.proofs.PartyWork.{went_first, went_then, went_more, went_still, share_taken, over_at, over_on, done_over}
 use Rattle.spindle_rounds.proofs.round.party.Party.run_share.Goals as goal
 
 pub loop-init : goal.loop-init
@@ -10,12 +11,16 @@ loop-init g c = record {
   went = went_first _ _ c.args.seat.now c.requires.at;
   idle = c.requires.idle;
   own = c.requires.share;
+  over = c.requires.over;
   holds = c.requires.holds;
   keeps = g.met.W.Work.keeps_same _;
 }
 
 pub returns-then-sees_stop-clause-went : goal.returns-then-sees_stop-clause-went
 returns-then-sees_stop-clause-went g c = went_then _ _ _ _ _ (went_then _ _ _ _ _ c.loop.invariant.went c.sees_stop.ensures.went) c.put_back.ensures.went
+
+pub returns-then-sees_stop-clause-over : goal.returns-then-sees_stop-clause-over
+returns-then-sees_stop-clause-over g c = λ _. inr (inl c.put_back.ensures.seen)
 
 pub returns-then-sees_stop-clause-holds : goal.returns-then-sees_stop-clause-holds
 returns-then-sees_stop-clause-holds g c = rw (c.put_back.ensures.hands, c.sees_stop.ensures.hands) c.loop.invariant.holds
@@ -43,6 +48,7 @@ loop-preserved g c = let i = c.loop.invariant in let e = c.sees_stop.ensures in 
       went = went_more _ _ _ b c.run.new.seat claimed f.seat f.finished.0 f.finished.1;
       idle = f.finished.3;
       own = (n.3.0 ∙ sym f.finished.2.0, n.3.1 ∙ sym f.finished.2.1);
+      over = λ e. over_at _ _ b c.run.new.seat c.run.result claimed.at f.finished (c.is_last-is_over.ensures e);
       holds = f.holds;
       keeps = g.met.W.Work.keeps_then _ _ _ i.keeps f.keeps;
     }
@@ -56,6 +62,12 @@ returns-in-None-next_of_share-clause-idle g c = let i = c.loop.invariant in let 
     let own = i.own in let same = e.same.0 in let empty = step.2 in
     let idle : IsIdle c.sees_stop.new.seat.me.0 = (e.same.1 ∙ i.idle, (let x = own.0 in let y = own.1 in let p = same.0 in let q = same.1 in omega arith)) in
     subst (λ m. IsIdle m.0) (sym step.0) idle
+
+pub returns-in-None-next_of_share-clause-over : goal.returns-in-None-next_of_share-clause-over
+returns-in-None-next_of_share-clause-over g c = let i = c.loop.invariant in let e = c.sees_stop.ensures in let step = c.in-None-next_of_share.ensures.step in
+    let went = went_still _ _ _ c.sees_stop.new.seat c.next_of_share.new.seat (went_then _ _ _ _ _ i.went e.went) c.next_of_share.ensures.seat step.0 in
+    λ over. done_over _ _ c.next_of_share.new.seat went.at
+    (subst (λ m. HasEmptiedAll m.0) (sym step.0) (over_on c.loop.seat.me.0 c.sees_stop.new.seat.me.0 e.went.on (i.over over)))
 
 pub returns-in-None-next_of_share-clause-holds : goal.returns-in-None-next_of_share-clause-holds
 returns-in-None-next_of_share-clause-holds g c = subst (λ h. g.W.Work.holds c.loop.work h)
