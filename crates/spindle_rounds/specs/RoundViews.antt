@@ -28,7 +28,7 @@ pub record AtWork {N : Type 0} (n : ℕ) (stoppable : Bool) (v : View N) : Type 
   pub number : v.known.number ≡ Some n
   pub may_stop : v.known.may_stop ≡ stoppable
 
--- the seat goes on in the same round: it publishes nothing, and what it has read as empty stays so
+-- the seat goes on in the same round: it publishes nothing, and what it knows to be empty stays so
 pub record Onward {N : Type 0} (v w : View N) : Type 0 where
   pub leader : w.leader ≡ v.leader
   pub threads : w.threads ≡ v.threads

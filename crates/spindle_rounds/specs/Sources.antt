@@ -21,7 +21,7 @@ abbrev pub IsIn : ℕ → Source → Type 0
 IsIn t (Range i) = i < t
 IsIn t _ = Unit {0}
 
--- the seat has read it as empty
+-- the seat knows that it is empty
 abbrev pub HasEmptied : {N : Type 0} → Source → View N → Type 0
 HasEmptied (Range i) v = IsListed i v.known.emptied
 HasEmptied Longest v = (i : ℕ) → i < v.threads → IsListed i v.known.emptied

@@ -2,7 +2,7 @@
 //!
 //! A party takes numbers from its own range, then steals from the longest range, a share at a time, and at last takes
 //! from the remainder. In a round that may stop it looks before each claim whether the round was stopped; then it puts
-//! its share back, and nothing of the round is left for it.
+//! its share back, and nothing of the round is left for it. Whoever finishes the round's last job looks no further.
 //!
 //! What is done with a number is a `Work`. Its `holds` is what is true between two numbers, of the work and of the slots
 //! in the seat's hands; `keeps` is what stays the same from one number to the next. A work may stop the round in which it
