@@ -154,8 +154,7 @@ impl<'a, J: Opens<L>, G: Gate, L> Leader<'a, J, G, L> {
             let inputs = items.as_slice();
             self.runner.run(rt, alloc, 0, None, inputs, outputs);
         } else {
-            let items = SharedList::from_vec(alloc, items)?;
-            let pieces = Pieces::new(items, jobs);
+            let pieces = Pieces::new(SharedList::from_vec(alloc, items)?, jobs);
             self.post
                 .play_alone(rt, alloc, &mut self.runner, &pieces, outputs);
         }
