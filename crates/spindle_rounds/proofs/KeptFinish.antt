@@ -199,7 +199,8 @@ module _ {X N : Type 0} (D : Discipline X N) (law : Lawful D) (t : ℕ) where
                   unpublished = knows.unpublished;
                   seen = ap (λ (z : Round). z.seen id) round ∙ knows.seen;
                   emptied = λ m j e l. listed_finished me.0.known.number m (x + 1) me.0.threads me.0.known.emptied (IsEmptied me.0.threads m S') e
-                      (λ last i. inl (λ a f _. none_free S' (sound (Finish id ∷ run) ((k, runs), r.is_run)) (all_done S id k runs x m is last (h.gate.shown m (knows.number m e).0).0) a f))
+                      (λ last i. inl (λ a f _. none_free S' (sound (Finish id ∷ run) ((k, runs), r.is_run))
+                      (all_done S id k runs x m is last (h.gate.shown m (knows.number m e).0).0) a f))
                       (λ i' l'. ⊎_elim (λ (u : (a : ℕ) → Free S a → home_of me.0.threads m a ≡ i' → ⊥). inl (λ a f. u a (free_back S id k runs a f)))
                       (λ u. inr (ap (λ (z : Round). z.stopped) round ∙ u)) (knows.emptied m i' e l')) j l;
                   unread = λ e. unlisted_finished me.0.known.number (x + 1) me.0.threads me.0.known.emptied e (knows.unread e);

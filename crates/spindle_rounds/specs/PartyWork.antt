@@ -30,8 +30,8 @@ abbrev pub HasTaken : {S N : Type 0} → Discipline S N → (List (ℕ × S) →
     → Type 0
 HasTaken {S = S} D Held k m = (before : List (ℕ × S)) × Held before × D.took k before m.0.note m.1
 
--- the claim is finished, before which so many were; only in a round that may stop the seat may have seen more than before.
--- Where its job is the last of the round, the seat knows that nothing is left
+-- the claim is finished, before which so many were; only in a round that may stop the seat may have
+-- seen more than before. Where its job is the last of the round, the seat knows that nothing is left
 abbrev pub HasFinished : {N : Type 0} → ℕ → View N → View N → Type 0
-HasFinished found v w = Onward v w × (v.known.may_stop ≡ false → SeesAsBefore v w) × SharesAsBefore v w
-    × (w.claim ≡ None) × (v.known.number ≡ Some (found + 1) → HasEmptiedAll w)
+HasFinished found v w = Onward v w × (v.known.may_stop ≡ false → SeesAsBefore v w)
+    × SharesAsBefore v w × (w.claim ≡ None) × (v.known.number ≡ Some (found + 1) → HasEmptiedAll w)

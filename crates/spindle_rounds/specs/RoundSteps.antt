@@ -264,7 +264,8 @@ abbrev pub list_all : ℕ → List ℕ → List ℕ
 list_all zero l = zero ∷ l
 list_all (suc t) l = suc t ∷ list_all t l
 
--- once so many jobs have finished it is known, where the number is and they are all, that nothing is left on t threads
+-- once so many jobs have finished it is known, where the number is and they are all, that nothing
+-- is left on t threads
 abbrev pub list_finished : Option ℕ → ℕ → ℕ → List ℕ → List ℕ
 list_finished None done t l = l
 list_finished (Some n) done t l = if n == done then list_all t l else l
