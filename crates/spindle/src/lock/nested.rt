@@ -17,6 +17,8 @@ use spindle_slots::job::remake::Remakes;
 use spindle_slots::pieces::of_kind::{ChunkOf, PieceOf};
 use spindle_slots::posts::slot_workspace::{MakesSlots, OpensSlots, SlotWorkspace};
 use spindle_slots::work::in_slots::RunsPieces;
+use spindle_trays::crew::Crew;
+use spindle_trays::crew::limits::Limits;
 use spindle_trays::job::Job;
 use spindle_trays::job::context::JobCx;
 use spindle_trays::job::gate::NoGate;
@@ -124,6 +126,25 @@ fn open<
             return Ok(answer);
         }
     }
+    lead_alone::<J, A, R, F, P, H>(rt, alloc, crew, limits, slots, f)
+}
+
+// Runs f with the leader of a lock of so many threads that stands in no child slot, so that no helper comes to it.
+fn lead_alone<
+    J: Job + MakesSlots<P, Pieces<A>, SlotWorkspace<J>>,
+    A: RunsPieces<J>,
+    R,
+    F: FnOnce(&mut SlotLeader<J, NoGate, P>) -> R,
+    P: Drop,
+    H: Threads + Wait + Sync,
+>(rt: &H, alloc: Global, crew: Crew, limits: Limits, slots: usize, f: F) -> Result<R, Fault>
+    requires slots { (1 ≤ slots) × (slots ≤ 4294967295) }
+    requires callable { TakesLeaders J.OpensSlots.slot_count slots F.FnOnce f }
+    ensures promise { IfOk result (λ r. (old : _) × (new : _)
+        × IsLeaderOf J.OpensSlots.slot_count crew.most slots old
+        × FnOnceReturnsAtMut F.FnOnce f old r new) }
+    ensures memory { OnErr result (IsErrOf result Fault.Memory) }
+{
     let (child, entry) = NestedSlots::open(alloc, crew.alone(), limits, slots)?;
     Ok(f(&mut take_lead(rt, &*child.shared, &NoGate, entry)))
 }

@@ -1,5 +1,6 @@
 -- The closure was called with a leader of a lock of these threads, with so many slots.
 use Rattle.std.proofs.Common.{ap, sym, refl, ◌∙◌}
+use Rattle.std.proofs.lemmas.Result.{IfOk-weaker}
 use Rattle.spindle_trays.specs.declared.crew.Crew.{Crew}
 use Rattle.spindle_trays.specs.Locks.{lock_threads}
 use Rattle.spindle.proofs.lock.nested.open.Goals as goal
@@ -22,14 +23,4 @@ returns-in-Some-take-clause-promise g c =
 pub returns-clause-promise : goal.returns-clause-promise
 returns-clause-promise g c =
     let size = c.nested-crew.ensures.most ∙ ap (λ v. lock_threads v.pool c.args.max_threads) c.cx.view_is in
-    let made = c.in_ok-child-2.ensures in let leads = c.take_lead.ensures in (
-      c.take_lead.result,
-      _,
-      (
-        leads.0
-            ∙ (ap (λ n. n.tables.value.crew.most) c.deref-3.ensures
-            ∙ (sym (ap (λ t. t.crew.most) made.share) ∙ (ap (λ (k : Crew). k.most) made.crew ∙ (c.alone.ensures.most ∙ size)))),
-        leads.1 ∙ made.slots,
-      ),
-      record { shown = _; shows = refl; left = _; met = c.f.ensures; leaves = refl },
-    )
+    IfOk-weaker c.lead_alone.result _ _ (λ r p. (p.0, p.1, (p.2.0 ∙ size, p.2.1), p.3)) c.lead_alone.ensures.promise

@@ -1,5 +1,5 @@
 -- One more item was remade.
-use Rattle.std.proofs.Common.{◌≡◌, ◌++◌, ◌∷◌, [], reverse, rules, refl, ap, sym, subst, ◌∙◌, append_assoc}
+use Rattle.std.proofs.Common.{◌≡◌, ◌++◌, ◌∷◌, [], reverse, rules, arith, refl, ap, sym, subst, ◌∙◌, append_assoc}
 use Rattle.std.specs.List.{AllZip}
 use mathlib.Core.List.{reverse-append}
 use Rattle.spindle_parts.proofs.Lists.{all_zip_append}
@@ -23,7 +23,7 @@ loop-preserved g c = let i = c.loop.invariant in let R = g.J.Remakes.remade in l
         subst (λ ys. AllZip R (before ++ x ∷ []) ys) (sym c.push_reserved.ensures.items)
             (all_zip_append R before c.loop.done.items (x ∷ []) (y ∷ []) i.remade.2 (c.remake.ensures x refl, tt {0})),
       );
-      len = search rules;
-      left = search rules;
-      room = search rules;
+      len = omega (arith, c.push_reserved.ensures.len, i.len);
+      left = omega (arith, c.take_last.ensures.len, i.left);
+      room = omega (arith, c.push_reserved.ensures.capacity, i.room);
     }

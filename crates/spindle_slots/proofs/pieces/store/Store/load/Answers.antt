@@ -49,8 +49,8 @@ loop-done-preserved g c = let i = c.loop-done.invariant in let old = c.args.item
       chunks = c.push_reserved.ensures.items ∙ (ap (λ l. l ++ c.load.result ∷ []) i.chunks ∙ (ap (λ x. last_pieces old.items n k ++ x ∷ [])
           (c.load.ensures.taken ∙ (ap (drop f) was ∙ (ap (λ (j : ℕ). drop j (items_before old.items n (m + 1))) at ∙ (piece_last old.items n m
           ∙ ap (piece_at old.items n) (sym last))))) ∙ ap (last_pieces old.items n) one));
-      room = search rules;
-      chunked = search rules;
+      room = omega (arith, c.push_reserved.ensures.capacity, i.room);
+      chunked = omega (arith, c.push_reserved.ensures.len, i.chunked);
       rooms = less.0;
-      ready = search rules;
+      ready = omega (arith, c.take_last-room.ensures.len, i.ready);
     }
