@@ -1,7 +1,7 @@
 -- What contracts see of the leader of a lock with slots. Its post is hidden behind a type P:
 -- what is known of the seat in it is told by a function of P.
 use denote.Ref.{MutBor}
-use Rattle.std.specs.Fn.{Once, FnOnceTakesAtMut}
+use Rattle.std.specs.Fn.{Once, FnOnceTakesAtMut, FnOnceReturnsAtMut}
 use Rattle.std.specs.Prelude.{◌≡◌, ℕ, min}
 use Rattle.spindle_parts.specs.declared.requests.plays.Account.{Account}
 use Rattle.spindle_trays.specs.Accounts as accounts
@@ -48,6 +48,14 @@ abbrev pub TakesLeaders : {J G P I O N S F R : Type 0} → (P → ℕ) → (slot
     → Once F (MutBor (SlotLeader J G P I O N S) × Unit {0}) R → F → Type 0
 TakesLeaders {J} {G} {P} {I} {O} {N} {S} slot_count slots g f =
     (leader : SlotLeader J G P I O N S) → slots_of slot_count leader ≡ slots → FnOnceTakesAtMut g f leader
+
+-- f was called with a leader of a lock of so many threads with so many slots, and returned r
+unfoldable pub WasLed : {J G P I O N S F R : Type 0} → (P → ℕ) → (threads slots : ℕ)
+    → Once F (MutBor (SlotLeader J G P I O N S) × Unit {0}) (R × (MutBor (SlotLeader J G P I O N S) × Unit {0}))
+    → F → R → Type 0
+WasLed {J} {G} {P} {I} {O} {N} {S} slot_count threads slots g f r =
+    (old : SlotLeader J G P I O N S) × (new : SlotLeader J G P I O N S)
+    × IsLeaderOf slot_count threads slots old × FnOnceReturnsAtMut g f old r new
 
 -- the jobs of its round over so many items, asked for in so many jobs
 abbrev pub slot_jobs : {J G P I O N S : Type 0} → (P → ℕ) → SlotLeader J G P I O N S

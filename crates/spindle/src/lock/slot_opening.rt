@@ -5,7 +5,7 @@ ghost use Rattle.std.specs.Arc.{arc_value};
 ghost use denote.Param.Send.{IsSync};
 ghost use Rattle.spindle_trays.specs.Locks.{lock_threads};
 ghost use Rattle.spindle_trays.specs.Opening.{AreSeatsAt};
-ghost use Rattle.spindle.specs.SlotLeaders.{TakesLeaders, IsLeaderOf, threads_of};
+ghost use Rattle.spindle.specs.SlotLeaders.{TakesLeaders, WasLed, threads_of};
 ghost use Rattle.spindle_rounds.specs.Seating.{HasSlots};
 
 use crate::lock::slot_leader::SlotLeader;
@@ -157,9 +157,8 @@ where
     J::Inner: Send,
     <J::Inner as Nest>::Slots: Send + Sync,
     requires callable { TakesLeaders J.OpensSlots.slot_count entrant.slots F.FnOnce f }
-    ensures { let of = entrant.entry in (old : _) × (new : _)
-        × IsLeaderOf J.OpensSlots.slot_count of.tables.now.crew.most of.slots old
-        × FnOnceReturnsAtMut F.FnOnce f old result new }
+    ensures { let of = entrant.entry in
+        WasLed J.OpensSlots.slot_count of.tables.now.crew.most of.slots F.FnOnce f result }
 {
     thread::scope(
         thread::scope_env(),
@@ -167,9 +166,8 @@ where
         |scope| -> R
             requires callable { TakesLeaders J.OpensSlots.slot_count entrant.slots F.FnOnce f }
             requires sync { IsSync H.row }
-            ensures { let of = entrant.entry in (old : _) × (new : _)
-                × IsLeaderOf J.OpensSlots.slot_count of.tables.now.crew.most of.slots old
-                × FnOnceReturnsAtMut F.FnOnce f old result new }
+            ensures { let of = entrant.entry in
+                WasLed J.OpensSlots.slot_count of.tables.now.crew.most of.slots F.FnOnce f result }
         { lead::<_, J, A, L, G, R, F, P, H>(scope, rt, alloc, entrant, f) },
     )
 }
@@ -195,9 +193,8 @@ where
     J::Inner: Send,
     <J::Inner as Nest>::Slots: Send + Sync,
     requires callable { TakesLeaders J.OpensSlots.slot_count entrant.slots F.FnOnce f }
-    ensures { let of = entrant.entry in (old : _) × (new : _)
-        × IsLeaderOf J.OpensSlots.slot_count of.tables.now.crew.most of.slots old
-        × FnOnceReturnsAtMut F.FnOnce f old result new }
+    ensures { let of = entrant.entry in
+        WasLed J.OpensSlots.slot_count of.tables.now.crew.most of.slots F.FnOnce f result }
 {
     let (newcomer, runner) = entrant.muster::<E, J, H>(scope, rt, alloc);
     let mut newcomer = Some(newcomer);

@@ -1,6 +1,7 @@
 -- The leader of the closure is one of this lock, with its slots.
 use Rattle.std.proofs.Common.{ap, refl, ◌∙◌}
 use Rattle.spindle_trays.specs.declared.crew.Crew.{Crew}
+use Rattle.spindle.specs.SlotLeaders.{WasLed}
 use Rattle.spindle.proofs.lock.slot_opening.lead.Goals as goal
 
 pub f-answer-requires : goal.f-answer-requires
@@ -8,6 +9,7 @@ f-answer-requires g c = c.requires.callable c.new-leader.result
     (ap g.J.OpensSlots.slot_count c.new-leader.ensures.post ∙ (c.settle.ensures _ refl ∙ c.muster-newcomer.ensures.slots)) _ refl
 
 pub returns : goal.returns
+unfolding WasLed
 returns g c = (
   c.new-leader.result,
   _,

@@ -4,6 +4,7 @@ use Rattle.spindle_trays.specs.Locks.{lock_threads}
 use Rattle.spindle_trays.specs.Opening.{AreSeatsAt}
 use Rattle.spindle_trays.specs.declared.crew.Crew.{Crew}
 use Rattle.spindle_rounds.specs.Seating.{slots_of}
+use Rattle.spindle.specs.SlotLeaders.{WasLed}
 use Rattle.spindle.proofs.lock.slot_opening.open.Goals as goal
 
 pub invariant_of-entrant-clause-seated : goal.invariant_of-entrant-clause-seated
@@ -14,6 +15,7 @@ pub invariant_of-entrant-clause-many : goal.invariant_of-entrant-clause-many
 invariant_of-entrant-clause-many g c = ap (λ t. slots_of t.round.init) (c.deref.ensures ∙ c.in_ok-tables-2.ensures.ok) ∙ c.in_ok-tables.ensures.made.2
 
 pub returns-clause-promise : goal.returns-clause-promise
+unfolding WasLed
 returns-clause-promise g c =
     let size : c.new-crew.result.most ≡ lock_threads c.args.pool.now.threads c.args.max_threads =
     c.new-crew.ensures.most ∙ ap (λ n. lock_threads n c.args.max_threads) c.max_num_threads.ensures.number in
