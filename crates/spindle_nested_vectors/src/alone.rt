@@ -3,19 +3,17 @@
 ghost use Rattle.std.proofs.Common.{rules};
 ghost use denote.Param.Send.{IsSync};
 
-use crate::checks::{are, is};
+use crate::checks::same_often;
 use crate::jobs::Idle;
-use spindle_lists::{ListRun, SharedList, gathered};
+use crate::rounds::{lists_of, sixteen_rounds};
+use spindle_lists::ListRun;
 use spindle_parts::fault::Fault;
 use spindle_trays::crew::limits::Limits;
 use spindle_trays::job::Job;
 use spindle_trays::job::context::JobCx;
 use spindle_trays::job::gate::NoGate;
 use spindle_trays::job::nest::{Nest, Under};
-use spindle_trays::lock::leader::Leader;
 use spindle_trays::lock::pool::Pool;
-use spindle_trays::lock::root::with_lock;
-use spindle_trays::lock::workspace::Opens;
 use std::alloc::Global;
 use std::hint::spin_loop;
 use std::process::Abort;
@@ -50,13 +48,13 @@ impl Job for Unchanged {
     ghost equal_is_same = { Prim.search rules };
 }
 
-/// Opens a lock of one thread, and has 256 zeros answered by `Unchanged` there in each of 16 rounds.
+/// Opens a lock of one thread, and has 256 zeros answered by `Unchanged` there in each of 16 rounds; none where it was refused.
 pub struct SixteenTimes;
 
 impl Job for SixteenTimes {
     type In = ();
 
-    type Out = Result<Vec<u64>, Fault>;
+    type Out = Option<Vec<u64>>;
 
     type Inner = Under<Unchanged>;
 
@@ -67,16 +65,16 @@ impl Job for SixteenTimes {
         alloc: Global,
         _input: &(),
         cx: &mut JobCx<Under<Unchanged>>,
-    ) -> Result<Vec<u64>, Fault> {
-        let zeros = vec![in alloc; 0u64; 256]?;
-        sixteen_rounds_alone(rt, alloc, cx, zeros)
+    ) -> Option<Vec<u64>> {
+        let zeros = vec![in alloc; 0u64; 256].ok()?;
+        sixteen_rounds_alone(rt, alloc, cx, zeros).ok()
     }
 
     ghost equal_is_same = { Prim.search rules };
 }
 
-// Opens a lock of one thread in a job, and has the numbers answered by 16 rounds there. The kind of its jobs is a parameter: where
-// they open locks themselves, the checker doesn't cover a call of `with_lock` that names it.
+// Opens a lock of one thread in a job, and has the numbers answered by 16 rounds there, of sixteen jobs over sixteen chunks. The kind of
+// its jobs is a parameter: where they open locks themselves, the checker doesn't cover a call of `with_lock` that names it.
 fn sixteen_rounds_alone<
     K: Job<In = ListRun<u64>, Out = Result<Vec<u64>, Fault>>,
     H: Threads + Wait + Sync,
@@ -87,56 +85,19 @@ fn sixteen_rounds_alone<
         1,
         |leader| -> Result<Vec<u64>, Fault>
             requires { IsSync H.row }
-        { sixteen_rounds(rt, alloc, leader, numbers) },
+        { sixteen_rounds(rt, alloc, leader, numbers, 16, 16) },
     )?
 }
 
-// Hands the numbers to 16 rounds one after the other, of sixteen jobs over sixteen chunks.
-fn sixteen_rounds<
-    K: Job<In = ListRun<u64>, Out = Result<Vec<u64>, Fault>> + Opens<L>,
-    L,
-    H: Threads + Wait + Sync,
->(
-    rt: &H,
-    alloc: Global,
-    leader: &mut Leader<K, NoGate, L>,
-    mut numbers: Vec<u64>,
-) -> Result<Vec<u64>, Fault> {
-    for _ in 0..16 {
-        let chunks = SharedList::from_vec(alloc, numbers)?.share_out_evenly(alloc, 16)?;
-        let same = leader.for_each(rt, alloc, 16, chunks)?;
-        numbers = gathered(alloc, same)??;
-    }
-    Ok(numbers)
-}
-
-// Two such jobs in a lock of sixteen threads, which idle by these limits. Their kind is a parameter, as in `levels`.
-fn two_lists_stay_zeros<
-    K: Job<In = (), Out = Result<Vec<u64>, Fault>> + Send,
-    H: Threads + Wait + Abort + Sync,
->(rt: &H, alloc: Global, limits: Limits) -> Result<(), Fault>
-where
-    K::Inner: Send,
-    <K::Inner as Nest>::Slots: Send + Sync,
-{
-    let pool = Pool::new(16, limits, NoGate);
-    let lists = with_lock::<K, _, _, _, _, _>(rt, alloc, &pool, 16, |leader| {
-        leader.for_each(rt, alloc, 2, Vec::from_elem(alloc, (), 2)?)
-    })??;
-    is(rt, lists.len(), 2);
-    for list in lists {
-        are(rt, &list?, &[0u64; 256]);
-    }
-    Ok(())
-}
-
-// The same of `SixteenTimes`, for each test that has such limits: what names three kinds of jobs is proved slowly.
+// Two such jobs in a lock of sixteen threads, which idle by these limits.
 fn sixteen_times_stay_zeros<H: Threads + Wait + Abort + Sync>(
     rt: &H,
     alloc: Global,
     limits: Limits,
 ) -> Result<(), Fault> {
-    two_lists_stay_zeros::<SixteenTimes, H>(rt, alloc, limits)
+    let pool = Pool::new(16, limits, NoGate);
+    let zeros = lists_of(alloc, 2, 0)?;
+    same_often::<SixteenTimes, _, _>(rt, alloc, &pool, 2, 1, &[(), ()], &zeros)
 }
 
 #[test]
@@ -210,7 +171,8 @@ impl Job for RunsOne {
     ghost equal_is_same = { Prim.search rules };
 }
 
-// What such jobs see: one thread of four. In one job three helpers are idle meanwhile, in two jobs two.
+// Each such job sees one thread of four. In one job three helpers are idle meanwhile, in two jobs two. Their kind is a parameter, as
+// in `levels`.
 fn each_sees_itself_alone<
     K: Job<In = (), Out = Option<(usize, usize)>> + Send,
     H: Threads + Wait + Abort + Sync,
@@ -220,13 +182,9 @@ where
     <K::Inner as Nest>::Slots: Send + Sync,
 {
     let pool = Pool::new(4, Limits::new(), NoGate);
-    with_lock::<K, _, _, _, _, _>(rt, alloc, &pool, 4, |leader| {
-        for jobs in [1, 2] {
-            let seen = leader.for_each(rt, alloc, jobs, vec![in alloc; (); 2]?)?;
-            are(rt, &seen, &[Some((1, 4)); 2]);
-        }
-        Ok::<(), Fault>(())
-    })?
+    let seen = [Some((1, 4)); 2];
+    same_often::<K, _, _>(rt, alloc, &pool, 1, 2, &[(), ()], seen.as_slice())?;
+    same_often::<K, _, _>(rt, alloc, &pool, 2, 2, &[(), ()], seen.as_slice())
 }
 
 #[test]

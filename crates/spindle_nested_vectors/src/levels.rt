@@ -1,10 +1,10 @@
-//! Rows of three and four kinds of jobs, each under the next: a lock's jobs run rounds whose jobs run rounds of their own, of numbers
-//! that are doubled.
+//! Rows of four kinds of jobs, each under the next: a lock's jobs run rounds whose jobs run rounds of their own, of numbers that are
+//! doubled.
 ghost use Rattle.std.specs.Prelude.{◌<◌};
 ghost use Rattle.std.proofs.Common.{rules};
 ghost use denote.Param.Send.{IsSync};
 
-use crate::checks::are;
+use crate::checks::same_often;
 use crate::jobs::Double;
 use spindle_parts::fault::Fault;
 use spindle_trays::crew::limits::Limits;
@@ -13,7 +13,6 @@ use spindle_trays::job::context::JobCx;
 use spindle_trays::job::gate::NoGate;
 use spindle_trays::job::nest::{Nest, Under};
 use spindle_trays::lock::pool::Pool;
-use spindle_trays::lock::root::with_lock;
 use std::alloc::Global;
 use std::marker::PhantomData;
 use std::process::Abort;
@@ -94,16 +93,13 @@ fn sum_of(sums: &[Option<u128>]) -> Option<u128> {
     Some(all)
 }
 
-// So many rounds of three jobs in a lock of so many threads, with what they answer.
-//
-// The kind of its jobs is a parameter: where a function of so many statements names it, the check of the types that three kinds
-// make of each other takes too many steps.
+// Twenty rounds of three jobs of a kind, with what they answer. The kind is a parameter, which hides from a check what lies below it:
+// where a function of so many statements names three kinds, the check of the types that they make of each other takes too many steps.
 fn sum_often<K: Job<In = u64, Out = Option<u128>> + Send, H: Threads + Wait + Abort + Sync>(
     rt: &H,
     alloc: Global,
     threads: usize,
-    rounds: usize,
-    expected: [Option<u128>; 3],
+    expected: &[Option<u128>],
 ) -> Result<(), Fault>
 where
     K::Inner: Send,
@@ -111,13 +107,7 @@ where
     requires { 0 < threads }
 {
     let pool = Pool::new(threads, Limits::new(), NoGate);
-    with_lock::<K, _, _, _, _, _>(rt, alloc, &pool, threads, |leader| {
-        for _ in 0..rounds {
-            let sums = leader.for_each(rt, alloc, 3, Vec::from_array(alloc, [0, 1, 2])?)?;
-            are(rt, &sums, &expected);
-        }
-        Ok::<(), Fault>(())
-    })?
+    same_often::<K, _, _>(rt, alloc, &pool, 3, 20, &[0, 1, 2], expected)
 }
 
 // The same of jobs two levels above those of a kind.
@@ -125,29 +115,17 @@ fn sum_two_above<K: Job<In = u64, Out = Option<u128>> + Send, H: Threads + Wait 
     rt: &H,
     alloc: Global,
     threads: usize,
-    rounds: usize,
-    expected: [Option<u128>; 3],
+    expected: &[Option<u128>],
 ) -> Result<(), Fault>
 where
     K::Inner: Send,
     <K::Inner as Nest>::Slots: Send + Sync,
     requires { 0 < threads }
 {
-    sum_often::<Above<Above<K>>, H>(rt, alloc, threads, rounds, expected)
+    sum_often::<Above<Above<K>>, H>(rt, alloc, threads, expected)
 }
 
-// Twenty rounds of three kinds of jobs, by so many threads. What names so many kinds is proved slowly, so it stands here once.
-fn sum_three_kinds<H: Threads + Wait + Abort + Sync>(
-    rt: &H,
-    alloc: Global,
-    threads: usize,
-) -> Result<(), Fault>
-    requires { 0 < threads }
-{
-    sum_often::<Above<OneLevel>, H>(rt, alloc, threads, 20, [Some(72), Some(234), Some(396)])
-}
-
-// The same of four kinds.
+// The same of four kinds. What names two kinds is proved slowly, so it stands here once.
 fn sum_four_kinds<H: Threads + Wait + Abort + Sync>(
     rt: &H,
     alloc: Global,
@@ -155,17 +133,7 @@ fn sum_four_kinds<H: Threads + Wait + Abort + Sync>(
 ) -> Result<(), Fault>
     requires { 0 < threads }
 {
-    sum_two_above::<OneLevel, H>(rt, alloc, threads, 20, [Some(702), Some(2160), Some(3618)])
-}
-
-#[test]
-fn three_kinds_of_jobs_by_two_threads(rt: HostRuntime) -> Result<(), Fault> {
-    sum_three_kinds(&rt, rt.alloc(), 2)
-}
-
-#[test]
-fn three_kinds_of_jobs_by_eight_threads(rt: HostRuntime) -> Result<(), Fault> {
-    sum_three_kinds(&rt, rt.alloc(), 8)
+    sum_two_above::<OneLevel, H>(rt, alloc, threads, &[Some(702), Some(2160), Some(3618)])
 }
 
 #[test]

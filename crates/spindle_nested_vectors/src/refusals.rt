@@ -15,9 +15,9 @@ use spindle_trays::job::gate::NoGate;
 use spindle_trays::job::nest::Under;
 use spindle_trays::lock::leader::Leader;
 use spindle_trays::lock::pool::Pool;
-use spindle_trays::lock::root::with_lock;
 use spindle_trays::lock::workspace::Opens;
 use spindle_trays_vectors::jobs::Square;
+use spindle_trays_vectors::rounds::round_of;
 use spindle_trays_vectors::sevens::{are_seven_squares, seven_items};
 use std::alloc::Global;
 use std::process::Abort;
@@ -179,15 +179,7 @@ fn sights<H: Threads + Wait + Sync>(
     requires { 0 < jobs }
 {
     let pool = Pool::new(2, Limits::new(), NoGate);
-    with_lock::<Asking, _, _, _, _, _>(
-        rt,
-        alloc,
-        &pool,
-        2,
-        |leader|
-            requires { 0 < jobs }
-        { leader.for_each(rt, alloc, jobs, seven_calls(alloc, call)?) },
-    )?
+    round_of::<Asking, _, _>(rt, alloc, &pool, 2, jobs, seven_calls(alloc, call)?)
 }
 
 fn seven_calls(alloc: Global, call: Call) -> Result<Vec<(Call, usize)>, Fault> {

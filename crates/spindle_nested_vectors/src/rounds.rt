@@ -3,7 +3,7 @@ ghost use Rattle.std.specs.Prelude.{◌<◌};
 ghost use Rattle.std.proofs.Common.{rules};
 ghost use denote.Param.Send.{IsSync};
 
-use crate::checks::{are, holds, is};
+use crate::checks::same_often;
 use spindle_lists::{ListRun, SharedList, gathered};
 use spindle_parts::fault::Fault;
 use spindle_trays::crew::limits::Limits;
@@ -13,7 +13,6 @@ use spindle_trays::job::gate::NoGate;
 use spindle_trays::job::nest::{End, Under};
 use spindle_trays::lock::leader::Leader;
 use spindle_trays::lock::pool::Pool;
-use spindle_trays::lock::root::with_lock;
 use spindle_trays::lock::workspace::Opens;
 use spindle_trays_vectors::jobs::Square;
 use std::alloc::Global;
@@ -51,13 +50,14 @@ impl Job for Grow {
     ghost equal_is_same = { Prim.search rules };
 }
 
-/// Opens a lock of so many threads, and adds one to each of 256 zeros there in each of 16 rounds.
+/// Opens a lock of so many threads, and adds one to each of 256 zeros there in each of 16 rounds, of four jobs over eight chunks; none
+/// where it was refused.
 pub struct SixteenRounds;
 
 impl Job for SixteenRounds {
     type In = usize;
 
-    type Out = Result<Vec<u64>, Fault>;
+    type Out = Option<Vec<u64>>;
 
     type Inner = Under<Grow>;
 
@@ -68,46 +68,53 @@ impl Job for SixteenRounds {
         alloc: Global,
         threads: &usize,
         cx: &mut JobCx<Under<Grow>>,
-    ) -> Result<Vec<u64>, Fault> {
-        let zeros = vec![in alloc; 0u64; 256]?;
-        cx.with_lock(
+    ) -> Option<Vec<u64>> {
+        let zeros = vec![in alloc; 0u64; 256].ok()?;
+        let numbers = cx.with_lock(
             rt,
             alloc,
             (*threads).max(1),
             |leader| -> Result<Vec<u64>, Fault>
                 requires { IsSync H.row }
-            { sixteen_rounds(rt, alloc, leader, zeros) },
-        )?
+            { sixteen_rounds(rt, alloc, leader, zeros, 4, 8) },
+        );
+        numbers.ok()?.ok()
     }
 
     ghost equal_is_same = { Prim.search rules };
 }
 
-// Adds one to each number, in each of 16 rounds of four jobs over eight chunks.
-fn sixteen_rounds<L, H: Threads + Wait + Sync>(
+/// Hands the numbers to 16 rounds one after the other, of so many jobs over so many chunks.
+pub fn sixteen_rounds<
+    K: Job<In = ListRun<u64>, Out = Result<Vec<u64>, Fault>> + Opens<L>,
+    L,
+    H: Threads + Wait + Sync,
+>(
     rt: &H,
     alloc: Global,
-    leader: &mut Leader<Grow, NoGate, L>,
+    leader: &mut Leader<K, NoGate, L>,
     mut numbers: Vec<u64>,
+    jobs: usize,
+    chunks: usize,
 ) -> Result<Vec<u64>, Fault>
-where
-    Grow: Opens<L>,
+    requires jobs { 0 < jobs }
+    requires chunks { 0 < chunks }
 {
     for _ in 0..16 {
-        let chunks = SharedList::from_vec(alloc, numbers)?.share_out_evenly(alloc, 8)?;
-        let sums = leader.for_each(rt, alloc, 4, chunks)?;
-        numbers = gathered(alloc, sums)??;
+        let shared = SharedList::from_vec(alloc, numbers)?.share_out_evenly(alloc, chunks)?;
+        let answers = leader.for_each(rt, alloc, jobs, shared)?;
+        numbers = gathered(alloc, answers)??;
     }
     Ok(numbers)
 }
 
-/// Squares the first numbers by a round of its own.
+/// Squares the first numbers by a round of its own; none where it was refused.
 pub struct FirstSquares;
 
 impl Job for FirstSquares {
     type In = usize;
 
-    type Out = Result<Vec<u128>, Fault>;
+    type Out = Option<Vec<u128>>;
 
     type Inner = Under<Square>;
 
@@ -118,11 +125,20 @@ impl Job for FirstSquares {
         alloc: Global,
         count: &usize,
         cx: &mut JobCx<Under<Square>>,
-    ) -> Result<Vec<u128>, Fault> {
-        cx.for_each_raw(rt, alloc, *count)
+    ) -> Option<Vec<u128>> {
+        cx.for_each_raw(rt, alloc, *count).ok()
     }
 
     ghost equal_is_same = { Prim.search rules };
+}
+
+/// So many lists, each of 256 times a number.
+pub fn lists_of(alloc: Global, count: usize, number: u64) -> Result<Vec<Option<Vec<u64>>>, Fault> {
+    let mut lists = Vec::with_capacity(alloc, count)?;
+    for _ in 0..count {
+        lists.push(Some(Vec::from_elem(alloc, number, 256)?))?;
+    }
+    Ok(lists)
 }
 
 // So many rounds of one lock: for each of these numbers of threads a job adds one to zeros, sixteen times.
@@ -136,34 +152,8 @@ fn grow_often<H: Threads + Wait + Abort + Sync>(
 ) -> Result<(), Fault>
     requires { 0 < jobs }
 {
-    with_lock::<SixteenRounds, _, _, _, _, _>(
-        rt,
-        alloc,
-        pool,
-        pool.max_num_threads(),
-        |leader|
-            requires { 0 < jobs }
-        {
-            for _ in 0..rounds {
-                let lists = leader.for_each(rt, alloc, jobs, threads.to_vec(alloc)?)?;
-                are_sixteens(rt, lists, threads.len())?;
-            }
-            Ok::<(), Fault>(())
-        },
-    )?
-}
-
-// So many lists came out, each of 256 times 16.
-fn are_sixteens<H: Abort>(
-    rt: &H,
-    lists: Vec<Result<Vec<u64>, Fault>>,
-    count: usize,
-) -> Result<(), Fault> {
-    is(rt, lists.len(), count);
-    for list in lists {
-        are(rt, &list?, &[16u64; 256]);
-    }
-    Ok(())
+    let lists = lists_of(alloc, threads.len(), 16)?;
+    same_often::<SixteenRounds, _, _>(rt, alloc, pool, jobs, rounds, threads, &lists)
 }
 
 #[test]
@@ -182,6 +172,16 @@ fn more_jobs_than_slots_open_locks_in_which_all_sleep_at_once(
     grow_often(&rt, rt.alloc(), &pool, 100, 9, threads.as_slice())
 }
 
+// For each of these counts the squares of so many first numbers, of four at most.
+fn first_squares(alloc: Global, counts: &[usize]) -> Result<Vec<Option<Vec<u128>>>, Fault> {
+    let squares = [0, 1, 4, 9];
+    let mut lists = Vec::with_capacity(alloc, counts.len())?;
+    for count in counts {
+        lists.push(Some(squares.as_slice()[..(*count).min(4)].to_vec(alloc)?))?;
+    }
+    Ok(lists)
+}
+
 // So many rounds of one lock: for each of these counts a job squares so many numbers, by a round of its own.
 fn square_often<H: Threads + Wait + Abort + Sync>(
     rt: &H,
@@ -193,38 +193,8 @@ fn square_often<H: Threads + Wait + Abort + Sync>(
 ) -> Result<(), Fault>
     requires { 0 < jobs }
 {
-    with_lock::<FirstSquares, _, _, _, _, _>(
-        rt,
-        alloc,
-        pool,
-        pool.max_num_threads(),
-        |leader|
-            requires { 0 < jobs }
-        {
-            for _ in 0..rounds {
-                let lists = leader.for_each(rt, alloc, jobs, counts.to_vec(alloc)?)?;
-                are_first_squares(rt, lists, counts)?;
-            }
-            Ok::<(), Fault>(())
-        },
-    )?
-}
-
-// Each list has the squares of so many first numbers, of four at most.
-fn are_first_squares<H: Abort>(
-    rt: &H,
-    lists: Vec<Result<Vec<u128>, Fault>>,
-    counts: &[usize],
-) -> Result<(), Fault> {
-    is(rt, lists.len(), counts.len());
-    let mut place = 0usize;
-    for list in lists {
-        let list = list?;
-        is(rt, Some(list.len()), counts.get(place).copied());
-        holds(rt, [0, 1, 4, 9].as_slice().starts_with(&list));
-        place = place.wrapping_add(1);
-    }
-    Ok(())
+    let squares = first_squares(alloc, counts)?;
+    same_often::<FirstSquares, _, _>(rt, alloc, pool, jobs, rounds, counts, &squares)
 }
 
 #[test]

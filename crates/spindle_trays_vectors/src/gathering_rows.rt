@@ -1,5 +1,5 @@
 //! Gathering the outputs of the pieces [1] and [2]: what the places hold, and what comes of it.
-ghost use Rattle.std.specs.Prelude.{◌≡◌, ◌∷◌, [], IfOk, length};
+ghost use Rattle.std.specs.Prelude.{◌≡◌, ◌∷◌, [], IfOk, length, vec_len};
 ghost use Rattle.spindle_trays.specs.Rounds.{items_of};
 
 use crate::checks::{are, holds, is};
@@ -42,31 +42,45 @@ fn two_pieces(alloc: Global) -> Result<Vec<Piece<usize>>, AllocError>
     Ok(pieces)
 }
 
-/// What `gather` answers with these in the two places, what then stands in the room, and how many places are full.
-fn gathered(
+/// Two places with these in them.
+fn two_places(
     alloc: Global,
-    first: Option<Finished<Square>>,
+    first: Finished<Square>,
     second: Option<Finished<Square>>,
-) -> Result<(Result<(), usize>, Vec<u128>, usize), Fail> {
-    let handed = two_pieces(alloc)?;
+) -> Result<Vec<Option<Finished<Square>>>, AllocError>
+    ensures { IfOk result (λ places. vec_len places ≡ 2) }
+{
     let mut places = Vec::with_capacity(alloc, 2)?;
-    places.push_reserved(first);
+    places.push_reserved(Some(first));
     places.push_reserved(second);
+    Ok(places)
+}
+
+/// Fails the test unless `gather` answers so with these in the two places, and then so many are full and these outputs in the room.
+fn gathers(
+    rt: &impl Abort,
+    alloc: Global,
+    first: Finished<Square>,
+    second: Option<Finished<Square>>,
+    wanted: (Result<(), usize>, usize),
+    outputs: &[u128],
+) -> Result<(), Fail> {
+    let handed = two_pieces(alloc)?;
+    let mut places = two_places(alloc, first, second)?;
     let mut room = Vec::with_capacity(alloc, 2)?;
     let answer = gather::<Square>(&handed, &mut places, &mut room);
     let full = places.iter().filter(|place| place.is_some()).count();
-    Ok((answer, room, full))
+    is(rt, (answer, full), wanted);
+    are(rt, room.as_slice(), outputs);
+    Ok(())
 }
 
 #[test]
 fn outputs_come_in_the_order_of_the_pieces(rt: HostRuntime) -> Result<(), Fail> {
     let alloc = rt.alloc();
-    let (first, second) = (squared(alloc, 0, 1)?, squared(alloc, 1, 2)?);
-    let (answer, room, full) = gathered(alloc, Some(first), Some(second))?;
-    is(&rt, answer, Ok(()));
-    are(&rt, room.as_slice(), &[1, 4]);
-    is(&rt, full, 0);
-    Ok(())
+    let second = Some(squared(alloc, 1, 2)?);
+    let first = squared(alloc, 0, 1)?;
+    gathers(&rt, alloc, first, second, (Ok(()), 0), &[1, 4])
 }
 
 // Fails the test unless the place of this number is lost where these stand in the two places, and nothing was moved.
@@ -77,12 +91,8 @@ fn loses(
     second: Option<Finished<Square>>,
     lost: usize,
 ) -> Result<(), Fail> {
-    let pieces = 1 + usize::from(second.is_some());
-    let (answer, room, full) = gathered(alloc, Some(first), second)?;
-    is(rt, answer, Err(lost));
-    holds(rt, room.is_empty());
-    is(rt, full, pieces);
-    Ok(())
+    let full = 1 + usize::from(second.is_some());
+    gathers(rt, alloc, first, second, (Err(lost), full), &[])
 }
 
 #[test]

@@ -4,6 +4,7 @@ ghost use Rattle.std.proofs.Common.{rules};
 
 use crate::checks::{are, is};
 use crate::jobs::{Calls, Counting, Place, Square};
+use crate::often::square_raw_often;
 use crate::rounds::round_of;
 use spindle_parts::fault::Fault;
 use spindle_trays::crew::limits::Limits;
@@ -11,9 +12,11 @@ use spindle_trays::job::Job;
 use spindle_trays::job::context::JobCx;
 use spindle_trays::job::gate::NoGate;
 use spindle_trays::job::nest::{End, Under};
+use spindle_trays::lock::leader::Leader;
 use spindle_trays::lock::pool::Pool;
 use spindle_trays::lock::root::with_lock;
 use std::alloc::Global;
+use std::process::Abort;
 use std::sync::Wait;
 use std::thread::Threads;
 
@@ -83,7 +86,7 @@ fn a_lock_in_a_lock_answers_128_zeros(rt: HostRuntime) -> Result<(), Fault> {
     let zeros = with_lock::<Zero, _, _, _, _, _>(&rt, alloc, &pool, 16, |leader| {
         leader.with_lock(4, |leader| leader.for_each(&rt, alloc, 4, ones))
     })??;
-    are(&rt, &zeros, &Vec::from_elem(alloc, 0, 128)?);
+    are(&rt, &zeros, &[0; 128]);
     Ok(())
 }
 
@@ -96,6 +99,19 @@ fn two_units_answer_two_units(rt: HostRuntime) -> Result<(), Fault> {
     Ok(())
 }
 
+// Fails the test in which a leader of four threads has a number, now or in a round of one job.
+fn has_no_number<H: Threads + Wait + Abort + Sync>(
+    rt: &H,
+    alloc: Global,
+    leader: &mut Leader<Place, NoGate>,
+) -> Result<(), Fault> {
+    is(rt, leader.max_num_threads(), 4);
+    is(rt, leader.current_thread_index(), None);
+    let direct = leader.for_each(rt, alloc, 1, Vec::from_array(alloc, [0, 1])?)?;
+    are(rt, &direct, &[(None, 1, 4); 2]);
+    Ok(())
+}
+
 #[test]
 fn a_leader_has_no_number_between_rounds_nor_in_a_round_of_one_job(
     rt: HostRuntime,
@@ -103,10 +119,7 @@ fn a_leader_has_no_number_between_rounds_nor_in_a_round_of_one_job(
     let alloc = rt.alloc();
     let pool = Pool::with_starts(4, Limits::new(), NoGate, 0);
     with_lock::<Place, _, _, _, _, _>(&rt, alloc, &pool, 16, |leader| {
-        is(&rt, leader.max_num_threads(), 4);
-        is(&rt, leader.current_thread_index(), None);
-        let direct = leader.for_each(&rt, alloc, 1, vec![in alloc; 0, 1]?)?;
-        are(&rt, &direct, &[(None, 1, 4), (None, 1, 4)]);
+        has_no_number(&rt, alloc, leader)?;
         leader.relieve_workers();
         is(&rt, leader.current_thread_index(), None);
         Ok::<(), Fault>(())
@@ -150,14 +163,9 @@ fn more_jobs_than_items_are_as_many_as_items(rt: HostRuntime) -> Result<(), Faul
 
 #[test]
 fn numbers_alone_are_items_from_0(rt: HostRuntime) -> Result<(), Fault> {
-    let alloc = rt.alloc();
     let pool = Pool::new(2, Limits::new(), NoGate);
-    with_lock::<Square, _, _, _, _, _>(&rt, alloc, &pool, 2, |leader| {
-        let squares = leader.for_each_raw(&rt, alloc, 4)?;
-        are(&rt, &squares, &[0, 1, 4, 9]);
-        are(&rt, &leader.for_each_raw(&rt, alloc, 1)?, &[0]);
-        Ok::<(), Fault>(())
-    })?
+    square_raw_often(&rt, rt.alloc(), &pool, 1, &[0, 1, 4, 9])?;
+    square_raw_often(&rt, rt.alloc(), &pool, 1, &[0])
 }
 
 #[test]

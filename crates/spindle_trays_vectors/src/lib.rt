@@ -20,13 +20,14 @@ pub mod lists;
 #[cfg(test)]
 mod marks;
 #[cfg(test)]
+mod often;
+#[cfg(test)]
 mod refusals;
 #[cfg(test)]
 mod refused_lists;
 #[cfg(test)]
 mod refused_trying;
-#[cfg(test)]
-mod rounds;
+pub mod rounds;
 pub mod sevens;
 #[cfg(test)]
 mod stopping_rows;

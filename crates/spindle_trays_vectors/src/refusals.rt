@@ -68,26 +68,35 @@ fn square_in_three_rounds<H: Threads + Wait + Abort + Sync>(
     unopened_or(&opened, answer)
 }
 
+// One lock, in which seven items are squared; where it was refused, its closure wasn't run.
+fn opens_or_is_refused<H: Threads + Wait + Abort + Sync>(
+    rt: &H,
+    alloc: Global,
+    calls: &Calls,
+    opened: &AtomicUsize,
+    pool: &Pool<Counting>,
+) -> Result<(), Fault> {
+    let before = opened.load(Ordering::SeqCst);
+    let answer = with_lock::<Square, _, _, _, _, _>(rt, alloc, pool, 4, |leader| {
+        opened.fetch_add(1, Ordering::SeqCst);
+        square_seven_items(rt, alloc, calls, leader, 4)
+    });
+    let Err(fault) = answer else {
+        return answer?;
+    };
+    holds(rt, matches!(fault, Fault::Memory));
+    is(rt, opened.load(Ordering::SeqCst), before);
+    Ok(())
+}
+
 // One allocation at most is refused, so one of the two locks opens.
 #[test]
 fn refused_lock_opens_when_asked_again(rt: HostRuntime) -> Result<(), Fault> {
-    let alloc = rt.alloc();
     let calls = Calls::new();
     let opened = AtomicUsize::new(0);
     let pool = Pool::new(4, Limits::new(), Counting { calls: &calls });
     for _ in 0..2 {
-        let before = opened.load(Ordering::SeqCst);
-        let answer = with_lock::<Square, _, _, _, _, _>(&rt, alloc, &pool, 4, |leader| {
-            opened.fetch_add(1, Ordering::SeqCst);
-            square_seven_items(&rt, alloc, &calls, leader, 4)
-        });
-        match answer {
-            Ok(round) => round?,
-            Err(fault) => {
-                holds(&rt, matches!(fault, Fault::Memory));
-                is(&rt, opened.load(Ordering::SeqCst), before);
-            }
-        }
+        opens_or_is_refused(&rt, rt.alloc(), &calls, &opened, &pool)?;
     }
     holds(&rt, opened.load(Ordering::SeqCst) > 0);
     Ok(())
@@ -157,24 +166,29 @@ fn more_numbers_than_memory_holds_are_refused(rt: HostRuntime) -> Result<(), Fau
 }
 
 // An empty round that took memory would be refused it once.
+fn square_nothing<H: Threads + Wait + Abort + Sync>(
+    rt: &H,
+    alloc: Global,
+    leader: &mut Leader<Square, Counting>,
+) -> Result<(), Fault> {
+    for jobs in [0, 1, 4, usize::MAX] {
+        let outputs = leader.for_each(rt, alloc, jobs, Vec::new(alloc))?;
+        is(rt, (outputs.len(), outputs.capacity()), (0, 0));
+    }
+    let outputs = leader.for_each_raw(rt, alloc, 0)?;
+    is(rt, (outputs.len(), outputs.capacity()), (0, 0));
+    Ok(())
+}
+
 #[test]
 fn refused_nothing_where_nothing_is_run(rt: HostRuntime) -> Result<(), Fault> {
-    let alloc = rt.alloc();
     let calls = Calls::new();
     let opened = AtomicUsize::new(0);
     let pool = Pool::new(4, Limits::new(), Counting { calls: &calls });
-    let answer = with_lock::<Square, _, _, _, _, _>(&rt, alloc, &pool, 4, |leader| {
+    let answer = with_lock::<Square, _, _, _, _, _>(&rt, rt.alloc(), &pool, 4, |leader| {
         opened.fetch_add(1, Ordering::SeqCst);
-        for jobs in [0, 1, 4, usize::MAX] {
-            let outputs = leader.for_each(&rt, alloc, jobs, Vec::new(alloc))?;
-            holds(&rt, outputs.is_empty());
-            is(&rt, outputs.capacity(), 0);
-        }
-        let outputs = leader.for_each_raw(&rt, alloc, 0)?;
-        holds(&rt, outputs.is_empty());
-        is(&rt, outputs.capacity(), 0);
-        is(&rt, calls.in_all(), (0, 0));
-        Ok::<(), Fault>(())
+        square_nothing(&rt, rt.alloc(), leader)
     });
+    is(&rt, calls.in_all(), (0, 0));
     unopened_or(&opened, answer)
 }

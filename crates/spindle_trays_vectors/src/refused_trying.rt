@@ -61,8 +61,22 @@ fn try_seven_items<H: Threads + Wait + Abort + Sync>(
     Ok(())
 }
 
-// Three rounds in a lock of the pool with so many threads at most, whose jobs the pool's gate counts: in one job, and in more.
-// Their report is kept from one to the next.
+// Three such rounds, in one job and in more. Their report is kept from one to the next.
+fn try_three_times<H: Threads + Wait + Abort + Sync>(
+    rt: &H,
+    alloc: Global,
+    calls: &Calls,
+    leader: &mut Leader<Trying, Counting>,
+    every: u32,
+) -> Result<(), Fault> {
+    let mut report = Report::new(alloc);
+    for jobs in [1, 3, 7] {
+        try_seven_items(rt, alloc, calls, leader, jobs, every, &mut report)?;
+    }
+    Ok(())
+}
+
+// The same in a lock of the pool with so many threads at most, whose jobs the pool's gate counts.
 fn try_in_three_rounds<H: Threads + Wait + Abort + Sync>(
     rt: &H,
     alloc: Global,
@@ -76,11 +90,7 @@ fn try_in_three_rounds<H: Threads + Wait + Abort + Sync>(
     let opened = AtomicUsize::new(0);
     let answer = with_lock::<Trying, _, _, _, _, _>(rt, alloc, &pool, most, |leader| {
         opened.fetch_add(1, Ordering::SeqCst);
-        let mut report = Report::new(alloc);
-        for jobs in [1, 3, 7] {
-            try_seven_items(rt, alloc, calls, leader, jobs, every, &mut report)?;
-        }
-        Ok::<(), Fault>(())
+        try_three_times(rt, alloc, calls, leader, every)
     });
     unopened_or(&opened, answer)
 }
@@ -114,21 +124,28 @@ fn refused_round_that_fails_of_one_thread_has_run_no_job(rt: HostRuntime) -> Res
 }
 
 // An empty round that took memory would be refused it once.
+fn try_nothing<H: Threads + Wait + Abort + Sync>(
+    rt: &H,
+    alloc: Global,
+    leader: &mut Leader<Trying, Counting>,
+) -> Result<(), Fault> {
+    for jobs in [0, 1, 4, usize::MAX] {
+        let report = leader.try_for_each(rt, alloc, jobs, Vec::new(alloc))?;
+        holds(rt, report.ran.is_empty() && report.skipped.is_empty());
+    }
+    Ok(())
+}
+
 #[test]
 fn refused_nothing_where_nothing_is_tried(rt: HostRuntime) -> Result<(), Fault> {
-    let alloc = rt.alloc();
     let calls = Calls::new();
     let opened = AtomicUsize::new(0);
     let pool = Pool::new(4, Limits::new(), Counting { calls: &calls });
-    let answer = with_lock::<Trying, _, _, _, _, _>(&rt, alloc, &pool, 4, |leader| {
+    let answer = with_lock::<Trying, _, _, _, _, _>(&rt, rt.alloc(), &pool, 4, |leader| {
         opened.fetch_add(1, Ordering::SeqCst);
-        for jobs in [0, 1, 4, usize::MAX] {
-            let report = leader.try_for_each(&rt, alloc, jobs, Vec::new(alloc))?;
-            holds(&rt, report.ran.is_empty() && report.skipped.is_empty());
-        }
-        is(&rt, calls.in_all(), (0, 0));
-        Ok::<(), Fault>(())
+        try_nothing(&rt, rt.alloc(), leader)
     });
+    is(&rt, calls.in_all(), (0, 0));
     unopened_or(&opened, answer)
 }
 

@@ -6,12 +6,11 @@ ghost use Rattle.std.specs.Prelude.{◌<◌};
 use crate::checks::{are, holds, is};
 use crate::crossings::Crossings;
 use crate::gates::Meetings;
-use crate::trying::{Trying, is_report, items, report_of};
+use crate::trying::{is_report, items, report_of, reports_often};
 use spindle_parts::fault::Fault;
 use spindle_trays::crew::limits::Limits;
 use spindle_trays::lock::pool::Pool;
 use spindle_trays::lock::report::Report;
-use spindle_trays::lock::root::with_lock;
 use std::alloc::Global;
 use std::process::Abort;
 use std::sync::Wait;
@@ -92,18 +91,15 @@ fn no_items_are_two_lists_without_room(rt: HostRuntime) -> Result<(), Fault> {
 fn eight_threads_that_meet_and_fail_run_a_piece_each(rt: HostRuntime) -> Result<(), Fault> {
     let alloc = rt.alloc();
     let meetings = Meetings::new();
-    with_lock::<Trying, _, _, _, _, _>(&rt, alloc, &meetings.pool(8), 8, |leader| {
-        for _ in 0..20 {
-            let report = leader.try_for_each(&rt, alloc, 64, items(alloc, 64, 1)?)?;
-            holds(&rt, is_report(&report, 64, 64));
-            are(
-                &rt,
-                &ran_of(alloc, &report)?,
-                &[0, 8, 16, 24, 32, 40, 48, 56],
-            );
-        }
-        Ok::<(), Fault>(())
-    })??;
+    let items = items(alloc, 64, 1)?;
+    for report in reports_often(&rt, alloc, &meetings.pool(8), 64, 20, &items)? {
+        holds(&rt, is_report(&report, 64, 64));
+        are(
+            &rt,
+            &ran_of(alloc, &report)?,
+            &[0, 8, 16, 24, 32, 40, 48, 56],
+        );
+    }
     is(&rt, meetings.counts(), (160, 0));
     Ok(())
 }
@@ -119,14 +115,11 @@ fn crossed_and_skipped<H: Threads + Wait + Abort + Sync>(
 ) -> Result<(), Fault> {
     let crossings = Crossings::new();
     let pool = Pool::new(2, Limits::new(), crossings.with_job(5));
-    with_lock::<Trying, _, _, _, _, _>(rt, alloc, &pool, 2, |leader| {
-        for _ in 0..100 {
-            let report = leader.try_for_each(rt, alloc, 16, items_but(alloc, 16, bad)?)?;
-            holds(rt, is_report(&report, 16, 16));
-            is(rt, report.skipped.contains(&number), is_skipped);
-        }
-        Ok::<(), Fault>(())
-    })??;
+    let items = items_but(alloc, 16, bad)?;
+    for report in reports_often(rt, alloc, &pool, 16, 100, &items)? {
+        holds(rt, is_report(&report, 16, 16));
+        is(rt, report.skipped.contains(&number), is_skipped);
+    }
     is(rt, crossings.counts(), (100, 0));
     Ok(())
 }

@@ -4,12 +4,18 @@
 use crate::checks::{are, holds, is};
 use crate::gates::Meetings;
 use crate::jobs::{Calls, Counting, Place, Square, one_each};
-use crate::rounds::{round_of, square_often, square_raw_often};
+use crate::often::{places_often, square_often, square_raw_often};
+use crate::rounds::round_of;
 use spindle_parts::fault::Fault;
 use spindle_trays::crew::limits::Limits;
 use spindle_trays::job::gate::NoGate;
+use spindle_trays::lock::leader::Leader;
 use spindle_trays::lock::pool::Pool;
 use spindle_trays::lock::root::with_lock;
+use std::alloc::Global;
+use std::process::Abort;
+use std::sync::Wait;
+use std::thread::Threads;
 
 #[test]
 fn threads_that_sleep_at_once_miss_no_round(rt: HostRuntime) -> Result<(), Fault> {
@@ -64,17 +70,31 @@ fn four_threads_at_once_have_four_numbers(rt: HostRuntime) -> Result<(), Fault> 
 // The number of threads is read when the job asks for it: at the gate both have come.
 #[test]
 fn two_jobs_that_met_each_count_two_threads(rt: HostRuntime) -> Result<(), Fault> {
-    let alloc = rt.alloc();
     let meetings = Meetings::new();
-    let pool = meetings.pool(2);
-    with_lock::<Place, _, _, _, _, _>(&rt, alloc, &pool, 2, |leader| {
-        for _ in 0..50 {
-            let places = leader.for_each(&rt, alloc, 2, vec![in alloc; 0, 1]?)?;
-            is(&rt, (places[0].1, places[1].1), (2, 2));
-        }
-        Ok::<(), Fault>(())
-    })??;
+    for places in places_often(&rt, rt.alloc(), &meetings.pool(2), 50, 2)? {
+        holds(
+            &rt,
+            places.len() == 2 && places.iter().all(|place| place.1 == 2),
+        );
+    }
     is(&rt, meetings.counts(), (100, 0));
+    Ok(())
+}
+
+// The leader between rounds, and the jobs of a round of one job and of one of two, in a lock of four threads.
+fn numbers_are_those_of_a_round<H: Threads + Wait + Abort + Sync>(
+    rt: &H,
+    alloc: Global,
+    leader: &mut Leader<Place, NoGate>,
+) -> Result<(), Fault> {
+    is(rt, leader.max_num_threads(), 4);
+    is(rt, leader.current_thread_index(), None);
+    for place in leader.for_each(rt, alloc, 1, Vec::from_array(alloc, [0, 1])?)? {
+        is(rt, (place.0, place.2), (None, 4));
+    }
+    for place in leader.for_each(rt, alloc, 2, Vec::from_array(alloc, [0, 1])?)? {
+        holds(rt, matches!(place.0, Some(0..=3)));
+    }
     Ok(())
 }
 
@@ -86,15 +106,7 @@ fn a_leader_with_helpers_has_no_number_outside_a_published_round(
     let pool = Pool::new(4, Limits::new(), NoGate);
     with_lock::<Place, _, _, _, _, _>(&rt, alloc, &pool, 16, |leader| {
         for _ in 0..100 {
-            is(&rt, leader.max_num_threads(), 4);
-            is(&rt, leader.current_thread_index(), None);
-            for place in leader.for_each(&rt, alloc, 1, vec![in alloc; 0, 1]?)? {
-                holds(&rt, place.0.is_none());
-                is(&rt, place.2, 4);
-            }
-            for place in leader.for_each(&rt, alloc, 2, vec![in alloc; 0, 1]?)? {
-                holds(&rt, matches!(place.0, Some(0..=3)));
-            }
+            numbers_are_those_of_a_round(&rt, alloc, leader)?;
         }
         Ok::<(), Fault>(())
     })?

@@ -134,3 +134,32 @@ pub fn report_in<G: Gate + Sync, H: Threads + Wait + Sync>(
         { leader.try_for_each(rt, alloc, jobs, items) },
     )?
 }
+
+/// The reports of so many rounds over the same items, of one lock of the pool.
+pub fn reports_often<G: Gate + Sync, H: Threads + Wait + Sync>(
+    rt: &H,
+    alloc: Global,
+    pool: &Pool<G>,
+    jobs: usize,
+    rounds: usize,
+    items: &[(u32, bool)],
+) -> Result<Vec<Report<(u32, bool)>>, Fault>
+    requires { 0 < jobs }
+{
+    with_lock::<Trying, _, _, _, _, _>(
+        rt,
+        alloc,
+        pool,
+        pool.max_num_threads(),
+        |leader|
+            requires { 0 < jobs }
+        {
+            let mut reports = Vec::with_capacity(alloc, rounds)?;
+            for _ in 0..rounds {
+                let items = items.to_vec(alloc)?;
+                reports.push(leader.try_for_each(rt, alloc, jobs, items)?)?;
+            }
+            Ok(reports)
+        },
+    )?
+}

@@ -1,15 +1,21 @@
 //! Rows of rounds that may stop.
+ghost use Rattle.std.specs.Prelude.{◌<◌};
 
 use crate::checks::{are, holds, is};
 use crate::gates::Meetings;
 use crate::jobs::{Calls, Counting};
-use crate::trying::{Trying, is_report, items, report_in, report_of};
+use crate::trying::{Trying, is_report, items, report_in, report_of, reports_often};
 use spindle_parts::fault::Fault;
 use spindle_trays::crew::limits::Limits;
 use spindle_trays::job::gate::NoGate;
+use spindle_trays::lock::leader::Leader;
 use spindle_trays::lock::pool::Pool;
 use spindle_trays::lock::report::Report;
 use spindle_trays::lock::root::with_lock;
+use std::alloc::Global;
+use std::process::Abort;
+use std::sync::Wait;
+use std::thread::Threads;
 
 #[test]
 fn a_leader_alone_runs_the_pieces_up_to_the_first_that_fails(rt: HostRuntime) -> Result<(), Fault> {
@@ -64,14 +70,31 @@ fn both_jobs_of_a_round_that_may_stop_meet(rt: HostRuntime) -> Result<(), Fault>
 fn every_job_may_fail_at_once(rt: HostRuntime) -> Result<(), Fault> {
     let alloc = rt.alloc();
     let pool = Pool::new(8, Limits::new(), NoGate);
-    with_lock::<Trying, _, _, _, _, _>(&rt, alloc, &pool, 8, |leader| {
-        for _ in 0..50 {
-            let report = leader.try_for_each(&rt, alloc, 64, items(alloc, 64, 1)?)?;
-            holds(&rt, is_report(&report, 64, 64));
-            holds(&rt, !report.ran.is_empty());
-        }
-        Ok::<(), Fault>(())
-    })?
+    let items = items(alloc, 64, 1)?;
+    for report in reports_often(&rt, alloc, &pool, 64, 50, &items)? {
+        holds(&rt, is_report(&report, 64, 64));
+        holds(&rt, !report.ran.is_empty());
+    }
+    Ok(())
+}
+
+// A round that may stop, and one that doesn't over the same items.
+fn tried_and_run<H: Threads + Wait + Abort + Sync>(
+    rt: &H,
+    alloc: Global,
+    leader: &mut Leader<Trying, NoGate>,
+    count: u32,
+    every: u32,
+    jobs: usize,
+) -> Result<(), Fault>
+    requires { 0 < jobs }
+{
+    let pieces = jobs.min(count as usize);
+    let report = leader.try_for_each(rt, alloc, jobs, items(alloc, count, every)?)?;
+    holds(rt, is_report(&report, count as usize, pieces));
+    let outputs = leader.for_each(rt, alloc, jobs, items(alloc, count, every)?)?;
+    are(rt, &outputs, &items(alloc, count, every)?);
+    Ok(())
 }
 
 #[test]
@@ -80,14 +103,8 @@ fn a_lock_works_on_after_a_thousand_stopped_rounds(rt: HostRuntime) -> Result<()
     let pool = Pool::new(4, Limits::new(), NoGate);
     with_lock::<Trying, _, _, _, _, _>(&rt, alloc, &pool, 4, |leader| {
         for round in 0..1000u32 {
-            let count = 2 + round % 60;
             let jobs = 2 + round as usize % 17;
-            let every = 1 + round % 20;
-            let pieces = jobs.min(count as usize);
-            let report = leader.try_for_each(&rt, alloc, jobs, items(alloc, count, every)?)?;
-            holds(&rt, is_report(&report, count as usize, pieces));
-            let outputs = leader.for_each(&rt, alloc, jobs, items(alloc, count, every)?)?;
-            are(&rt, &outputs, &items(alloc, count, every)?);
+            tried_and_run(&rt, alloc, leader, 2 + round % 60, 1 + round % 20, jobs)?;
         }
         Ok::<(), Fault>(())
     })?
@@ -135,37 +152,56 @@ fn the_pieces_that_failed_are_told_in_order(rt: HostRuntime) -> Result<(), Fault
     Ok(())
 }
 
+// One more round of a report that is kept, which is then that of this round.
+fn keeps_the_last<H: Threads + Wait + Abort + Sync>(
+    rt: &H,
+    alloc: Global,
+    leader: &mut Leader<Trying, NoGate>,
+    report: &mut Report<(u32, bool)>,
+    items: Vec<(u32, bool)>,
+    jobs: usize,
+) -> Result<(), Fault>
+    requires { 0 < jobs }
+{
+    let count = items.len();
+    let fails = items.iter().any(|item| item.1);
+    leader.try_for_each_into(rt, alloc, jobs, items, report)?;
+    holds(rt, is_report(report, count, jobs.min(count)));
+    is(rt, report.first_failed::<Trying>().is_some(), fails);
+    Ok(())
+}
+
+// Six rounds in a lock of so many threads, the last over nothing, whose report is kept from one to the next.
+fn keeps_the_last_of_six<H: Threads + Wait + Abort + Sync>(
+    rt: &H,
+    alloc: Global,
+    threads: usize,
+) -> Result<(), Fault>
+    requires { 0 < threads }
+{
+    let pool = Pool::new(threads, Limits::new(), NoGate);
+    with_lock::<Trying, _, _, _, _, _>(rt, alloc, &pool, 4, |leader| {
+        let mut report = Report::new(alloc);
+        for (count, every, jobs) in [
+            (30, 7, 30),
+            (9, 0, 4),
+            (50, 3, 40),
+            (1, 0, 1),
+            (20, 0, 20),
+            (0, 0, 4),
+        ] {
+            let items = items(alloc, count, every)?;
+            keeps_the_last(rt, alloc, leader, &mut report, items, jobs)?;
+        }
+        holds(rt, report.ran.is_empty() && report.skipped.is_empty());
+        Ok::<(), Fault>(())
+    })?
+}
+
 #[test]
 fn a_report_that_is_kept_is_that_of_the_last_round(rt: HostRuntime) -> Result<(), Fault> {
-    let alloc = rt.alloc();
-    for threads in [1, 4] {
-        let pool = Pool::new(threads, Limits::new(), NoGate);
-        with_lock::<Trying, _, _, _, _, _>(&rt, alloc, &pool, 4, |leader| {
-            let mut report = Report::new(alloc);
-            for (count, every, jobs) in [
-                (30, 7, 30),
-                (9, 0, 4),
-                (50, 3, 40),
-                (1, 0, 1),
-                (20, 0, 20),
-            ] {
-                let pieces = jobs.min(count as usize);
-                leader.try_for_each_into(
-                    &rt,
-                    alloc,
-                    jobs,
-                    items(alloc, count, every)?,
-                    &mut report,
-                )?;
-                holds(&rt, is_report(&report, count as usize, pieces));
-                is(&rt, report.first_failed::<Trying>().is_some(), every > 0);
-            }
-            leader.try_for_each_into(&rt, alloc, 4, Vec::new(alloc), &mut report)?;
-            holds(&rt, report.ran.is_empty() && report.skipped.is_empty());
-            Ok::<(), Fault>(())
-        })??;
-    }
-    Ok(())
+    keeps_the_last_of_six(&rt, rt.alloc(), 1)?;
+    keeps_the_last_of_six(&rt, rt.alloc(), 4)
 }
 
 #[test]
