@@ -7,7 +7,7 @@ use crate::rounds::{Rounds, TrayRounds};
 use spindle::SharedList;
 use spindle::lock::{Leader, NoGate};
 use spindle_timing::line::Line;
-use spindle_timing::shape::{NESTED_LEN, NESTED_PARTS, NESTED_ROUNDS};
+use spindle_timing::shape::{NESTED_LEN, NESTED_PARTS, NESTED_ROUNDS, Shape};
 use spindle_timing::stop::Stop;
 use std::alloc::Global;
 use std::mem;
@@ -22,16 +22,6 @@ pub struct NestedRounds {
 }
 
 impl NestedRounds {
-    /// So many lists of zeros.
-    pub fn new(alloc: Global, jobs: usize) -> Result<NestedRounds, Stop> {
-        let mut lists = Vec::with_capacity(alloc, jobs)?;
-        for _ in 0..jobs {
-            let zeros = vec![in alloc; [0u64; NESTED_LEN / NESTED_PARTS]; NESTED_PARTS]?;
-            lists.push(SharedList::from_vec(alloc, zeros)?)?;
-        }
-        Ok(NestedRounds { jobs, lists })
-    }
-
     // Takes the lists, in whose place stands room for as many.
     fn take(&mut self, alloc: Global) -> Result<Vec<SharedList<Part>>, Stop> {
         let next = Vec::with_capacity(alloc, self.lists.len())?;
@@ -40,6 +30,15 @@ impl NestedRounds {
 }
 
 impl Rounds for NestedRounds {
+    fn new(alloc: Global, _shape: Shape, jobs: usize) -> Result<NestedRounds, Stop> {
+        let mut lists = Vec::with_capacity(alloc, jobs)?;
+        for _ in 0..jobs {
+            let zeros = vec![in alloc; [0u64; NESTED_LEN / NESTED_PARTS]; NESTED_PARTS]?;
+            lists.push(SharedList::from_vec(alloc, zeros)?)?;
+        }
+        Ok(NestedRounds { jobs, lists })
+    }
+
     fn is_right(&self, rounds: u64) -> bool {
         let sum = rounds.saturating_mul(NESTED_ROUNDS);
         let is_sum = |part: &Part| part.iter().all(|x| *x == sum);
@@ -49,9 +48,7 @@ impl Rounds for NestedRounds {
     }
 }
 
-impl TrayRounds for NestedRounds {
-    type Kind = AddInRounds;
-
+impl TrayRounds<AddInRounds> for NestedRounds {
     fn in_trays<H: Threads + Wait + Sync>(
         &mut self,
         rt: &H,
@@ -74,16 +71,6 @@ pub struct NestedPlaceRounds {
 }
 
 impl NestedPlaceRounds {
-    /// So many lists of zeros.
-    pub fn new(alloc: Global, jobs: usize) -> Result<NestedPlaceRounds, Stop> {
-        let mut lists = Vec::with_capacity(alloc, jobs)?;
-        for _ in 0..jobs {
-            let zeros = vec![in alloc; 0u64; NESTED_LEN]?;
-            lists.push(SharedList::from_vec(alloc, zeros)?)?;
-        }
-        Ok(NestedPlaceRounds { jobs, lists })
-    }
-
     // Takes the lists, in whose place stands room for as many.
     fn take(&mut self, alloc: Global) -> Result<Vec<SharedList<u64>>, Stop> {
         let next = Vec::with_capacity(alloc, self.lists.len())?;
@@ -92,6 +79,15 @@ impl NestedPlaceRounds {
 }
 
 impl Rounds for NestedPlaceRounds {
+    fn new(alloc: Global, _shape: Shape, jobs: usize) -> Result<NestedPlaceRounds, Stop> {
+        let mut lists = Vec::with_capacity(alloc, jobs)?;
+        for _ in 0..jobs {
+            let zeros = vec![in alloc; 0u64; NESTED_LEN]?;
+            lists.push(SharedList::from_vec(alloc, zeros)?)?;
+        }
+        Ok(NestedPlaceRounds { jobs, lists })
+    }
+
     fn is_right(&self, rounds: u64) -> bool {
         let sum = rounds.saturating_mul(NESTED_ROUNDS);
         let is_sum = |x: &u64| *x == sum;
@@ -101,9 +97,7 @@ impl Rounds for NestedPlaceRounds {
     }
 }
 
-impl TrayRounds for NestedPlaceRounds {
-    type Kind = AddInRoundsInPlace;
-
+impl TrayRounds<AddInRoundsInPlace> for NestedPlaceRounds {
     fn line() -> Line {
         Line::Place
     }

@@ -6,11 +6,20 @@ use crate::jobs::stencils::{AddOne, AddOneInPlace};
 use crate::rounds::{PlaceRounds, Rounds, SlotRounds, TrayRounds};
 use spindle::SharedList;
 use spindle::lock::{InPlace, Leader, NoGate, PlacePost, SlotLeader};
+use spindle_timing::shape::Shape;
 use spindle_timing::stop::Stop;
 use std::alloc::Global;
 use std::mem;
 use std::sync::Wait;
 use std::thread::Threads;
+
+// The numbers of a round of this shape.
+fn numbers_of(shape: Shape) -> usize {
+    match shape {
+        Shape::Stencil256k => 262144,
+        _ => 4096,
+    }
+}
 
 /// Rounds over shared lists, each of which a job answers by a new one.
 #[derive(Drop)]
@@ -19,18 +28,6 @@ pub struct StencilRounds {
 }
 
 impl StencilRounds {
-    /// So many zeros in so many lists.
-    pub fn new(alloc: Global, numbers: usize, jobs: usize) -> Result<StencilRounds, Stop>
-        requires { 0 < jobs }
-    {
-        let mut chunks = Vec::with_capacity(alloc, jobs)?;
-        for _ in 0..jobs {
-            let zeros = vec![in alloc; 0u64; numbers / jobs]?;
-            chunks.push(SharedList::from_vec(alloc, zeros)?)?;
-        }
-        Ok(StencilRounds { chunks })
-    }
-
     // Takes the lists, in whose place stands room for as many.
     fn take(&mut self, alloc: Global) -> Result<Vec<SharedList<u64>>, Stop> {
         let next = Vec::with_capacity(alloc, self.chunks.len())?;
@@ -39,6 +36,16 @@ impl StencilRounds {
 }
 
 impl Rounds for StencilRounds {
+    fn new(alloc: Global, shape: Shape, jobs: usize) -> Result<StencilRounds, Stop> {
+        let each = numbers_of(shape) / jobs;
+        let mut chunks = Vec::with_capacity(alloc, jobs)?;
+        for _ in 0..jobs {
+            let zeros = vec![in alloc; 0u64; each]?;
+            chunks.push(SharedList::from_vec(alloc, zeros)?)?;
+        }
+        Ok(StencilRounds { chunks })
+    }
+
     fn is_right(&self, rounds: u64) -> bool {
         let is_sum = |x: &u64| *x == rounds;
         self.chunks
@@ -47,9 +54,7 @@ impl Rounds for StencilRounds {
     }
 }
 
-impl SlotRounds for StencilRounds {
-    type Kind = AddOne;
-
+impl SlotRounds<AddOne> for StencilRounds {
     fn in_slots<H: Threads + Wait + Sync>(
         &mut self,
         rt: &H,
@@ -64,9 +69,7 @@ impl SlotRounds for StencilRounds {
     }
 }
 
-impl TrayRounds for StencilRounds {
-    type Kind = AddOne;
-
+impl TrayRounds<AddOne> for StencilRounds {
     fn in_trays<H: Threads + Wait + Sync>(
         &mut self,
         rt: &H,
@@ -87,29 +90,23 @@ pub struct StencilPlaceRounds {
     chunks: Vec<Vec<u64>>,
 }
 
-impl StencilPlaceRounds {
-    /// So many zeros in so many lists.
-    pub fn new(alloc: Global, numbers: usize, jobs: usize) -> Result<StencilPlaceRounds, Stop>
-        requires { 0 < jobs }
-    {
+impl Rounds for StencilPlaceRounds {
+    fn new(alloc: Global, shape: Shape, jobs: usize) -> Result<StencilPlaceRounds, Stop> {
+        let each = numbers_of(shape) / jobs;
         let mut chunks = Vec::with_capacity(alloc, jobs)?;
         for _ in 0..jobs {
-            chunks.push(vec![in alloc; 0u64; numbers / jobs]?)?;
+            chunks.push(vec![in alloc; 0u64; each]?)?;
         }
         Ok(StencilPlaceRounds { chunks })
     }
-}
 
-impl Rounds for StencilPlaceRounds {
     fn is_right(&self, rounds: u64) -> bool {
         let is_sum = |x: &u64| *x == rounds;
         self.chunks.iter().all(|chunk| chunk.iter().all(is_sum))
     }
 }
 
-impl PlaceRounds for StencilPlaceRounds {
-    type Kind = InPlace<AddOneInPlace>;
-
+impl PlaceRounds<InPlace<AddOneInPlace>> for StencilPlaceRounds {
     fn in_place<H: Threads + Wait + Sync>(
         &mut self,
         rt: &H,
