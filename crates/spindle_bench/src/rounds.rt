@@ -1,4 +1,4 @@
-//! One round of each shape on each kind of lock, and whether what came out is right.
+//! The rounds of each shape: what they start from, one round on each kind of lock, and whether what came out is right.
 ghost use Rattle.std.specs.Prelude.{◌≡◌, ◌<◌};
 ghost use denote.Param.Send.{IsSync};
 

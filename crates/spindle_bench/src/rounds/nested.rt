@@ -4,8 +4,8 @@ ghost use denote.Param.Send.{IsSync};
 
 use crate::jobs::nested::{AddInRounds, AddInRoundsInPlace, Part};
 use crate::rounds::{Rounds, TrayRounds};
-use spindle::SharedList;
 use spindle::lock::{Leader, NoGate};
+use spindle::{Fault, SharedList};
 use spindle_timing::line::Line;
 use spindle_timing::shape::{NESTED_LEN, NESTED_PARTS, NESTED_ROUNDS, Shape};
 use spindle_timing::stop::Stop;
@@ -26,6 +26,14 @@ impl NestedRounds {
     fn take(&mut self, alloc: Global) -> Result<Vec<SharedList<Part>>, Stop> {
         let next = Vec::with_capacity(alloc, self.lists.len())?;
         Ok(mem::replace(&mut self.lists, next))
+    }
+
+    // Keeps the lists that a round answered.
+    fn keep(&mut self, answers: Vec<Result<SharedList<Part>, Fault>>) -> Result<(), Stop> {
+        for sums in answers {
+            self.lists.push(sums?)?;
+        }
+        Ok(())
     }
 }
 
@@ -56,10 +64,8 @@ impl TrayRounds<AddInRounds> for NestedRounds {
         leader: &mut Leader<AddInRounds, NoGate>,
     ) -> Result<(), Stop> {
         let lists = self.take(alloc)?;
-        for sums in leader.for_each(rt, alloc, lists.len(), lists)? {
-            self.lists.push(sums?)?;
-        }
-        Ok(())
+        let answers = leader.for_each(rt, alloc, lists.len(), lists)?;
+        self.keep(answers)
     }
 }
 
@@ -75,6 +81,14 @@ impl NestedPlaceRounds {
     fn take(&mut self, alloc: Global) -> Result<Vec<SharedList<u64>>, Stop> {
         let next = Vec::with_capacity(alloc, self.lists.len())?;
         Ok(mem::replace(&mut self.lists, next))
+    }
+
+    // Keeps the lists that a round answered.
+    fn keep(&mut self, answers: Vec<Result<SharedList<u64>, Fault>>) -> Result<(), Stop> {
+        for sums in answers {
+            self.lists.push(sums?)?;
+        }
+        Ok(())
     }
 }
 
@@ -109,9 +123,7 @@ impl TrayRounds<AddInRoundsInPlace> for NestedPlaceRounds {
         leader: &mut Leader<AddInRoundsInPlace, NoGate>,
     ) -> Result<(), Stop> {
         let lists = self.take(alloc)?;
-        for sums in leader.for_each(rt, alloc, lists.len(), lists)? {
-            self.lists.push(sums?)?;
-        }
-        Ok(())
+        let answers = leader.for_each(rt, alloc, lists.len(), lists)?;
+        self.keep(answers)
     }
 }

@@ -4,8 +4,8 @@ ghost use denote.Param.Send.{IsSync};
 
 use crate::jobs::stencils::{AddOne, AddOneInPlace};
 use crate::rounds::{PlaceRounds, Rounds, SlotRounds, TrayRounds};
-use spindle::SharedList;
 use spindle::lock::{InPlace, Leader, NoGate, PlacePost, SlotLeader};
+use spindle::{Fault, SharedList};
 use spindle_timing::shape::Shape;
 use spindle_timing::stop::Stop;
 use std::alloc::Global;
@@ -32,6 +32,14 @@ impl StencilRounds {
     fn take(&mut self, alloc: Global) -> Result<Vec<SharedList<u64>>, Stop> {
         let next = Vec::with_capacity(alloc, self.chunks.len())?;
         Ok(mem::replace(&mut self.chunks, next))
+    }
+
+    // Keeps the lists that a round answered.
+    fn keep(&mut self, answers: Vec<Result<SharedList<u64>, Fault>>) -> Result<(), Stop> {
+        for sums in answers {
+            self.chunks.push(sums?)?;
+        }
+        Ok(())
     }
 }
 
@@ -62,10 +70,8 @@ impl SlotRounds<AddOne> for StencilRounds {
         leader: &mut SlotLeader<AddOne, NoGate>,
     ) -> Result<(), Stop> {
         let chunks = self.take(alloc)?;
-        for sums in leader.for_each(rt, alloc, chunks.len(), chunks)? {
-            self.chunks.push(sums?)?;
-        }
-        Ok(())
+        let answers = leader.for_each(rt, alloc, chunks.len(), chunks)?;
+        self.keep(answers)
     }
 }
 
@@ -77,10 +83,8 @@ impl TrayRounds<AddOne> for StencilRounds {
         leader: &mut Leader<AddOne, NoGate>,
     ) -> Result<(), Stop> {
         let chunks = self.take(alloc)?;
-        for sums in leader.for_each(rt, alloc, chunks.len(), chunks)? {
-            self.chunks.push(sums?)?;
-        }
-        Ok(())
+        let answers = leader.for_each(rt, alloc, chunks.len(), chunks)?;
+        self.keep(answers)
     }
 }
 
