@@ -1,6 +1,12 @@
 //! The lines of each shape in turn.
 ghost use Rattle.std.specs.Prelude.{◌≡◌};
 
+use crate::jobs::maps::{SquareInPlace, Squares};
+use crate::jobs::nested::{AddInRounds, AddInRoundsInPlace};
+use crate::jobs::products::Multiply;
+use crate::jobs::small::{Nothing, NothingInPlace, Stir, StirInPlace};
+use crate::jobs::smooth::{Smooth, SmoothInPlace};
+use crate::jobs::stencils::{AddOne, AddOneInPlace};
 use crate::locks::{in_place, in_slots, in_trays};
 use crate::rounds::maps::{MapPlaceRounds, MapRounds};
 use crate::rounds::nested::{NestedPlaceRounds, NestedRounds};
@@ -8,6 +14,7 @@ use crate::rounds::products::ProductRounds;
 use crate::rounds::small::{EmptyPlaceRounds, EmptyRounds, TinyPlaceRounds, TinyRounds, TryRounds};
 use crate::rounds::smooth::{SmoothPlaceRounds, SmoothRounds};
 use crate::rounds::stencils::{StencilPlaceRounds, StencilRounds};
+use spindle::lock::InPlace;
 use spindle_timing::line::Line;
 use spindle_timing::settings::Settings;
 use spindle_timing::shape::{SHAPES, Shape};
@@ -42,20 +49,14 @@ fn run_in_slots<H: Threads + Wait + Sync + Clock + Print + Alloc<A = Global>>(
     settings: &Settings,
     shape: Shape,
 ) -> Result<(), Stop> {
-    let alloc = rt.alloc();
-    let jobs = shape.jobs(settings.threads);
     match shape {
-        Shape::Empty => in_slots(rt, settings, shape, EmptyRounds::new(alloc, jobs)),
-        Shape::Tiny8 => in_slots(rt, settings, shape, TinyRounds::new(alloc, jobs)),
-        Shape::Stencil4k => in_slots(rt, settings, shape, StencilRounds::new(alloc, 4096, jobs)?),
-        Shape::Stencil256k => in_slots(
-            rt,
-            settings,
-            shape,
-            StencilRounds::new(alloc, 262144, jobs)?,
+        Shape::Empty => in_slots::<Nothing, EmptyRounds, H>(rt, settings, shape),
+        Shape::Tiny8 => in_slots::<Stir, TinyRounds, H>(rt, settings, shape),
+        Shape::Stencil4k | Shape::Stencil256k => in_slots::<AddOne, StencilRounds, H>(
+            rt, settings, shape,
         ),
-        Shape::Stencil100 => in_slots(rt, settings, shape, SmoothRounds::new(alloc, jobs)?),
-        Shape::Map => in_slots(rt, settings, shape, MapRounds::new(alloc, jobs)?),
+        Shape::Stencil100 => in_slots::<Smooth, SmoothRounds, H>(rt, settings, shape),
+        Shape::Map => in_slots::<Squares, MapRounds, H>(rt, settings, shape),
         _ => Ok(()),
     }
 }
@@ -66,24 +67,19 @@ fn run_in_trays<H: Threads + Wait + Sync + Clock + Print + Alloc<A = Global>>(
     settings: &Settings,
     shape: Shape,
 ) -> Result<(), Stop> {
-    let alloc = rt.alloc();
-    let jobs = shape.jobs(settings.threads);
     match shape {
-        Shape::Empty => in_trays(rt, settings, shape, EmptyRounds::new(alloc, jobs)),
-        Shape::Tiny8 => in_trays(rt, settings, shape, TinyRounds::new(alloc, jobs)),
-        Shape::Try8 => in_trays(rt, settings, shape, TryRounds::new(alloc, jobs)),
-        Shape::Nested => in_trays(rt, settings, shape, NestedRounds::new(alloc, jobs)?),
-        Shape::Stencil4k => in_trays(rt, settings, shape, StencilRounds::new(alloc, 4096, jobs)?),
-        Shape::Stencil256k => in_trays(
-            rt,
-            settings,
-            shape,
-            StencilRounds::new(alloc, 262144, jobs)?,
+        Shape::Empty => in_trays::<Nothing, EmptyRounds, H>(rt, settings, shape),
+        Shape::Tiny8 => in_trays::<Stir, TinyRounds, H>(rt, settings, shape),
+        Shape::Try8 => in_trays::<Stir, TryRounds, H>(rt, settings, shape),
+        Shape::Nested => in_trays::<AddInRounds, NestedRounds, H>(rt, settings, shape),
+        Shape::Stencil4k | Shape::Stencil256k => in_trays::<AddOne, StencilRounds, H>(
+            rt, settings, shape,
         ),
-        Shape::Stencil100 => in_trays(rt, settings, shape, SmoothRounds::new(alloc, jobs)?),
-        Shape::Map => in_trays(rt, settings, shape, MapRounds::new(alloc, jobs)?),
-        Shape::Product64 => in_trays(rt, settings, shape, ProductRounds::new(alloc, 64, jobs)?),
-        Shape::Product256 => in_trays(rt, settings, shape, ProductRounds::new(alloc, 256, jobs)?),
+        Shape::Stencil100 => in_trays::<Smooth, SmoothRounds, H>(rt, settings, shape),
+        Shape::Map => in_trays::<Squares, MapRounds, H>(rt, settings, shape),
+        Shape::Product64 | Shape::Product256 => in_trays::<Multiply, ProductRounds, H>(
+            rt, settings, shape,
+        ),
     }
 }
 
@@ -94,26 +90,21 @@ fn run_in_place<H: Threads + Wait + Sync + Clock + Print + Alloc<A = Global>>(
     settings: &Settings,
     shape: Shape,
 ) -> Result<(), Stop> {
-    let alloc = rt.alloc();
-    let jobs = shape.jobs(settings.threads);
     match shape {
-        Shape::Empty => in_place(rt, settings, shape, EmptyPlaceRounds::new(alloc, jobs)?),
-        Shape::Tiny8 => in_place(rt, settings, shape, TinyPlaceRounds::new(alloc, jobs)?),
-        Shape::Nested => in_trays(rt, settings, shape, NestedPlaceRounds::new(alloc, jobs)?),
-        Shape::Map => in_place(rt, settings, shape, MapPlaceRounds::new(alloc, jobs)?),
-        Shape::Stencil4k => in_place(
-            rt,
-            settings,
-            shape,
-            StencilPlaceRounds::new(alloc, 4096, jobs)?,
+        Shape::Empty => in_place::<InPlace<NothingInPlace>, EmptyPlaceRounds, H>(
+            rt, settings, shape,
         ),
-        Shape::Stencil256k => in_place(
-            rt,
-            settings,
-            shape,
-            StencilPlaceRounds::new(alloc, 262144, jobs)?,
+        Shape::Tiny8 => in_place::<InPlace<StirInPlace>, TinyPlaceRounds, H>(rt, settings, shape),
+        Shape::Nested => in_trays::<AddInRoundsInPlace, NestedPlaceRounds, H>(rt, settings, shape),
+        Shape::Map => in_place::<InPlace<SquareInPlace>, MapPlaceRounds, H>(rt, settings, shape),
+        Shape::Stencil4k | Shape::Stencil256k => in_place::<
+            InPlace<AddOneInPlace>,
+            StencilPlaceRounds,
+            H,
+        >(rt, settings, shape),
+        Shape::Stencil100 => in_place::<InPlace<SmoothInPlace>, SmoothPlaceRounds, H>(
+            rt, settings, shape,
         ),
-        Shape::Stencil100 => in_place(rt, settings, shape, SmoothPlaceRounds::new(alloc, jobs)?),
         _ => Ok(()),
     }
 }

@@ -12,7 +12,7 @@ use spindle_timing::line::Line;
 use spindle_timing::settings::Settings;
 use spindle_timing::shape::Shape;
 use spindle_timing::stop::{Stop, right};
-use spindle_timing::timing::{Times, nanos_since, run};
+use spindle_timing::timing::{nanos_since, run};
 use std::alloc::Global;
 use std::rt::Clock;
 use std::sync::Wait;
@@ -28,20 +28,18 @@ fn pool(settings: &Settings) -> Pool<NoGate> {
 }
 
 /// Runs a shape's rounds in a lock with a slot for each of their jobs.
-pub fn in_slots<S: SlotRounds, H: Threads + Wait + Sync + Clock + Print + Alloc<A = Global>>(
-    rt: &H,
-    settings: &Settings,
-    shape: Shape,
-    rounds: S,
-) -> Result<(), Stop>
+pub fn in_slots<
+    J: Job + Send,
+    S: SlotRounds<J>,
+    H: Threads + Wait + Sync + Clock + Print + Alloc<A = Global>,
+>(rt: &H, settings: &Settings, shape: Shape) -> Result<(), Stop>
 where
-    S::Kind: Send,
-    <S::Kind as Job>::In: Send + Sync,
-    <S::Kind as Job>::Out: Send,
-    <S::Kind as Job>::Inner: Send,
-    <<S::Kind as Job>::Inner as Nest>::Slots: Send + Sync,
+    J::In: Send + Sync,
+    J::Out: Send,
+    J::Inner: Send,
+    <J::Inner as Nest>::Slots: Send + Sync,
 {
-    with_slots::<S::Kind, NoGate, Result<(), Stop>, _, _, H>(
+    with_slots::<J, NoGate, Result<(), Stop>, _, _, H>(
         rt,
         rt.alloc(),
         &pool(settings),
@@ -49,99 +47,47 @@ where
         shape.jobs(settings.threads),
         |leader| -> Result<(), Stop>
             requires { IsSync H.row }
-        { led_in_slots(rt, settings, shape, leader, rounds) },
+        { led::<_, S, H>(rt, settings, Line::Slots, shape, leader) },
     )?
-}
-
-// Runs them with the lock's leader.
-fn led_in_slots<S: SlotRounds, H: Threads + Wait + Sync + Clock + Print + Alloc<A = Global>>(
-    rt: &H,
-    settings: &Settings,
-    shape: Shape,
-    leader: &mut SlotLeader<S::Kind, NoGate>,
-    mut rounds: S,
-) -> Result<(), Stop>
-    requires { IsSync H.row }
-{
-    let alloc = rt.alloc();
-    await_helpers(rt, settings, &*leader)?;
-    let times = run(
-        rt,
-        alloc,
-        settings,
-        shape,
-        || -> Result<(), Stop>
-            requires { IsSync H.row }
-        { rounds.in_slots(rt, alloc, leader) },
-    )?;
-    finish(rt, settings, Line::Slots, shape, &rounds, &times)
 }
 
 /// Runs a shape's rounds in a lock with trays.
-pub fn in_trays<S: TrayRounds, H: Threads + Wait + Sync + Clock + Print + Alloc<A = Global>>(
-    rt: &H,
-    settings: &Settings,
-    shape: Shape,
-    rounds: S,
-) -> Result<(), Stop>
+pub fn in_trays<
+    J: Job + Send,
+    S: TrayRounds<J>,
+    H: Threads + Wait + Sync + Clock + Print + Alloc<A = Global>,
+>(rt: &H, settings: &Settings, shape: Shape) -> Result<(), Stop>
 where
-    S::Kind: Send,
-    <S::Kind as Job>::In: Send + Sync,
-    <S::Kind as Job>::Out: Send,
-    <S::Kind as Job>::Inner: Send,
-    <<S::Kind as Job>::Inner as Nest>::Slots: Send + Sync,
+    J::In: Send + Sync,
+    J::Out: Send,
+    J::Inner: Send,
+    <J::Inner as Nest>::Slots: Send + Sync,
 {
-    with_lock::<S::Kind, NoGate, Result<(), Stop>, _, _, H>(
+    with_lock::<J, NoGate, Result<(), Stop>, _, _, H>(
         rt,
         rt.alloc(),
         &pool(settings),
         settings.threads,
         |leader| -> Result<(), Stop>
             requires { IsSync H.row }
-        { led_in_trays(rt, settings, shape, leader, rounds) },
+        { led::<_, S, H>(rt, settings, S::line(), shape, leader) },
     )?
 }
 
-// Runs them with the lock's leader.
-fn led_in_trays<S: TrayRounds, H: Threads + Wait + Sync + Clock + Print + Alloc<A = Global>>(
-    rt: &H,
-    settings: &Settings,
-    shape: Shape,
-    leader: &mut Leader<S::Kind, NoGate>,
-    mut rounds: S,
-) -> Result<(), Stop>
-    requires { IsSync H.row }
-{
-    let alloc = rt.alloc();
-    await_helpers(rt, settings, &*leader)?;
-    let times = run(
-        rt,
-        alloc,
-        settings,
-        shape,
-        || -> Result<(), Stop>
-            requires { IsSync H.row }
-        { rounds.in_trays(rt, alloc, leader) },
-    )?;
-    finish(rt, settings, S::line(), shape, &rounds, &times)
-}
-
 /// Runs a shape's rounds in a lock with a slot for each of their jobs, in place.
-pub fn in_place<S: PlaceRounds, H: Threads + Wait + Sync + Clock + Print + Alloc<A = Global>>(
-    rt: &H,
-    settings: &Settings,
-    shape: Shape,
-    rounds: S,
-) -> Result<(), Stop>
+pub fn in_place<
+    J: Remakes + Send,
+    S: PlaceRounds<J>,
+    H: Threads + Wait + Sync + Clock + Print + Alloc<A = Global>,
+>(rt: &H, settings: &Settings, shape: Shape) -> Result<(), Stop>
 where
-    S::Kind: Send,
-    <S::Kind as Job>::In: Send + Sync,
-    <S::Kind as Job>::Out: Send,
-    <S::Kind as Job>::Inner: Send,
-    <<S::Kind as Job>::Inner as Nest>::Slots: Send + Sync,
-    <S::Kind as Remakes>::Item: Send,
+    J::In: Send + Sync,
+    J::Out: Send,
+    J::Item: Send,
+    J::Inner: Send,
+    <J::Inner as Nest>::Slots: Send + Sync,
 {
-    with_slots_in_place::<S::Kind, NoGate, Result<(), Stop>, _, _, H>(
+    with_slots_in_place::<J, NoGate, Result<(), Stop>, _, _, H>(
         rt,
         rt.alloc(),
         &pool(settings),
@@ -149,21 +95,67 @@ where
         shape.jobs(settings.threads),
         |leader| -> Result<(), Stop>
             requires { IsSync H.row }
-        { led_in_place(rt, settings, shape, leader, rounds) },
+        { led::<_, S, H>(rt, settings, Line::Place, shape, leader) },
     )?
 }
 
-// Runs them with the lock's leader.
-fn led_in_place<S: PlaceRounds, H: Threads + Wait + Sync + Clock + Print + Alloc<A = Global>>(
+/// A leader that plays the rounds of a shape.
+trait Plays<S>: SeesThreads {
+    /// Plays one round.
+    fn play<H: Threads + Wait + Sync>(
+        &mut self,
+        rt: &H,
+        alloc: Global,
+        rounds: &mut S,
+    ) -> Result<(), Stop>
+        requires { IsSync H.row };
+}
+
+impl<'a, J: Job, S: SlotRounds<J>> Plays<S> for SlotLeader<'a, J, NoGate> {
+    fn play<H: Threads + Wait + Sync>(
+        &mut self,
+        rt: &H,
+        alloc: Global,
+        rounds: &mut S,
+    ) -> Result<(), Stop> {
+        rounds.in_slots(rt, alloc, self)
+    }
+}
+
+impl<'a, J: Job, S: TrayRounds<J>> Plays<S> for Leader<'a, J, NoGate> {
+    fn play<H: Threads + Wait + Sync>(
+        &mut self,
+        rt: &H,
+        alloc: Global,
+        rounds: &mut S,
+    ) -> Result<(), Stop> {
+        rounds.in_trays(rt, alloc, self)
+    }
+}
+
+impl<'a, J: Remakes, S: PlaceRounds<J>> Plays<S> for SlotLeader<'a, J, NoGate, PlacePost<J>> {
+    fn play<H: Threads + Wait + Sync>(
+        &mut self,
+        rt: &H,
+        alloc: Global,
+        rounds: &mut S,
+    ) -> Result<(), Stop> {
+        rounds.in_place(rt, alloc, self)
+    }
+}
+
+// Makes what the rounds start from, runs them with the leader of their lock, and prints their line.
+fn led<E: Plays<S>, S: Rounds, H: Threads + Wait + Sync + Clock + Print + Alloc<A = Global>>(
     rt: &H,
     settings: &Settings,
+    line: Line,
     shape: Shape,
-    leader: &mut SlotLeader<S::Kind, NoGate, PlacePost<S::Kind>>,
-    mut rounds: S,
+    leader: &mut E,
 ) -> Result<(), Stop>
     requires { IsSync H.row }
 {
     let alloc = rt.alloc();
+    let mut rounds = S::new(alloc, shape, shape.jobs(settings.threads))?;
     await_helpers(rt, settings, &*leader)?;
     let times = run(
         rt,
@@ -172,20 +164,8 @@ fn led_in_place<S: PlaceRounds, H: Threads + Wait + Sync + Clock + Print + Alloc
         shape,
         || -> Result<(), Stop>
             requires { IsSync H.row }
-        { rounds.in_place(rt, alloc, leader) },
+        { leader.play(rt, alloc, &mut rounds) },
     )?;
-    finish(rt, settings, Line::Place, shape, &rounds, &times)
-}
-
-// Says what the rounds of a shape took, or that they were right.
-fn finish<S: Rounds>(
-    rt: &impl Print,
-    settings: &Settings,
-    line: Line,
-    shape: Shape,
-    rounds: &S,
-    times: &Times,
-) -> Result<(), Stop> {
     right(rounds.is_right(times.rounds), shape)?;
     times.print(rt, settings, line, shape)
 }

@@ -1,5 +1,5 @@
-//! One round of each shape on each kind of lock, and whether what came out is right.
-ghost use Rattle.std.specs.Prelude.{◌≡◌};
+//! The rounds of each shape: what they start from, one round on each kind of lock, and whether what came out is right.
+ghost use Rattle.std.specs.Prelude.{◌≡◌, ◌<◌};
 ghost use denote.Param.Send.{IsSync};
 
 pub mod maps;
@@ -11,6 +11,7 @@ pub mod stencils;
 
 use spindle::lock::{Job, Leader, NoGate, PlacePost, Remakes, SlotLeader};
 use spindle_timing::line::Line;
+use spindle_timing::shape::Shape;
 use spindle_timing::stop::Stop;
 use std::alloc::Global;
 use std::sync::Wait;
@@ -18,30 +19,28 @@ use std::thread::Threads;
 
 /// A shape's rounds, over what the last round left.
 pub trait Rounds: Drop {
+    /// What stands before the first round of this shape, for rounds of so many jobs.
+    fn new(alloc: Global, shape: Shape, jobs: usize) -> Result<Self, Stop>
+        requires { 0 < jobs };
+
     /// Whether what the rounds left is right after so many of them.
     fn is_right(&self, rounds: u64) -> bool;
 }
 
-/// A shape's rounds in a lock with slots.
-pub trait SlotRounds: Rounds {
-    /// The kind of job.
-    type Kind: Job;
-
+/// A shape's rounds in a lock with slots over jobs of kind J.
+pub trait SlotRounds<J: Job>: Rounds {
     /// Runs one round.
     fn in_slots<H: Threads + Wait + Sync>(
         &mut self,
         rt: &H,
         alloc: Global,
-        leader: &mut SlotLeader<Self::Kind, NoGate>,
+        leader: &mut SlotLeader<J, NoGate>,
     ) -> Result<(), Stop>
         requires { IsSync H.row };
 }
 
-/// A shape's rounds in a lock with trays.
-pub trait TrayRounds: Rounds {
-    /// The kind of job.
-    type Kind: Job;
-
+/// A shape's rounds in a lock with trays over jobs of kind J.
+pub trait TrayRounds<J: Job>: Rounds {
     /// The line that is printed: that of trays, or where jobs open locks in place and run all but a round there, that of these.
     fn line() -> Line {
         Line::Trays
@@ -52,22 +51,19 @@ pub trait TrayRounds: Rounds {
         &mut self,
         rt: &H,
         alloc: Global,
-        leader: &mut Leader<Self::Kind, NoGate>,
+        leader: &mut Leader<J, NoGate>,
     ) -> Result<(), Stop>
         requires { IsSync H.row };
 }
 
-/// A shape's rounds in a lock whose rounds are played in place.
-pub trait PlaceRounds: Rounds {
-    /// The kind of job, `InPlace<M>` for a kind M of remaking.
-    type Kind: Remakes;
-
+/// A shape's rounds in a lock whose rounds are played in place, over the kind of job `InPlace<M>` for a kind M of remaking.
+pub trait PlaceRounds<J: Remakes>: Rounds {
     /// Runs one round.
     fn in_place<H: Threads + Wait + Sync>(
         &mut self,
         rt: &H,
         alloc: Global,
-        leader: &mut SlotLeader<Self::Kind, NoGate, PlacePost<Self::Kind>>,
+        leader: &mut SlotLeader<J, NoGate, PlacePost<J>>,
     ) -> Result<(), Stop>
         requires { IsSync H.row };
 }

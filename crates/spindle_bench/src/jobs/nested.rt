@@ -116,10 +116,7 @@ impl Job for AddInRoundsInPlace {
         numbers: &SharedList<u64>,
         cx: &mut JobCx<UnderInPlace<AddOneInPlace>>,
     ) -> Result<SharedList<u64>, Fault> {
-        let mut parts = Vec::with_capacity(alloc, NESTED_PARTS)?;
-        for part in numbers.as_slice().chunks(NESTED_LEN / NESTED_PARTS) {
-            parts.push(part.to_vec(alloc)?)?;
-        }
+        let parts = parts_of(alloc, numbers.as_slice())?;
         let threads = (cx.max_num_threads() / 2).max(1);
         let sums = with_slots_in_place::<InPlace<AddOneInPlace>, _, _, _, _>(
             rt,
@@ -131,14 +128,28 @@ impl Job for AddInRoundsInPlace {
                 requires { IsSync H.row }
             { added_in_place(rt, alloc, leader, parts) },
         )??;
-        let mut numbers = Vec::with_capacity(alloc, NESTED_LEN)?;
-        for part in &sums {
-            numbers.extend_from_slice(part.as_slice())?;
-        }
-        Ok(SharedList::from_vec(alloc, numbers)?)
+        joined(alloc, sums.as_slice())
     }
 
     ghost equal_is_same = { Prim.search rules };
+}
+
+// The numbers in their parts.
+fn parts_of(alloc: Global, numbers: &[u64]) -> Result<Vec<Vec<u64>>, Fault> {
+    let mut parts = Vec::with_capacity(alloc, NESTED_PARTS)?;
+    for part in numbers.chunks(NESTED_LEN / NESTED_PARTS) {
+        parts.push(part.to_vec(alloc)?)?;
+    }
+    Ok(parts)
+}
+
+// The parts as one list.
+fn joined(alloc: Global, parts: &[Vec<u64>]) -> Result<SharedList<u64>, Fault> {
+    let mut numbers = Vec::with_capacity(alloc, NESTED_LEN)?;
+    for part in parts {
+        numbers.extend_from_slice(part.as_slice())?;
+    }
+    Ok(SharedList::from_vec(alloc, numbers)?)
 }
 
 // The parts after all rounds of a lock that a job opened.

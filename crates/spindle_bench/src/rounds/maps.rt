@@ -7,7 +7,7 @@ use crate::jobs::maps::{SquareInPlace, Squares, Squaring};
 use crate::rounds::{PlaceRounds, Rounds, SlotRounds, TrayRounds};
 use spindle::lock::{InPlace, Leader, NoGate, PlacePost, SlotLeader};
 use spindle::{Fault, SharedList};
-use spindle_timing::shape::MAPPED;
+use spindle_timing::shape::{MAPPED, Shape};
 use spindle_timing::stop::Stop;
 use std::alloc::Global;
 use std::sync::Wait;
@@ -34,28 +34,21 @@ pub struct MapRounds {
     squares: Vec<Result<Listed, Fault>>,
 }
 
-impl MapRounds {
-    /// The numbers from 0 up to 4096 in so many lists.
-    pub fn new(alloc: Global, pieces: usize) -> Result<MapRounds, Stop>
-        requires { 0 < pieces }
-    {
+impl Rounds for MapRounds {
+    fn new(alloc: Global, _shape: Shape, pieces: usize) -> Result<MapRounds, Stop> {
         Ok(MapRounds {
             chunks: chunks_of_numbers(alloc, pieces)?,
             squares: Vec::new(alloc),
         })
     }
-}
 
-impl Rounds for MapRounds {
     fn is_right(&self, _rounds: u64) -> bool {
         self.squares.len() == self.chunks.len()
             && self.chunks.iter().zip(&self.squares).all(are_squares)
     }
 }
 
-impl SlotRounds for MapRounds {
-    type Kind = Squares;
-
+impl SlotRounds<Squares> for MapRounds {
     fn in_slots<H: Threads + Wait + Sync>(
         &mut self,
         rt: &H,
@@ -68,9 +61,7 @@ impl SlotRounds for MapRounds {
     }
 }
 
-impl TrayRounds for MapRounds {
-    type Kind = Squares;
-
+impl TrayRounds<Squares> for MapRounds {
     fn in_trays<H: Threads + Wait + Sync>(
         &mut self,
         rt: &H,
@@ -104,11 +95,8 @@ pub struct MapPlaceRounds {
     items: Vec<Squaring>,
 }
 
-impl MapPlaceRounds {
-    /// The numbers from 0 up to 4096 in so many lists.
-    pub fn new(alloc: Global, pieces: usize) -> Result<MapPlaceRounds, Stop>
-        requires { 0 < pieces }
-    {
+impl Rounds for MapPlaceRounds {
+    fn new(alloc: Global, _shape: Shape, pieces: usize) -> Result<MapPlaceRounds, Stop> {
         let mut items = Vec::with_capacity(alloc, pieces)?;
         for numbers in chunks_of_numbers(alloc, pieces)? {
             let squares = vec![in alloc; 0u64; numbers.len()]?;
@@ -116,9 +104,7 @@ impl MapPlaceRounds {
         }
         Ok(MapPlaceRounds { items })
     }
-}
 
-impl Rounds for MapPlaceRounds {
     fn is_right(&self, _rounds: u64) -> bool {
         let is_squared = |item: &Squaring| are_squares_of(
             item.numbers.as_slice(),
@@ -128,9 +114,7 @@ impl Rounds for MapPlaceRounds {
     }
 }
 
-impl PlaceRounds for MapPlaceRounds {
-    type Kind = InPlace<SquareInPlace>;
-
+impl PlaceRounds<InPlace<SquareInPlace>> for MapPlaceRounds {
     fn in_place<H: Threads + Wait + Sync>(
         &mut self,
         rt: &H,

@@ -4,10 +4,10 @@ ghost use denote.Param.Send.{IsSync};
 
 use crate::jobs::nested::{AddInRounds, AddInRoundsInPlace, Part};
 use crate::rounds::{Rounds, TrayRounds};
-use spindle::SharedList;
 use spindle::lock::{Leader, NoGate};
+use spindle::{Fault, SharedList};
 use spindle_timing::line::Line;
-use spindle_timing::shape::{NESTED_LEN, NESTED_PARTS, NESTED_ROUNDS};
+use spindle_timing::shape::{NESTED_LEN, NESTED_PARTS, NESTED_ROUNDS, Shape};
 use spindle_timing::stop::Stop;
 use std::alloc::Global;
 use std::mem;
@@ -22,8 +22,23 @@ pub struct NestedRounds {
 }
 
 impl NestedRounds {
-    /// So many lists of zeros.
-    pub fn new(alloc: Global, jobs: usize) -> Result<NestedRounds, Stop> {
+    // Takes the lists, in whose place stands room for as many.
+    fn take(&mut self, alloc: Global) -> Result<Vec<SharedList<Part>>, Stop> {
+        let next = Vec::with_capacity(alloc, self.lists.len())?;
+        Ok(mem::replace(&mut self.lists, next))
+    }
+
+    // Keeps the lists that a round answered.
+    fn keep(&mut self, answers: Vec<Result<SharedList<Part>, Fault>>) -> Result<(), Stop> {
+        for sums in answers {
+            self.lists.push(sums?)?;
+        }
+        Ok(())
+    }
+}
+
+impl Rounds for NestedRounds {
+    fn new(alloc: Global, _shape: Shape, jobs: usize) -> Result<NestedRounds, Stop> {
         let mut lists = Vec::with_capacity(alloc, jobs)?;
         for _ in 0..jobs {
             let zeros = vec![in alloc; [0u64; NESTED_LEN / NESTED_PARTS]; NESTED_PARTS]?;
@@ -32,14 +47,6 @@ impl NestedRounds {
         Ok(NestedRounds { jobs, lists })
     }
 
-    // Takes the lists, in whose place stands room for as many.
-    fn take(&mut self, alloc: Global) -> Result<Vec<SharedList<Part>>, Stop> {
-        let next = Vec::with_capacity(alloc, self.lists.len())?;
-        Ok(mem::replace(&mut self.lists, next))
-    }
-}
-
-impl Rounds for NestedRounds {
     fn is_right(&self, rounds: u64) -> bool {
         let sum = rounds.saturating_mul(NESTED_ROUNDS);
         let is_sum = |part: &Part| part.iter().all(|x| *x == sum);
@@ -49,9 +56,7 @@ impl Rounds for NestedRounds {
     }
 }
 
-impl TrayRounds for NestedRounds {
-    type Kind = AddInRounds;
-
+impl TrayRounds<AddInRounds> for NestedRounds {
     fn in_trays<H: Threads + Wait + Sync>(
         &mut self,
         rt: &H,
@@ -59,10 +64,8 @@ impl TrayRounds for NestedRounds {
         leader: &mut Leader<AddInRounds, NoGate>,
     ) -> Result<(), Stop> {
         let lists = self.take(alloc)?;
-        for sums in leader.for_each(rt, alloc, lists.len(), lists)? {
-            self.lists.push(sums?)?;
-        }
-        Ok(())
+        let answers = leader.for_each(rt, alloc, lists.len(), lists)?;
+        self.keep(answers)
     }
 }
 
@@ -74,8 +77,23 @@ pub struct NestedPlaceRounds {
 }
 
 impl NestedPlaceRounds {
-    /// So many lists of zeros.
-    pub fn new(alloc: Global, jobs: usize) -> Result<NestedPlaceRounds, Stop> {
+    // Takes the lists, in whose place stands room for as many.
+    fn take(&mut self, alloc: Global) -> Result<Vec<SharedList<u64>>, Stop> {
+        let next = Vec::with_capacity(alloc, self.lists.len())?;
+        Ok(mem::replace(&mut self.lists, next))
+    }
+
+    // Keeps the lists that a round answered.
+    fn keep(&mut self, answers: Vec<Result<SharedList<u64>, Fault>>) -> Result<(), Stop> {
+        for sums in answers {
+            self.lists.push(sums?)?;
+        }
+        Ok(())
+    }
+}
+
+impl Rounds for NestedPlaceRounds {
+    fn new(alloc: Global, _shape: Shape, jobs: usize) -> Result<NestedPlaceRounds, Stop> {
         let mut lists = Vec::with_capacity(alloc, jobs)?;
         for _ in 0..jobs {
             let zeros = vec![in alloc; 0u64; NESTED_LEN]?;
@@ -84,14 +102,6 @@ impl NestedPlaceRounds {
         Ok(NestedPlaceRounds { jobs, lists })
     }
 
-    // Takes the lists, in whose place stands room for as many.
-    fn take(&mut self, alloc: Global) -> Result<Vec<SharedList<u64>>, Stop> {
-        let next = Vec::with_capacity(alloc, self.lists.len())?;
-        Ok(mem::replace(&mut self.lists, next))
-    }
-}
-
-impl Rounds for NestedPlaceRounds {
     fn is_right(&self, rounds: u64) -> bool {
         let sum = rounds.saturating_mul(NESTED_ROUNDS);
         let is_sum = |x: &u64| *x == sum;
@@ -101,9 +111,7 @@ impl Rounds for NestedPlaceRounds {
     }
 }
 
-impl TrayRounds for NestedPlaceRounds {
-    type Kind = AddInRoundsInPlace;
-
+impl TrayRounds<AddInRoundsInPlace> for NestedPlaceRounds {
     fn line() -> Line {
         Line::Place
     }
@@ -115,9 +123,7 @@ impl TrayRounds for NestedPlaceRounds {
         leader: &mut Leader<AddInRoundsInPlace, NoGate>,
     ) -> Result<(), Stop> {
         let lists = self.take(alloc)?;
-        for sums in leader.for_each(rt, alloc, lists.len(), lists)? {
-            self.lists.push(sums?)?;
-        }
-        Ok(())
+        let answers = leader.for_each(rt, alloc, lists.len(), lists)?;
+        self.keep(answers)
     }
 }

@@ -8,10 +8,19 @@ use crate::rounds::{Rounds, TrayRounds};
 use spindle::lock::{Leader, NoGate};
 use spindle::{Fault, SharedList};
 use spindle_timing::matrices::{are_products, columns, rows};
+use spindle_timing::shape::Shape;
 use spindle_timing::stop::Stop;
 use std::alloc::Global;
 use std::sync::Wait;
 use std::thread::Threads;
+
+// The rows and columns of the matrices of this shape.
+fn size_of(shape: Shape) -> usize {
+    match shape {
+        Shape::Product256 => 256,
+        _ => 64,
+    }
+}
 
 /// Rounds over blocks of rows, each with all columns.
 #[derive(Drop)]
@@ -23,16 +32,6 @@ pub struct ProductRounds {
 }
 
 impl ProductRounds {
-    /// The product of two matrices of this size, in so many jobs.
-    pub fn new(alloc: Global, size: usize, jobs: usize) -> Result<ProductRounds, Stop> {
-        Ok(ProductRounds {
-            size,
-            blocks: blocks(alloc, size, jobs)?,
-            columns: SharedList::from_vec(alloc, columns(alloc, size)?)?,
-            entries: Vec::new(alloc),
-        })
-    }
-
     // Each block, its rows' length, and the columns.
     fn inputs(&self, alloc: Global) -> Result<Vec<Block>, Stop> {
         let mut inputs = Vec::with_capacity(alloc, self.blocks.len())?;
@@ -59,14 +58,22 @@ fn blocks(alloc: Global, size: usize, jobs: usize) -> Result<Vec<SharedList<u64>
 }
 
 impl Rounds for ProductRounds {
+    fn new(alloc: Global, shape: Shape, jobs: usize) -> Result<ProductRounds, Stop> {
+        let size = size_of(shape);
+        Ok(ProductRounds {
+            size,
+            blocks: blocks(alloc, size, jobs)?,
+            columns: SharedList::from_vec(alloc, columns(alloc, size)?)?,
+            entries: Vec::new(alloc),
+        })
+    }
+
     fn is_right(&self, _rounds: u64) -> bool {
         are_products(self.size, self.entries.as_slice())
     }
 }
 
-impl TrayRounds for ProductRounds {
-    type Kind = Multiply;
-
+impl TrayRounds<Multiply> for ProductRounds {
     fn in_trays<H: Threads + Wait + Sync>(
         &mut self,
         rt: &H,

@@ -6,6 +6,7 @@ use crate::jobs::small::{Nothing, NothingInPlace, Stir, StirInPlace, Stirring};
 use crate::rounds::{PlaceRounds, Rounds, SlotRounds, TrayRounds};
 use spindle::lock::{InPlace, Leader, NoGate, PlacePost, Report, SlotLeader};
 use spindle_timing::kernels::stirred;
+use spindle_timing::shape::Shape;
 use spindle_timing::stop::Stop;
 use std::alloc::{AllocError, Global};
 use std::sync::Wait;
@@ -33,25 +34,20 @@ pub struct EmptyRounds {
     outputs: Vec<()>,
 }
 
-impl EmptyRounds {
-    /// Rounds of so many jobs.
-    pub fn new(alloc: Global, jobs: usize) -> EmptyRounds {
-        EmptyRounds {
+impl Rounds for EmptyRounds {
+    fn new(alloc: Global, _shape: Shape, jobs: usize) -> Result<EmptyRounds, Stop> {
+        Ok(EmptyRounds {
             jobs,
             outputs: Vec::new(alloc),
-        }
+        })
     }
-}
 
-impl Rounds for EmptyRounds {
     fn is_right(&self, _rounds: u64) -> bool {
         self.outputs.len() == self.jobs
     }
 }
 
-impl SlotRounds for EmptyRounds {
-    type Kind = Nothing;
-
+impl SlotRounds<Nothing> for EmptyRounds {
     fn in_slots<H: Threads + Wait + Sync>(
         &mut self,
         rt: &H,
@@ -64,9 +60,7 @@ impl SlotRounds for EmptyRounds {
     }
 }
 
-impl TrayRounds for EmptyRounds {
-    type Kind = Nothing;
-
+impl TrayRounds<Nothing> for EmptyRounds {
     fn in_trays<H: Threads + Wait + Sync>(
         &mut self,
         rt: &H,
@@ -84,24 +78,19 @@ pub struct EmptyPlaceRounds {
     items: Vec<usize>,
 }
 
-impl EmptyPlaceRounds {
-    /// Rounds of so many jobs.
-    pub fn new(alloc: Global, jobs: usize) -> Result<EmptyPlaceRounds, Stop> {
+impl Rounds for EmptyPlaceRounds {
+    fn new(alloc: Global, _shape: Shape, jobs: usize) -> Result<EmptyPlaceRounds, Stop> {
         Ok(EmptyPlaceRounds {
             items: numbers(alloc, jobs)?,
         })
     }
-}
 
-impl Rounds for EmptyPlaceRounds {
     fn is_right(&self, _rounds: u64) -> bool {
         (0..self.items.len()).zip(&self.items).all(|(a, b)| a == *b)
     }
 }
 
-impl PlaceRounds for EmptyPlaceRounds {
-    type Kind = InPlace<NothingInPlace>;
-
+impl PlaceRounds<InPlace<NothingInPlace>> for EmptyPlaceRounds {
     fn in_place<H: Threads + Wait + Sync>(
         &mut self,
         rt: &H,
@@ -125,25 +114,20 @@ pub struct TinyRounds {
     outputs: Vec<u64>,
 }
 
-impl TinyRounds {
-    /// Rounds of so many jobs.
-    pub fn new(alloc: Global, jobs: usize) -> TinyRounds {
-        TinyRounds {
+impl Rounds for TinyRounds {
+    fn new(alloc: Global, _shape: Shape, jobs: usize) -> Result<TinyRounds, Stop> {
+        Ok(TinyRounds {
             jobs,
             outputs: Vec::new(alloc),
-        }
+        })
     }
-}
 
-impl Rounds for TinyRounds {
     fn is_right(&self, _rounds: u64) -> bool {
         are_stirred(self.outputs.as_slice(), 0, self.jobs)
     }
 }
 
-impl SlotRounds for TinyRounds {
-    type Kind = Stir;
-
+impl SlotRounds<Stir> for TinyRounds {
     fn in_slots<H: Threads + Wait + Sync>(
         &mut self,
         rt: &H,
@@ -156,9 +140,7 @@ impl SlotRounds for TinyRounds {
     }
 }
 
-impl TrayRounds for TinyRounds {
-    type Kind = Stir;
-
+impl TrayRounds<Stir> for TinyRounds {
     fn in_trays<H: Threads + Wait + Sync>(
         &mut self,
         rt: &H,
@@ -176,9 +158,8 @@ pub struct TinyPlaceRounds {
     items: Vec<Stirring>,
 }
 
-impl TinyPlaceRounds {
-    /// Rounds of so many jobs.
-    pub fn new(alloc: Global, jobs: usize) -> Result<TinyPlaceRounds, Stop> {
+impl Rounds for TinyPlaceRounds {
+    fn new(alloc: Global, _shape: Shape, jobs: usize) -> Result<TinyPlaceRounds, Stop> {
         let mut items = Vec::with_capacity(alloc, jobs)?;
         for number in 0..jobs {
             items.push(Stirring {
@@ -188,9 +169,7 @@ impl TinyPlaceRounds {
         }
         Ok(TinyPlaceRounds { items })
     }
-}
 
-impl Rounds for TinyPlaceRounds {
     fn is_right(&self, _rounds: u64) -> bool {
         let mut number = 0u64;
         for item in &self.items {
@@ -203,9 +182,7 @@ impl Rounds for TinyPlaceRounds {
     }
 }
 
-impl PlaceRounds for TinyPlaceRounds {
-    type Kind = InPlace<StirInPlace>;
-
+impl PlaceRounds<InPlace<StirInPlace>> for TinyPlaceRounds {
     fn in_place<H: Threads + Wait + Sync>(
         &mut self,
         rt: &H,
@@ -225,17 +202,14 @@ pub struct TryRounds {
     report: Report<u64>,
 }
 
-impl TryRounds {
-    /// Rounds of so many jobs.
-    pub fn new(alloc: Global, jobs: usize) -> TryRounds {
-        TryRounds {
+impl Rounds for TryRounds {
+    fn new(alloc: Global, _shape: Shape, jobs: usize) -> Result<TryRounds, Stop> {
+        Ok(TryRounds {
             jobs,
             report: Report::new(alloc),
-        }
+        })
     }
-}
 
-impl Rounds for TryRounds {
     fn is_right(&self, _rounds: u64) -> bool {
         let is_stirred = |piece: &(usize, Vec<u64>)| are_stirred(
             piece.1.as_slice(),
@@ -246,9 +220,7 @@ impl Rounds for TryRounds {
     }
 }
 
-impl TrayRounds for TryRounds {
-    type Kind = Stir;
-
+impl TrayRounds<Stir> for TryRounds {
     fn in_trays<H: Threads + Wait + Sync>(
         &mut self,
         rt: &H,

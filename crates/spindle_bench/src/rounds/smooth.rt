@@ -6,7 +6,7 @@ use crate::jobs::smooth::{Smooth, SmoothInPlace};
 use crate::rounds::{PlaceRounds, Rounds, SlotRounds, TrayRounds};
 use spindle::lock::{InPlace, Leader, NoGate, PlacePost, SlotLeader};
 use spindle::{Chunk, Fault, SharedList, gathered};
-use spindle_timing::shape::{PASSES, SMOOTHED};
+use spindle_timing::shape::{PASSES, SMOOTHED, Shape};
 use spindle_timing::stop::Stop;
 use spindle_timing::strips::{Strip, are_values, first_values, last_values, meet, strips_of};
 use std::alloc::Global;
@@ -23,10 +23,14 @@ pub struct SmoothRounds {
 }
 
 impl SmoothRounds {
-    /// Passes in so many chunks.
-    pub fn new(alloc: Global, jobs: usize) -> Result<SmoothRounds, Stop>
-        requires { 0 < jobs }
-    {
+    // The values in chunks, each with the one value before it and the one behind it.
+    fn chunks(&self, alloc: Global, values: Vec<u32>) -> Result<Vec<Chunk<u32>>, Fault> {
+        SharedList::from_vec(alloc, values)?.share_out_overlapping(alloc, self.size.max(1), 1)
+    }
+}
+
+impl Rounds for SmoothRounds {
+    fn new(alloc: Global, _shape: Shape, jobs: usize) -> Result<SmoothRounds, Stop> {
         Ok(SmoothRounds {
             size: SMOOTHED / jobs,
             first: first_values(alloc)?,
@@ -35,21 +39,12 @@ impl SmoothRounds {
         })
     }
 
-    // The values in chunks, each with the one value before it and the one behind it.
-    fn chunks(&self, alloc: Global, values: Vec<u32>) -> Result<Vec<Chunk<u32>>, Fault> {
-        SharedList::from_vec(alloc, values)?.share_out_overlapping(alloc, self.size.max(1), 1)
-    }
-}
-
-impl Rounds for SmoothRounds {
     fn is_right(&self, _rounds: u64) -> bool {
         self.values == self.wanted
     }
 }
 
-impl SlotRounds for SmoothRounds {
-    type Kind = Smooth;
-
+impl SlotRounds<Smooth> for SmoothRounds {
     fn in_slots<H: Threads + Wait + Sync>(
         &mut self,
         rt: &H,
@@ -67,9 +62,7 @@ impl SlotRounds for SmoothRounds {
     }
 }
 
-impl TrayRounds for SmoothRounds {
-    type Kind = Smooth;
-
+impl TrayRounds<Smooth> for SmoothRounds {
     fn in_trays<H: Threads + Wait + Sync>(
         &mut self,
         rt: &H,
@@ -96,11 +89,8 @@ pub struct SmoothPlaceRounds {
     strips: Vec<Strip>,
 }
 
-impl SmoothPlaceRounds {
-    /// Passes in so many strips.
-    pub fn new(alloc: Global, jobs: usize) -> Result<SmoothPlaceRounds, Stop>
-        requires { 0 < jobs }
-    {
+impl Rounds for SmoothPlaceRounds {
+    fn new(alloc: Global, _shape: Shape, jobs: usize) -> Result<SmoothPlaceRounds, Stop> {
         Ok(SmoothPlaceRounds {
             size: SMOOTHED / jobs,
             first: first_values(alloc)?,
@@ -108,17 +98,13 @@ impl SmoothPlaceRounds {
             strips: Vec::new(alloc),
         })
     }
-}
 
-impl Rounds for SmoothPlaceRounds {
     fn is_right(&self, _rounds: u64) -> bool {
         are_values(self.strips.as_slice(), self.wanted.as_slice())
     }
 }
 
-impl PlaceRounds for SmoothPlaceRounds {
-    type Kind = InPlace<SmoothInPlace>;
-
+impl PlaceRounds<InPlace<SmoothInPlace>> for SmoothPlaceRounds {
     fn in_place<H: Threads + Wait + Sync>(
         &mut self,
         rt: &H,
