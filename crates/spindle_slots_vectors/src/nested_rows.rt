@@ -4,7 +4,7 @@
 use crate::checks::{are, holds};
 use crate::nested_jobs::{NotesBoth, SquareBoth, WhereInSlots};
 use spindle::lock::{Limits, NoGate, Pool};
-use spindle::{Fault, with_lock};
+use spindle::{Fault, run_one, with_lock};
 use std::alloc::Global;
 use std::process::Abort;
 use std::sync::Wait;
@@ -46,9 +46,7 @@ fn ten_thousand_inner_locks_with_slots_in_which_all_sleep_at_once(
 fn a_lock_with_slots_to_which_no_helper_can_come(rt: HostRuntime) -> Result<(), Fault> {
     let alloc = rt.alloc();
     let pool = Pool::new(1, Limits::new(), NoGate);
-    let seen = with_lock::<WhereInSlots, _, _, _, _, _>(&rt, alloc, &pool, 4, |leader| {
-        leader.for_each(&rt, alloc, 1, vec![in alloc; ()]?)
-    })??;
+    let seen = run_one::<WhereInSlots>(&rt, alloc, &pool, 1, Vec::from_elem(alloc, (), 1)?)?;
     are(&rt, &seen, &[(1, 1, 3)]);
     Ok(())
 }
