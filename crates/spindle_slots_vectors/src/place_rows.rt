@@ -78,20 +78,19 @@ pub fn have_stepped(list: &[usize], steps: usize) -> bool {
     true
 }
 
-// What becomes of the numbers from 0 up, so many, in so many rounds of one lock of so many slots.
+// Has the numbers step so many times, in one lock of so many slots.
 fn step_often<G: Gate + Sync, H: Threads + Wait + Sync>(
     rt: &H,
     alloc: Global,
     pool: &Pool<G>,
     slots: usize,
     jobs: usize,
-    count: usize,
     rounds: usize,
-) -> Result<Vec<usize>, Fault>
+    list: &mut Vec<usize>,
+) -> Result<(), Fault>
     requires slots { (1 ≤ slots) × (slots ≤ 4294967295) }
     requires jobs { 0 < jobs }
 {
-    let mut list = numbers(alloc, count)?;
     with_slots_in_place::<InPlace<Step>, _, _, _, _, _>(
         rt,
         alloc,
@@ -102,12 +101,11 @@ fn step_often<G: Gate + Sync, H: Threads + Wait + Sync>(
             requires { 0 < jobs }
         {
             for _ in 0..rounds {
-                leader.remake_each(rt, alloc, jobs, &mut list)?;
+                leader.remake_each(rt, alloc, jobs, list)?;
             }
             Ok::<(), Fault>(())
         },
-    )??;
-    Ok(list)
+    )?
 }
 
 #[test]
@@ -124,7 +122,8 @@ fn two_hundred_rounds_in_place_are_as_a_plain_loop(rt: HostRuntime) -> Result<()
     ] {
         for threads in [1, 4] {
             let pool = Pool::new(threads, Limits::new(), NoGate);
-            let list = step_often(&rt, alloc, &pool, slots, jobs, count, 200)?;
+            let mut list = numbers(alloc, count)?;
+            step_often(&rt, alloc, &pool, slots, jobs, 200, &mut list)?;
             is(&rt, list.len(), count);
             holds(&rt, have_stepped(list.as_slice(), 200));
         }
@@ -146,7 +145,8 @@ fn each_job_in_place_passes_the_gate_once(rt: HostRuntime) -> Result<(), Fault> 
         for threads in [1, 4] {
             let calls = Calls::new();
             let pool = Pool::new(threads, Limits::new(), Counting { calls: &calls });
-            let list = step_often(&rt, alloc, &pool, slots, jobs, count, 1)?;
+            let mut list = numbers(alloc, count)?;
+            step_often(&rt, alloc, &pool, slots, jobs, 1, &mut list)?;
             holds(&rt, have_stepped(list.as_slice(), 1));
             is(&rt, calls.in_all(), (wanted, wanted));
             is(&rt, calls.of_job(0), (1, 1));
@@ -198,15 +198,7 @@ fn refused_round_in_place_leaves_the_items(rt: HostRuntime) -> Result<(), Fault>
         let mut list = seven_items(alloc)?;
         let mut steps = 0usize;
         for _ in 0..2 {
-            let played = with_slots_in_place::<InPlace<Step>, _, _, _, _, _>(
-                &rt,
-                alloc,
-                &pool,
-                4,
-                7,
-                |leader| { leader.remake_each(&rt, alloc, jobs.max(1), &mut list) },
-            );
-            if let Ok(Ok(())) = played {
+            if step_often(&rt, alloc, &pool, 7, jobs, 1, &mut list).is_ok() {
                 steps = steps.wrapping_add(1);
             }
             holds(&rt, have_stepped(list.as_slice(), steps));

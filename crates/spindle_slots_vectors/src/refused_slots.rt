@@ -8,6 +8,7 @@ use crate::checks::{are, holds, is};
 use crate::jobs::{Calls, Counting, Square};
 use crate::lists::{Length, are_three_numbers, seven_clones, three_numbers};
 use crate::sevens::{are_seven_squares, seven_items, unopened_or};
+use crate::slot_rows::open_once;
 use spindle::lock::{Limits, NoGate, Pool, SlotLeader};
 use spindle::{Fault, with_slots};
 use std::alloc::Global;
@@ -25,10 +26,7 @@ fn refused_lock_with_slots_opens_when_asked_again(rt: HostRuntime) -> Result<(),
     let pool = Pool::new(4, Limits::new(), Counting { calls: &calls });
     for _ in 0..2 {
         let before = opened.load(Ordering::SeqCst);
-        let answer = with_slots::<Square, _, _, _, _, _>(&rt, alloc, &pool, 4, 4, |_leader| {
-            opened.fetch_add(1, Ordering::SeqCst);
-        });
-        if let Err(fault) = answer {
+        if let Err(fault) = open_once(&rt, alloc, &pool, 4, &opened) {
             holds(&rt, matches!(fault, Fault::Memory));
             is(&rt, opened.load(Ordering::SeqCst), before);
         }
@@ -38,8 +36,9 @@ fn refused_lock_with_slots_opens_when_asked_again(rt: HostRuntime) -> Result<(),
     Ok(())
 }
 
+// Rounds over numbers alone, and over a list of them.
 #[test]
-fn refused_round_over_numbers_in_slots_has_run_no_job(rt: HostRuntime) -> Result<(), Fault> {
+fn refused_round_in_slots_has_run_no_job(rt: HostRuntime) -> Result<(), Fault> {
     let alloc = rt.alloc();
     let calls = Calls::new();
     let opened = AtomicUsize::new(0);
@@ -54,36 +53,36 @@ fn refused_round_over_numbers_in_slots_has_run_no_job(rt: HostRuntime) -> Result
             requires { lock_slots leader.old ≡ 7 }
         {
             opened.fetch_add(1, Ordering::SeqCst);
-            let squares = match leader.for_each_raw(&rt, alloc, 7) {
-                Ok(squares) => squares,
-                Err(fault) => {
-                    holds(&rt, matches!(fault, Fault::Memory));
-                    is(&rt, calls.in_all(), (0, 0));
-                    leader.for_each_raw(&rt, alloc, 7)?
-                }
-            };
-            holds(&rt, are_seven_squares(squares.as_slice()));
-            is(&rt, calls.in_all(), (7, 7));
+            square_seven_numbers(&rt, alloc, &calls, leader)?;
+            for jobs in [1, 3, 7] {
+                square_seven_items(&rt, alloc, &calls, leader, jobs)?;
+            }
             Ok::<(), Fault>(())
         },
     );
     unopened_or(&opened, answer)
 }
 
-#[test]
-fn refused_round_over_a_list_in_slots_has_run_no_job(rt: HostRuntime) -> Result<(), Fault> {
-    let alloc = rt.alloc();
-    let calls = Calls::new();
-    let opened = AtomicUsize::new(0);
-    let pool = Pool::new(4, Limits::new(), Counting { calls: &calls });
-    let answer = with_slots::<Square, _, _, _, _, _>(&rt, alloc, &pool, 4, 7, |leader| {
-        opened.fetch_add(1, Ordering::SeqCst);
-        for jobs in [1, 3, 7] {
-            square_seven_items(&rt, alloc, &calls, leader, jobs)?;
+// Squares seven numbers alone; where that is refused, no job was run, and the same call again answers.
+fn square_seven_numbers<H: Threads + Wait + Abort + Sync>(
+    rt: &H,
+    alloc: Global,
+    calls: &Calls,
+    leader: &mut SlotLeader<Square, Counting>,
+) -> Result<(), Fault>
+    requires { lock_slots leader.old ≡ 7 }
+{
+    let squares = match leader.for_each_raw(rt, alloc, 7) {
+        Ok(squares) => squares,
+        Err(fault) => {
+            holds(rt, matches!(fault, Fault::Memory));
+            is(rt, calls.in_all(), (0, 0));
+            leader.for_each_raw(rt, alloc, 7)?
         }
-        Ok::<(), Fault>(())
-    });
-    unopened_or(&opened, answer)
+    };
+    holds(rt, are_seven_squares(squares.as_slice()));
+    is(rt, calls.in_all(), (7, 7));
+    Ok(())
 }
 
 // Squares seven items in so many jobs; where that is refused, no job was run, and the same call again answers.

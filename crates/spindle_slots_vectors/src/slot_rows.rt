@@ -13,29 +13,8 @@ use std::sync::Wait;
 use std::sync::atomic::{AtomicUsize, Ordering};
 use std::thread::Threads;
 
-// The squares of the numbers, by one round in a lock of so many slots.
-fn squares<G: Gate + Sync, H: Threads + Wait + Sync>(
-    rt: &H,
-    alloc: Global,
-    pool: &Pool<G>,
-    slots: usize,
-    jobs: usize,
-    numbers: Vec<usize>,
-) -> Result<Vec<u128>, Fault>
-    requires slots { (1 ≤ slots) × (slots ≤ 4294967295) }
-    requires jobs { 0 < jobs }
-{
-    with_slots::<Square, _, _, _, _, _>(
-        rt,
-        alloc,
-        pool,
-        pool.max_num_threads(),
-        slots,
-        |leader|
-            requires { 0 < jobs }
-        { leader.for_each(rt, alloc, jobs, numbers) },
-    )?
-}
+/// The squares of the numbers from 0 to 9.
+const SQUARES: [u128; 10] = [0, 1, 4, 9, 16, 25, 36, 49, 64, 81];
 
 // So many rounds of one lock of so many slots, in each of which the first numbers have these squares.
 fn square_often<G: Gate + Sync, H: Threads + Wait + Abort + Sync>(
@@ -68,17 +47,20 @@ fn square_often<G: Gate + Sync, H: Threads + Wait + Abort + Sync>(
     )?
 }
 
-// Where the jobs of a round run that has as many as the lock has slots.
-fn places<G: Gate + Sync, H: Threads + Wait + Sync>(
+// Where the jobs of so many rounds run that have as many as the lock has slots, and how many threads are there after each round.
+fn places_often<G: Gate + Sync, H: Threads + Wait + Sync>(
     rt: &H,
     alloc: Global,
     pool: &Pool<G>,
     most: usize,
     slots: usize,
-) -> Result<Vec<(Option<usize>, usize, usize)>, Fault>
+    rounds: usize,
+) -> Result<(Vec<(Option<usize>, usize, usize)>, Vec<usize>), Fault>
     requires most { 0 < most }
     requires slots { (1 ≤ slots) × (slots ≤ 4294967295) }
 {
+    let mut places = Vec::new(alloc);
+    let mut counts = Vec::new(alloc);
     with_slots::<Place, _, _, _, _, _>(
         rt,
         alloc,
@@ -87,8 +69,32 @@ fn places<G: Gate + Sync, H: Threads + Wait + Sync>(
         slots,
         |leader|
             requires { 0 < slots }
-        { leader.for_each(rt, alloc, slots, (0..slots).collect(alloc)?) },
-    )?
+        {
+            for _ in 0..rounds {
+                for place in leader.for_each(rt, alloc, slots, (0..slots).collect(alloc)?)? {
+                    places.push(place)?;
+                }
+                counts.push(leader.current_num_threads())?;
+            }
+            Ok::<(), Fault>(())
+        },
+    )??;
+    Ok((places, counts))
+}
+
+/// Opens a lock of four threads at most and so many slots, in which nothing is published, and counts that.
+pub fn open_once<G: Gate + Sync, H: Threads + Wait + Sync>(
+    rt: &H,
+    alloc: Global,
+    pool: &Pool<G>,
+    slots: usize,
+    opened: &AtomicUsize,
+) -> Result<(), Fault>
+    requires { (1 ≤ slots) × (slots ≤ 4294967295) }
+{
+    with_slots::<Square, _, _, _, _, _>(rt, alloc, pool, 4, slots, |_leader| {
+        opened.fetch_add(1, Ordering::SeqCst);
+    })
 }
 
 #[test]
@@ -105,9 +111,7 @@ fn ten_numbers_are_squared_in_slots(rt: HostRuntime) -> Result<(), Fault> {
         (64, usize::MAX, 10),
     ] {
         let pool = Pool::new(threads, Limits::new(), NoGate);
-        let numbers = vec![in alloc; 0, 1, 2, 3, 4, 5, 6, 7, 8, 9]?;
-        let squares = squares(&rt, alloc, &pool, slots, jobs, numbers)?;
-        are(&rt, &squares, &[0, 1, 4, 9, 16, 25, 36, 49, 64, 81]);
+        square_often(&rt, alloc, &pool, slots, jobs, 1, &SQUARES)?;
     }
     Ok(())
 }
@@ -141,35 +145,19 @@ fn a_round_has_as_many_jobs_as_slots_at_most(rt: HostRuntime) -> Result<(), Faul
     for (slots, jobs) in [(1, 1), (2, 2), (3, 3), (8, 8), (9, 8), (64, 8)] {
         let calls = Calls::new();
         let pool = Pool::new(4, Limits::new(), Counting { calls: &calls });
-        let numbers = vec![in alloc; 0, 1, 2, 3, 4, 5, 6, 7, 8, 9]?;
-        let squares = squares(&rt, alloc, &pool, slots, 8, numbers)?;
-        are(&rt, &squares, &[0, 1, 4, 9, 16, 25, 36, 49, 64, 81]);
+        square_often(&rt, alloc, &pool, slots, 8, 1, &SQUARES)?;
         is(&rt, calls.in_all(), (jobs, jobs));
         is(&rt, calls.of_job(0), (1, 1));
     }
     Ok(())
 }
 
+// A round over two items, and one over a sole number alone.
 #[test]
 fn one_slot_is_one_direct_job(rt: HostRuntime) -> Result<(), Fault> {
     let alloc = rt.alloc();
     let pool = Pool::with_starts(4, Limits::new(), NoGate, 0);
-    let places = with_slots::<Place, _, _, _, _, _>(&rt, alloc, &pool, 16, 1, |leader| {
-        is(&rt, leader.max_num_threads(), 4);
-        is(&rt, leader.current_num_threads(), 1);
-        is(&rt, leader.current_thread_index(), None);
-        leader.relieve_workers();
-        leader.for_each(&rt, alloc, 8, vec![in alloc; 0, 1]?)
-    })??;
-    are(&rt, &places, &[(None, 1, 4), (None, 1, 4)]);
-    Ok(())
-}
-
-#[test]
-fn a_sole_number_is_one_direct_job(rt: HostRuntime) -> Result<(), Fault> {
-    let alloc = rt.alloc();
-    let pool = Pool::with_starts(4, Limits::new(), NoGate, 0);
-    let places = with_slots::<Place, _, _, _, _, _>(
+    let (two, sole) = with_slots::<Place, _, _, _, _, _>(
         &rt,
         alloc,
         &pool,
@@ -177,16 +165,25 @@ fn a_sole_number_is_one_direct_job(rt: HostRuntime) -> Result<(), Fault> {
         1,
         |leader|
             requires { lock_slots leader.old ≡ 1 }
-        { leader.for_each_raw(&rt, alloc, 1) },
+        {
+            is(&rt, leader.max_num_threads(), 4);
+            is(&rt, leader.current_num_threads(), 1);
+            is(&rt, leader.current_thread_index(), None);
+            leader.relieve_workers();
+            let sole = leader.for_each_raw(&rt, alloc, 1)?;
+            let two = leader.for_each(&rt, alloc, 8, Vec::from_array(alloc, [0, 1])?)?;
+            Ok::<_, Fault>((two, sole))
+        },
     )??;
-    are(&rt, &places, &[(None, 1, 4)]);
+    are(&rt, &two, &[(None, 1, 4), (None, 1, 4)]);
+    are(&rt, &sole, &[(None, 1, 4)]);
     Ok(())
 }
 
 #[test]
 fn a_leader_alone_has_number_0_in_a_round_in_slots(rt: HostRuntime) -> Result<(), Fault> {
     let pool = Pool::new(16, Limits::new(), NoGate);
-    let places = places(&rt, rt.alloc(), &pool, 1, 2)?;
+    let (places, _counts) = places_often(&rt, rt.alloc(), &pool, 1, 2, 1)?;
     are(&rt, &places, &[(Some(0), 1, 1), (Some(0), 1, 1)]);
     Ok(())
 }
@@ -195,16 +192,7 @@ fn a_leader_alone_has_number_0_in_a_round_in_slots(rt: HostRuntime) -> Result<()
 fn more_slots_than_memory_holds_are_refused(rt: HostRuntime) {
     let opened = AtomicUsize::new(0);
     let pool = Pool::new(4, Limits::new(), NoGate);
-    let refused = with_slots::<Square, _, _, _, _, _>(
-        &rt,
-        rt.alloc(),
-        &pool,
-        4,
-        4294967295,
-        |_leader| {
-            opened.fetch_add(1, Ordering::SeqCst);
-        },
-    );
+    let refused = open_once(&rt, rt.alloc(), &pool, 4294967295, &opened);
     holds(&rt, matches!(refused, Err(Fault::Memory)));
     is(&rt, opened.load(Ordering::SeqCst), 0);
 }
@@ -221,7 +209,7 @@ fn two_jobs_in_slots_wait_for_each_other(rt: HostRuntime) -> Result<(), Fault> {
 #[test]
 fn four_threads_at_once_have_four_numbers_in_slots(rt: HostRuntime) -> Result<(), Fault> {
     let meetings = Meetings::new();
-    let places = places(&rt, rt.alloc(), &meetings.pool(4), 4, 4)?;
+    let (places, _counts) = places_often(&rt, rt.alloc(), &meetings.pool(4), 4, 4, 1)?;
     is(&rt, meetings.counts(), (4, 0));
     holds(&rt, one_each(&places, 4));
     Ok(())
@@ -230,17 +218,11 @@ fn four_threads_at_once_have_four_numbers_in_slots(rt: HostRuntime) -> Result<()
 // The number of threads is read when the job asks for it: at the gate both have come.
 #[test]
 fn two_jobs_in_slots_that_met_each_count_two_threads(rt: HostRuntime) -> Result<(), Fault> {
-    let alloc = rt.alloc();
     let meetings = Meetings::new();
-    let pool = meetings.pool(2);
-    with_slots::<Place, _, _, _, _, _>(&rt, alloc, &pool, 2, 2, |leader| {
-        for _ in 0..50 {
-            let places = leader.for_each(&rt, alloc, 2, vec![in alloc; 0, 1]?)?;
-            is(&rt, (places[0].1, places[1].1), (2, 2));
-            is(&rt, leader.current_num_threads(), 2);
-        }
-        Ok::<(), Fault>(())
-    })??;
+    let (places, counts) = places_often(&rt, rt.alloc(), &meetings.pool(2), 2, 2, 50)?;
+    is(&rt, (places.len(), counts.len()), (100, 50));
+    holds(&rt, places.iter().all(|place| place.1 == 2));
+    holds(&rt, counts.iter().all(|count| *count == 2));
     is(&rt, meetings.counts(), (100, 0));
     Ok(())
 }
@@ -250,9 +232,7 @@ fn threads_that_cannot_be_started_change_no_answer_in_slots(rt: HostRuntime) -> 
     let alloc = rt.alloc();
     for starts in 0..4 {
         let pool = Pool::with_starts(4, Limits::new(), NoGate, starts);
-        let numbers = vec![in alloc; 0, 1, 2, 3, 4, 5, 6, 7, 8, 9]?;
-        let squares = squares(&rt, alloc, &pool, 7, 7, numbers)?;
-        are(&rt, &squares, &[0, 1, 4, 9, 16, 25, 36, 49, 64, 81]);
+        square_often(&rt, alloc, &pool, 7, 7, 1, &SQUARES)?;
     }
     Ok(())
 }
