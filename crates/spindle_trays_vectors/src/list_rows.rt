@@ -78,28 +78,42 @@ fn a_list_comes_out_again_where_no_clone_is_left(rt: HostRuntime) -> Result<(), 
 #[test]
 fn lists_are_equal_item_by_item(rt: HostRuntime) -> Result<(), Fault> {
     let alloc = rt.alloc();
-    let list = SharedList::from_vec(alloc, vec![in alloc; 1u32, 2, 3, 1, 2]?)?;
-    let shorter = SharedList::from_vec(alloc, vec![in alloc; 1u32, 2, 3]?)?;
-    let other = SharedList::from_vec(alloc, vec![in alloc; 9u32, 2, 3]?)?;
-    let empty = SharedList::from_vec(alloc, Vec::<u32>::new(alloc))?;
-    holds(
-        &rt,
-        list != shorter && shorter != other && empty != shorter && empty.is_empty(),
-    );
-    holds(
-        &rt,
-        list.run(0, 2)? == list.run(3, 5)? && list.run(0, 2)? != list.run(1, 3)?,
-    );
-    holds(
-        &rt,
-        list.run(0, 3)? == shorter.run(0, 3)? && list.run(4, 4)? == empty.run(0, 0)?,
-    );
-    let pairs = SharedList::from_vec(alloc, vec![in alloc; (1u8, true), (2, false)]?)?;
-    holds(&rt, is_input(&list) && is_input(&pairs.run(0, 2)?));
-    holds(
-        &rt,
-        pairs == pairs.clone()? && pairs.run(0, 1)? != pairs.run(1, 2)?,
-    );
+    let list = five(alloc)?;
+    let shorter = SharedList::from_vec(alloc, Vec::from_array(alloc, [1, 2, 3])?)?;
+    let other = SharedList::from_vec(alloc, Vec::from_array(alloc, [9, 2, 3])?)?;
+    let empty = SharedList::from_vec(alloc, Vec::new(alloc))?;
+    holds(&rt, list != shorter && shorter != other && is_input(&list));
+    holds(&rt, empty != shorter && empty.is_empty());
+    Ok(())
+}
+
+#[test]
+fn runs_are_equal_item_by_item(rt: HostRuntime) -> Result<(), Fault> {
+    let alloc = rt.alloc();
+    let list = SharedList::from_vec(alloc, Vec::from_array(alloc, [1, 2, 3, 1, 2])?)?;
+    let first = list.run(0, 2)?;
+    holds(&rt, first == list.run(3, 5)?);
+    holds(&rt, first != list.run(1, 3)?);
+    Ok(())
+}
+
+#[test]
+fn runs_of_two_lists_are_equal_item_by_item(rt: HostRuntime) -> Result<(), Fault> {
+    let alloc = rt.alloc();
+    let list = SharedList::from_vec(alloc, Vec::from_array(alloc, [1, 2, 3, 1, 2])?)?;
+    let shorter = SharedList::from_vec(alloc, Vec::from_array(alloc, [1, 2, 3])?)?;
+    let empty = SharedList::from_vec(alloc, Vec::new(alloc))?;
+    holds(&rt, list.run(0, 3)? == shorter.run(0, 3)?);
+    holds(&rt, list.run(4, 4)? == empty.run(0, 0)?);
+    Ok(())
+}
+
+#[test]
+fn lists_of_pairs_and_their_runs_are_equal_item_by_item(rt: HostRuntime) -> Result<(), Fault> {
+    let alloc = rt.alloc();
+    let pairs = SharedList::from_vec(alloc, Vec::from_array(alloc, [(1u8, true), (2, false)])?)?;
+    holds(&rt, pairs == pairs.clone()? && is_input(&pairs.run(0, 2)?));
+    holds(&rt, pairs.run(0, 1)? != pairs.run(1, 2)?);
     Ok(())
 }
 
@@ -170,18 +184,24 @@ fn chunks_have_what_stands_around_them(rt: HostRuntime) -> Result<(), Fault> {
 }
 
 #[test]
-fn the_first_failure_is_the_answer(rt: HostRuntime) -> Result<(), Fault> {
+fn answers_none_of_which_failed_are_one_list(rt: HostRuntime) -> Result<(), Fault> {
     let alloc = rt.alloc();
     let mut answers = Vec::<Result<Vec<u32>, u8>>::new(alloc);
-    answers.push(Ok(vec![in alloc; 1, 2]?))?;
+    answers.push(Ok(Vec::from_array(alloc, [1, 2])?))?;
     answers.push(Ok(Vec::new(alloc)))?;
-    answers.push(Ok(vec![in alloc; 3]?))?;
+    answers.push(Ok(Vec::from_array(alloc, [3])?))?;
     let Ok(all) = gathered(alloc, answers)? else {
         panic!(rt; "nothing failed");
     };
     are(&rt, &all, &[1, 2, 3]);
+    Ok(())
+}
+
+#[test]
+fn the_first_failure_is_the_answer(rt: HostRuntime) -> Result<(), Fault> {
+    let alloc = rt.alloc();
     let mut answers = Vec::<Result<Vec<u32>, u8>>::new(alloc);
-    answers.push(Ok(vec![in alloc; 1, 2]?))?;
+    answers.push(Ok(Vec::from_array(alloc, [1, 2])?))?;
     answers.push(Err(7))?;
     answers.push(Err(8))?;
     holds(&rt, matches!(gathered(alloc, answers)?, Err(7)));

@@ -13,6 +13,26 @@ use std::process::Abort;
 use std::sync::Wait;
 use std::test::Fail;
 
+// Takes a piece of five out of the trays, which gives it once, and brings it back as the piece of its number with an item. A piece of
+// another number is only made.
+fn bring_back<H: Wait + Abort>(
+    rt: &H,
+    alloc: Global,
+    trays: &Trays<Square>,
+    number: usize,
+    item: usize,
+) -> Result<(), Fail> {
+    if number < 5 {
+        holds(rt, trays.take(rt, 5, number).is_some());
+        holds(rt, trays.take(rt, 5, number).is_none());
+    }
+    let finished = squared(alloc, number, item)?;
+    if finished.number() < 5 {
+        holds(rt, trays.put(rt, 5, finished).is_ok());
+    }
+    Ok(())
+}
+
 // What comes of five pieces, [1] to [5], of which these were taken and brought back, each as the piece of a number with an
 // item. Two trays hold them: 0, 1 and 4 stand in the first, 2 and 3 in the second.
 fn gathered<H: Wait + Abort>(
@@ -28,14 +48,7 @@ fn gathered<H: Wait + Abort>(
     let trays = Trays::<Square>::new(alloc, 2)?;
     trays.hand_out(rt, alloc, &pieces, &mut Spares::none(alloc))?;
     for (number, item) in brought_back {
-        if *number < 5 {
-            holds(rt, trays.take(rt, 5, *number).is_some());
-            holds(rt, trays.take(rt, 5, *number).is_none());
-        }
-        let finished = squared(alloc, *number, *item)?;
-        if finished.number() < 5 {
-            holds(rt, trays.put(rt, 5, finished).is_ok());
-        }
+        bring_back(rt, alloc, &trays, *number, *item)?;
     }
     let mut outputs = Vec::with_capacity(alloc, len)?;
     let answer = trays.gather(rt, &pieces, &mut outputs);
