@@ -55,6 +55,21 @@ pub run_ends : (n threads thread : ℕ) → 0 < threads → thread < threads →
 run_ends n threads thread h k =
     omega (arith, mul-le-mul_left {m = thread + 1} {n = threads} (n / threads) (omega arith))
 
+-- a run ends where the next one begins
+pub next_run : (each thread place : ℕ) → each ≤ place → place ≤ each → each * thread + place ≡ each * (thread + 1)
+next_run each thread place h k = omega (arith, h, k)
+
+-- the runs of all threads end where the left-over numbers begin
+pub all_runs : (each thread threads : ℕ) → threads ≤ thread → thread ≤ threads → each * thread ≡ each * threads + 0
+all_runs each thread threads h k = omega (arith, ap (λ t. each * t) {x = thread} {y = threads} (omega (arith, h, k)))
+
+-- and the left-over numbers end where all do
+pub all_numbers : (n threads thread : ℕ) → n % threads ≤ thread → thread ≤ n % threads → n / threads * threads + thread ≡ n
+all_numbers n threads thread h k = omega (arith, h, k, div-add-mod' n threads)
+
+pub rest_within : (n threads thread : ℕ) → thread < n % threads → n / threads * threads + thread < n
+rest_within n threads thread h = omega (arith, h, div-add-mod' n threads)
+
 no_runs : (each threads number : ℕ) → each ≤ 0 → number < each * threads → 0 < each
 no_runs zero threads number e h = absurd (omega (arith, h))
 no_runs (suc each) threads number e h = omega arith

@@ -21,6 +21,11 @@ use Rattle.spindle_trays.specs.PieceRuns.{items_before, piece_at, piece_start}
 use Rattle.spindle_trays.specs.declared.lock.report.Report.{Report}
 use Rattle.spindle_trays.specs.declared.work.tally.Tally.{Tally}
 
+-- as many pieces are noted, however their number is written
+pub noted_at : {A B : Type 0} (Meets : A → B → Type 0) (Fails : B → Type 0) (items : List A) (n : ℕ) (left : List Bool) (tally : Tally B) {j k : ℕ} → j ≡ k
+    → IsNoted Meets Fails items n left j tally → IsNoted Meets Fails items n left k tally
+noted_at Meets Fails items n left tally e noted = subst (λ (m : ℕ). IsNoted Meets Fails items n left m tally) e noted
+
 -- of one number more
 filter_next : (p : ℕ → Bool) (k : ℕ) (b : Bool) → p k ≡ b → filter p (counted 0 (k + 1)) ≡ filter p (counted 0 k) ++ cond b (k ∷ []) []
 filter_next p k b e = rw (counted_snoc 0 k, zero-add k, filter-append p (counted 0 k) (k ∷ []), e) refl

@@ -1,4 +1,6 @@
 -- What contracts see of a leader.
+use denote.Ref.{MutBor}
+use Rattle.std.specs.Fn.{Once, FnOnceReturnsAtMut}
 use Rattle.std.specs.Prelude.{◌≡◌, ◌↔◌, ℕ, Bool, List, true}
 use Rattle.spindle_parts.specs.declared.fault.Fault.{Fault}
 use Rattle.spindle_parts.specs.declared.fault.Fault.TheVariants.{Memory, Lost}
@@ -24,6 +26,15 @@ threads_of leader = (crew_of leader.post).most
 -- how many of them may take part in its rounds: 1 where it works alone
 abbrev pub hands_of : {J G L I O N S : Type 0} → Leader J G L I O N S → ℕ
 hands_of leader = (crew_of leader.post).threads
+
+-- f was called with a leader of a lock of so many threads,
+-- of which so many may take part, and returned r
+unfoldable pub WasLed : {J G L I O N S F R : Type 0} → (threads hands : ℕ)
+    → Once F (MutBor (Leader J G L I O N S) × Unit {0}) (R × (MutBor (Leader J G L I O N S) × Unit {0}))
+    → F → R → Type 0
+WasLed {J} {G} {L} {I} {O} {N} {S} threads hands g f r =
+    (old : Leader J G L I O N S) × (new : Leader J G L I O N S)
+    × (threads_of old ≡ threads) × (hands_of old ≡ hands) × FnOnceReturnsAtMut g f old r new
 
 -- what its seat at the round table knows, with the trail of its own steps
 abbrev pub view_of : {J G L I O N S : Type 0} → Leader J G L I O N S → View (Unit {0})

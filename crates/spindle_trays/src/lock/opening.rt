@@ -1,7 +1,6 @@
 //! Starting the helpers of a lock, and running its closure beside them.
 ghost use Rattle.std.specs.Prelude.{◌≡◌, []};
-ghost use Rattle.std.specs.Fn.{FnOnceReturnsAtMut};
-ghost use Rattle.spindle_trays.specs.Leaders.{threads_of, hands_of};
+ghost use Rattle.spindle_trays.specs.Leaders.{WasLed};
 ghost use Rattle.spindle_trays.specs.Opening.{AreSeatsAt};
 
 use crate::crew::leader_post::LeaderPost;
@@ -156,9 +155,8 @@ where
     J::Inner: Send,
     <J::Inner as Nest>::Slots: Send + Sync,
     requires callable { F.IsAlwaysCallable f }
-    ensures { (old : _) × (new : _) × (threads_of old ≡ entrant.entry.tables.now.crew.most)
-        × (hands_of old ≡ entrant.entry.tables.now.crew.threads)
-        × FnOnceReturnsAtMut F.FnOnce f old result new }
+    ensures { let crew = entrant.entry.tables.now.crew in
+        WasLed crew.most crew.threads F.FnOnce f result }
 {
     let Entrant {
         tables,

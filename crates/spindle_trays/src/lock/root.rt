@@ -1,7 +1,7 @@
 //! Opening a root lock: its tables are made, its helpers start, and at its end they are dismissed and joined.
 ghost use Rattle.std.specs.Prelude.{◌≡◌, ◌<◌, IfOk, OnErr, IsErrOf};
 ghost use Rattle.std.specs.Fn.{FnOnceReturnsAtMut};
-ghost use Rattle.spindle_trays.specs.Leaders.{threads_of, hands_of};
+ghost use Rattle.spindle_trays.specs.Leaders.{threads_of, hands_of, WasLed};
 ghost use Rattle.spindle_trays.specs.Locks.{lock_threads};
 
 use crate::crew::Crew;
@@ -74,18 +74,16 @@ where
     J::Inner: Send,
     <J::Inner as Nest>::Slots: Send + Sync,
     requires callable { F.IsAlwaysCallable f }
-    ensures { (old : _) × (new : _) × (threads_of old ≡ entrant.entry.tables.now.crew.most)
-        × (hands_of old ≡ entrant.entry.tables.now.crew.threads)
-        × FnOnceReturnsAtMut F.FnOnce f old result new }
+    ensures { let crew = entrant.entry.tables.now.crew in
+        WasLed crew.most crew.threads F.FnOnce f result }
 {
     thread::scope(
         thread::scope_env(),
         rt,
         |scope| -> R
             requires callable { F.IsAlwaysCallable f }
-            ensures { (old : _) × (new : _) × (threads_of old ≡ entrant.entry.tables.now.crew.most)
-                × (hands_of old ≡ entrant.entry.tables.now.crew.threads)
-                × FnOnceReturnsAtMut F.FnOnce f old result new }
+            ensures { let crew = entrant.entry.tables.now.crew in
+                WasLed crew.most crew.threads F.FnOnce f result }
         { lead::<_, J, G, R, F, L, H>(scope, rt, alloc, entrant, f) },
     )
 }

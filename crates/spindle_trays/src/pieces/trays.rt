@@ -238,15 +238,15 @@ impl<J: Job> Trays<J> {
             pieces.now.items pieces.now.count left.now pieces.now.count tally.new }
     {
         let threads = self.trays.len();
-        let each = pieces.count() / threads;
-        let rest = pieces.count() % threads;
+        let count = pieces.count();
+        let each = count / threads;
         for thread in 0..threads {
             let mut tray = self.trays[thread].lock(rt);
             for place in 0..each {
                 tray.tally(place, pieces, left, each * thread + place, tally);
             }
         }
-        for thread in 0..rest {
+        for thread in 0..count % threads {
             let mut tray = self.trays[thread].lock(rt);
             tray.tally(each, pieces, left, each * threads + thread, tally);
         }

@@ -1,8 +1,10 @@
 -- The leader of the closure is one of this lock.
 use Rattle.std.proofs.Common.{ap, refl, ◌∙◌}
+use Rattle.spindle_trays.specs.Leaders.{WasLed}
 use Rattle.spindle_trays.proofs.lock.opening.lead.Goals as goal
 
 pub returns : goal.returns
+unfolding WasLed
 returns g c = let e = c.new-leader.ensures in let t = c.muster-post.ensures.tables in (
   c.new-leader.result,
   _,

@@ -1,10 +1,12 @@
 -- The closure was called with a leader of this lock.
 use Rattle.std.proofs.Common.{◌≡◌, ap, sym, ◌∙◌, rules}
 use Rattle.spindle_trays.specs.declared.crew.Crew.{Crew}
+use Rattle.spindle_trays.specs.Leaders.{WasLed}
 use Rattle.spindle_trays.specs.Locks.{lock_threads}
 use Rattle.spindle_trays.proofs.lock.root.with_lock.Goals as goal
 
 pub returns-clause-promise : goal.returns-clause-promise
+unfolding WasLed
 returns-clause-promise g c =
     let crew = c.in_ok-tables.ensures.crew in let new = c.new-crew.ensures in
     let size : c.new-crew.result.most ≡ lock_threads c.args.pool.now.threads c.args.max_threads =
