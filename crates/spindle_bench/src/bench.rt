@@ -6,7 +6,7 @@ use crate::jobs::nested::{AddInRounds, AddInRoundsInPlace};
 use crate::jobs::products::Multiply;
 use crate::jobs::small::{Nothing, NothingInPlace, Stir, StirInPlace};
 use crate::jobs::smooth::{Smooth, SmoothInPlace};
-use crate::jobs::stencils::{AddOne, AddOneInPlace};
+use crate::jobs::stencils::{AddOne, AddOneByLines};
 use crate::locks::{in_place, in_slots, in_trays};
 use crate::rounds::maps::{MapPlaceRounds, MapRounds};
 use crate::rounds::nested::{NestedPlaceRounds, NestedRounds};
@@ -98,7 +98,7 @@ fn run_in_place<H: Threads + Wait + Sync + Clock + Print + Alloc<A = Global>>(
         Shape::Nested => in_trays::<AddInRoundsInPlace, NestedPlaceRounds, H>(rt, settings, shape),
         Shape::Map => in_place::<InPlace<SquareInPlace>, MapPlaceRounds, H>(rt, settings, shape),
         Shape::Stencil4k | Shape::Stencil256k => in_place::<
-            InPlace<AddOneInPlace>,
+            InPlace<AddOneByLines>,
             StencilPlaceRounds,
             H,
         >(rt, settings, shape),

@@ -17,8 +17,8 @@
 //!   what a round answers is the next round's items. The lists that the jobs answer are the next round's items too. In place a job
 //!   copies its list into four, opens a lock in place for the sixteen rounds, and copies the numbers into a list again.
 //! - `stencil4k`, `stencil256k`: `for_each` over 4096 or 262144 numbers, in one shared list a thread; a job answers a list of
-//!   each number and one more, and these lists are the next round's items. In place an item is a list, one a thread, and
-//!   a job adds one to each of its numbers where they stand.
+//!   each number and one more, and these lists are the next round's items. In place an item is a list, one a thread, with pages of
+//!   its own, and a job adds one to each of its numbers where they stand, by whole cache lines.
 //! - `stencil100`: a round is a hundred passes of a three-point stencil over 4096 numbers. A pass cuts the list of all numbers into
 //!   one chunk a thread, each with the number before it and the one behind it, runs `for_each` over them, and joins
 //!   the answers. In place the numbers are copied once a round into one strip a thread; a pass tells each strip its neighbours' ends,

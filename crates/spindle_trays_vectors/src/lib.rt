@@ -14,8 +14,6 @@ mod gathering_rows;
 pub mod jobs;
 #[cfg(test)]
 mod leader_rows;
-#[cfg(test)]
-mod list_rows;
 pub mod lists;
 #[cfg(test)]
 mod marks;

@@ -9,6 +9,9 @@ use std::alloc::Global;
 use std::sync::Wait;
 use std::thread::Threads;
 
+/// So many numbers stand between a place 16 bytes behind the beginning of a cache line and the next line.
+const BEFORE_A_LINE: usize = 6;
+
 /// Answers a list of each number and one more.
 pub struct AddOne;
 
@@ -60,6 +63,37 @@ impl Remake for AddOneInPlace {
         one_more_each(item.as_mut_slice());
         item
     }
+}
+
+/// The same by whole cache lines, where the list's first number stands 16 bytes behind the beginning of one.
+pub struct AddOneByLines;
+
+impl Remake for AddOneByLines {
+    type Item = Vec<u64>;
+
+    type Inner = End;
+
+    ghost remade = { λ old new. new.items ≡ one_more_of old.items };
+
+    fn run<H: Threads + Wait + Sync>(
+        _rt: &H,
+        _alloc: Global,
+        mut item: Vec<u64>,
+        _cx: &mut JobCx<End>,
+    ) -> Vec<u64> {
+        one_more_by_lines(item.as_mut_slice());
+        item
+    }
+}
+
+// One more of each number, in its place: of those before the first whole line, and then of the others.
+fn one_more_by_lines(numbers: &mut [u64])
+    ensures { numbers.new ≡ one_more_of numbers.old }
+{
+    let first = numbers.len().min(BEFORE_A_LINE);
+    let (before, lines) = numbers.split_at_mut(first);
+    one_more_each(before);
+    one_more_each(lines);
 }
 
 /// One more of each number, in its place; the sum wraps.

@@ -2,7 +2,7 @@
 ghost use Rattle.std.specs.Prelude.{◌≡◌, ◌<◌};
 ghost use denote.Param.Send.{IsSync};
 
-use crate::jobs::stencils::{AddOne, AddOneInPlace};
+use crate::jobs::stencils::{AddOne, AddOneByLines};
 use crate::rounds::{PlaceRounds, Rounds, SlotRounds, TrayRounds};
 use spindle::lock::{InPlace, Leader, NoGate, PlacePost, SlotLeader};
 use spindle::{Fault, SharedList};
@@ -12,6 +12,10 @@ use std::alloc::Global;
 use std::mem;
 use std::sync::Wait;
 use std::thread::Threads;
+
+/// A list with room for so many numbers, 32 MiB, has pages of its own whatever was let go before, since the C library maps it, and its
+/// first number stands 16 bytes behind their beginning. Room that isn't used takes no memory.
+const OWN_PAGES: usize = 4194304;
 
 // The numbers of a round of this shape.
 fn numbers_of(shape: Shape) -> usize {
@@ -88,7 +92,14 @@ impl TrayRounds<AddOne> for StencilRounds {
     }
 }
 
-/// Rounds over lists whose numbers a job changes in their place.
+// So many zeros, in a list with pages of its own.
+fn zeros_on_own_pages(alloc: Global, count: usize) -> Result<Vec<u64>, Stop> {
+    let mut zeros = Vec::with_capacity(alloc, OWN_PAGES)?;
+    zeros.resize(count, 0)?;
+    Ok(zeros)
+}
+
+/// Rounds over lists whose numbers a job changes in their place. Each has pages of its own, so that jobs add by whole cache lines.
 #[derive(Drop)]
 pub struct StencilPlaceRounds {
     chunks: Vec<Vec<u64>>,
@@ -99,7 +110,7 @@ impl Rounds for StencilPlaceRounds {
         let each = numbers_of(shape) / jobs;
         let mut chunks = Vec::with_capacity(alloc, jobs)?;
         for _ in 0..jobs {
-            chunks.push(vec![in alloc; 0u64; each]?)?;
+            chunks.push(zeros_on_own_pages(alloc, each)?)?;
         }
         Ok(StencilPlaceRounds { chunks })
     }
@@ -110,12 +121,12 @@ impl Rounds for StencilPlaceRounds {
     }
 }
 
-impl PlaceRounds<InPlace<AddOneInPlace>> for StencilPlaceRounds {
+impl PlaceRounds<InPlace<AddOneByLines>> for StencilPlaceRounds {
     fn in_place<H: Threads + Wait + Sync>(
         &mut self,
         rt: &H,
         alloc: Global,
-        leader: &mut SlotLeader<InPlace<AddOneInPlace>, NoGate, PlacePost<InPlace<AddOneInPlace>>>,
+        leader: &mut SlotLeader<InPlace<AddOneByLines>, NoGate, PlacePost<InPlace<AddOneByLines>>>,
     ) -> Result<(), Stop> {
         let jobs = self.chunks.len();
         leader.remake_each(rt, alloc, jobs, &mut self.chunks)?;
