@@ -1,8 +1,8 @@
 -- Dealing: each hand has room for what it gets, and gets what is its own.
 use Rattle.std.proofs.Common.{◌≡◌, ℕ, ◌+◌, ◌-◌, ◌*◌, ◌/◌, ◌<◌, ◌≤◌, [], ◌++◌, map, take, drop, set, min, reverse, replicate, get_or, List, Vec, Global, vec_len}
 use Rattle.std.proofs.Common.{vec_capacity, arith, rules, sym, ap, ◌∙◌, length, refl}
-use Rattle.std.proofs.lemmas.List.{get_or-map, length-map, length-drop, length-take, drop-drop, map-set, set-get_or, length-reverse, reverse-reverse, take_at, drop_all}
-use Rattle.std.proofs.lemmas.List.{nil_from_length, append-nil}
+use Rattle.std.proofs.lemmas.List.{get_or-map, length-map, length-drop, length-take, drop-drop, map-set, set-get_or, length-reverse, take_at, drop_all}
+use Rattle.std.proofs.lemmas.List.{nil_from_length, append-nil, reverse-reverse}
 use Rattle.std.proofs.lemmas.Simd.{map-map}
 use Rattle.std.proofs.Math.Nat.{min-le_left}
 use Rattle.spindle_parts.specs.declared.cut.Piece.{Piece}

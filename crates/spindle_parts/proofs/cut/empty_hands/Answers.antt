@@ -36,9 +36,6 @@ loop-thread-preserved g c =
       room = omega arith;
     }
 
-pub push_reserved-requires : goal.push_reserved-requires
-push_reserved-requires g c = omega (arith, c.loop-thread.invariant.len, c.loop-thread.invariant.room, c.loop-thread-test.true)
-
 pub returns : goal.returns
 returns g c =
     let ls : List ℕ = lengths_of c.args.count c.args.threads in

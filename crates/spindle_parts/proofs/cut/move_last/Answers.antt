@@ -27,7 +27,8 @@ pub returns : goal.returns
 returns g c =
     let R : List (Piece g.row.T.Denot) = reverse c.args.pieces.now.items in
     let n : c.loop.counter ≡ min c.args.count (length R) =
-    omega (arith, c.loop.auto.counter-end, c.loop-test.false, c.min-end.ensures, c.len.ensures, c.args.pieces.now.ok.0, length-reverse c.args.pieces.now.items) in
+    let l = length-reverse c.args.pieces.now.items in
+    omega (arith, c.loop.auto.counter-end, c.loop-test.false, c.min-end.ensures, c.len.ensures, c.args.pieces.now.ok.0, l) in
     record {
       hand = c.loop.invariant.hand ∙ ap (λ k. c.args.hand.now.items ++ take k R) n ∙ ap (λ t. c.args.hand.now.items ++ t) (take_min c.args.count R);
       pieces = c.loop.invariant.pieces ∙ ap (λ k. drop k R) n ∙ drop_min c.args.count R;
