@@ -1,6 +1,6 @@
 -- Cutting from the back: what is cut joined with what is left is the list, and the pieces count down.
 use Rattle.std.proofs.Common.{◌≡◌, ℕ, ◌+◌, ◌≤◌, ◌<◌, ◌-◌, ◌++◌, ◌∷◌, [], length, take, drop, arith, rules, vec_len, sym, map, get_or, List, ◌∙◌, ap}
-use Rattle.std.proofs.Common.{append_assoc, min, reverse, refl, add-one}
+use Rattle.std.proofs.Common.{append_assoc, length-append, min, reverse, refl, add-one}
 use Rattle.std.proofs.lemmas.List.{take-append-drop, take_all, drop_all, drop_more, get_or_default, append-nil, nil_from_length}
 use Rattle.spindle_parts.specs.declared.cut.Piece.{Piece}
 use Rattle.spindle_parts.specs.Pieces.{joined, counted, total, cut_lengths}
@@ -91,25 +91,34 @@ loop-done-preserved g c =
       block = search rules;
     }
 
-pub returns-clause-joined : goal.returns-clause-joined
-returns-clause-joined g c =
-    let f : Piece g.row.T.Denot → List g.row.T.Denot = λ p. p.items.items in
-    let z : c.len-count.result - c.loop-done.done ≡ 0 = omega arith in
-    let none : c.loop-done.items.items ≡ [] =
-    nil_from_length c.loop-done.items.items (c.loop-done.invariant.left ∙ ap (λ m. total (take m c.in_ok-lengths.lengths.items)) z) in
-    let j : joined (reverse (map f c.loop-done.pieces.items)) ≡ c.args.items.now.items = rw none at c.loop-done.invariant.joined in
-    rw (c.reverse.ensures.items, map-reverse f c.loop-done.pieces.items) j
+pub put_back-requires : goal.put_back-requires
+put_back-requires g c =
+    let rest : List g.row.T.Denot = joined (reverse (map (λ (p : Piece g.row.T.Denot). p.items.items) c.loop-done.pieces.items)) in
+    let n : length c.loop-done.items.items + length rest ≡ length c.args.items.now.items =
+    sym (length-append c.loop-done.items.items rest) ∙ ap length c.loop-done.invariant.joined in
+    let now = c.args.items.now.ok in
+    record { room = rw c.in-Err.ensures.err (omega (arith, n, c.loop-done.items.ok.0, now.0, now.1, c.loop-done.invariant.block)) }
 
-pub returns-clause-lengths : goal.returns-clause-lengths
-returns-clause-lengths g c =
-    let z : c.len-count.result - c.loop-done.done ≡ 0 = omega arith in
-    let b : c.in_ok-lengths.lengths.items ≡ cut_lengths (vec_len c.args.items.now) c.args.n_jobs = search rules in
-    rw (c.reverse.ensures.items, map-reverse (λ (p : Piece g.row.T.Denot). vec_len p.items) c.loop-done.pieces.items)
-    (c.loop-done.invariant.lengths ∙ ap (λ m. drop m c.in_ok-lengths.lengths.items) z ∙ b)
-
-pub returns-clause-numbers : goal.returns-clause-numbers
-returns-clause-numbers g c =
-    let z : c.len-count.result - c.loop-done.done ≡ 0 = omega arith in
-    let b : c.loop-done.done ≡ vec_len c.reverse.new.self = sym (c.reverse.ensures.len ∙ c.loop-done.invariant.len) in
-    rw (c.reverse.ensures.items, map-reverse (λ (p : Piece g.row.T.Denot). p.number) c.loop-done.pieces.items)
-    (c.loop-done.invariant.numbers ∙ ap (λ m. counted m c.loop-done.done) z ∙ ap (λ m. counted 0 m) b)
+pub returns : goal.returns
+returns g c =
+    let P : Type 0 = Piece g.row.T.Denot in
+    let ls : List ℕ = c.in_ok-lengths.lengths.items in
+    let ps : List P = c.loop-done.pieces.items in
+    let left = c.loop-done.invariant in
+    let z : c.len-count.result - c.loop-done.done ≡ 0 = omega (arith, c.loop-done-test.false) in
+    let none : c.loop-done.items.items ≡ [] = nil_from_length c.loop-done.items.items (left.left ∙ ap (λ m. total (take m ls)) z) in
+    let n : c.loop-done.done ≡ vec_len c.reverse.new.self = sym (c.reverse.ensures.len ∙ left.len) in
+    record {
+      joined = rw (c.reverse.ensures.items, map-reverse (λ (p : P). p.items.items) ps) (rw none at left.joined);
+      lengths =
+          rw (c.reverse.ensures.items, map-reverse (λ (p : P). vec_len p.items) ps)
+          (left.lengths ∙ ap (λ m. drop m ls) z ∙ c.in_ok-lengths.ensures.lengths ∙ ap (λ m. cut_lengths m c.args.n_jobs) c.len.ensures);
+      numbers =
+          rw (c.reverse.ensures.items, map-reverse (λ (p : P). p.number) ps)
+          (left.numbers ∙ ap (λ m. counted m c.loop-done.done) z ∙ ap (λ m. counted 0 m) n);
+      taken = none;
+      memory = tt;
+      kept = tt;
+      block = omega (arith, left.block);
+      nothing = search rules;
+    }

@@ -2,7 +2,7 @@
 use Rattle.std.proofs.Common.{◌≡◌, ℕ, ◌+◌, ◌-◌, ◌*◌, ◌/◌, ◌<◌, ◌≤◌, [], ◌++◌, map, take, drop, set, min, reverse, replicate, get_or, List, Vec, Global, vec_len}
 use Rattle.std.proofs.Common.{vec_capacity, arith, rules, sym, ap, ◌∙◌, length, refl}
 use Rattle.std.proofs.lemmas.List.{get_or-map, length-map, length-drop, length-take, drop-drop, map-set, set-get_or, length-reverse, take_at, drop_all}
-use Rattle.std.proofs.lemmas.List.{nil_from_length, append-nil}
+use Rattle.std.proofs.lemmas.List.{nil_from_length, append-nil, reverse-reverse}
 use Rattle.std.proofs.lemmas.Simd.{map-map}
 use Rattle.std.proofs.Math.Nat.{min-le_left}
 use Rattle.spindle_parts.specs.declared.cut.Piece.{Piece}
@@ -23,6 +23,20 @@ empty f hands F threads i d h k e = sym (get_or-map f hands i d [] h) ∙ ap (λ
 room : {H : Type 0} (f : H → ℕ) (hands : List H) (len threads i : ℕ) (d : H) → i < length hands → map f hands ≡ lengths_of len threads
     → f (get_or hands i d) ≡ get_or (lengths_of len threads) i 0
 room f hands len threads i d h e = sym (get_or-map f hands i d 0 h) ∙ ap (λ z. get_or z i 0) e
+
+pub loop-hand-init : goal.loop-hand-init
+loop-hand-init g c =
+    let t = c.args.threads in
+    let ps : List (Piece g.row.T.Denot) = c.args.pieces.now.items in
+    let each = c.len-2.result / t in
+    let z : each * 0 ≡ 0 = omega arith in
+    let n : t - 0 ≡ t = omega arith in
+    record {
+      own = rw (c.reverse.ensures.items, c.in_ok-rest.ensures.items, z) (reverse-reverse (take (each * t) ps));
+      rest = rw (c.reverse-2.ensures.items, c.in_ok-rest.ensures.tail) (reverse-reverse (drop (each * t) ps));
+      hands = rw (c.deref_mut-hand-items.ensures.value, n) c.in_ok-hands.ensures.empty;
+      rooms = rw c.deref_mut-hand-items.ensures.value (c.in_ok-hands.ensures.rooms ∙ ap (λ n. lengths_of n t) c.len.ensures);
+    }
 
 pub move_last-requires : goal.move_last-requires
 move_last-requires g c =

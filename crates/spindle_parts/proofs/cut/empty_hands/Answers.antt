@@ -1,6 +1,6 @@
 -- Making the empty hands: one more, of the next length.
-use Rattle.std.proofs.Common.{◌≡◌, ℕ, ◌<◌, [], get_or, List, Vec, Global, vec_capacity, arith, rules, sym, ◌∙◌, length}
-use Rattle.std.proofs.lemmas.List.{map_push, take_more, replicate_more}
+use Rattle.std.proofs.Common.{◌≡◌, ℕ, ◌<◌, [], get_or, List, Vec, Global, vec_capacity, arith, rules, sym, ap, replicate, ◌∙◌, length}
+use Rattle.std.proofs.lemmas.List.{map_push, take_more, take_all, replicate_more}
 use Rattle.spindle_parts.specs.declared.cut.Piece.{Piece}
 use Rattle.spindle_parts.specs.Pieces.{lengths_of}
 use Rattle.spindle_parts.proofs.Deals.{length-lengths_of, longer_at, shorter_at}
@@ -34,4 +34,14 @@ loop-thread-preserved g c =
           (sym (take_more ls i 0 h));
       len = omega arith;
       room = omega arith;
+    }
+
+pub returns : goal.returns
+returns g c =
+    let ls : List ℕ = lengths_of c.args.count c.args.threads in
+    let n : c.loop-thread.thread ≡ c.args.threads = omega (arith, c.loop-thread.auto.thread-end, c.loop-thread-test.false) in
+    record {
+      empty = c.loop-thread.invariant.empty ∙ ap (λ k. replicate k []) n;
+      rooms = c.loop-thread.invariant.rooms ∙ take_all c.loop-thread.thread ls (omega (arith, n, length-lengths_of c.args.count c.args.threads c.requires));
+      memory = tt;
     }

@@ -1,5 +1,6 @@
 -- Moving pieces to a hand: the last of the list is the next of it read backwards.
-use Rattle.std.proofs.Common.{◌≡◌, ◌∷◌, [], reverse, take, drop, List, arith, sym, ap, ◌∙◌, append_assoc}
+use Rattle.std.proofs.Common.{◌≡◌, ◌∷◌, ◌++◌, [], reverse, take, drop, length, min, List, arith, sym, ap, ◌∙◌, append_assoc}
+use Rattle.std.proofs.lemmas.List.{take_min, drop_min, length-reverse}
 use Rattle.spindle_parts.specs.declared.cut.Piece.{Piece}
 use Rattle.spindle_parts.proofs.Lists.{reverse_snoc, taken_next, dropped_next}
 use Rattle.spindle_parts.proofs.cut.move_last.Goals as goal
@@ -20,4 +21,16 @@ loop-preserved g c =
       len = omega arith;
       hand_len = omega arith;
       room = omega arith;
+    }
+
+pub returns : goal.returns
+returns g c =
+    let R : List (Piece g.row.T.Denot) = reverse c.args.pieces.now.items in
+    let n : c.loop.counter ≡ min c.args.count (length R) =
+    let l = length-reverse c.args.pieces.now.items in
+    omega (arith, c.loop.auto.counter-end, c.loop-test.false, c.min-end.ensures, c.len.ensures, c.args.pieces.now.ok.0, l) in
+    record {
+      hand = c.loop.invariant.hand ∙ ap (λ k. c.args.hand.now.items ++ take k R) n ∙ ap (λ t. c.args.hand.now.items ++ t) (take_min c.args.count R);
+      pieces = c.loop.invariant.pieces ∙ ap (λ k. drop k R) n ∙ drop_min c.args.count R;
+      room = c.loop.invariant.room;
     }

@@ -1,5 +1,6 @@
 -- Putting pieces back: there is room for the last one, and then for the rest.
-use Rattle.std.proofs.Common.{◌≡◌, ◌+◌, ◌++◌, length, arith, sym, map, List, ◌∙◌, ap, length-append, reverse, append_assoc}
+use Rattle.std.proofs.Common.{◌≡◌, ◌+◌, ◌++◌, [], length, arith, sym, map, List, ◌∙◌, ap, length-append, reverse, append_assoc}
+use Rattle.std.proofs.lemmas.List.{append-nil, nil_from_length}
 use Rattle.spindle_parts.specs.declared.cut.Piece.{Piece}
 use Rattle.spindle_parts.specs.Pieces.{joined}
 use Rattle.spindle_parts.proofs.Lists.{back_snoc}
@@ -33,3 +34,9 @@ loop-preserved g c =
       len = omega (arith, c.take_last-run.ensures.len, c.loop.invariant.len);
       room = omega (arith, c.append.ensures.capacity, c.loop.invariant.room);
     }
+
+pub returns-clause-together : goal.returns-clause-together
+returns-clause-together g c =
+    let none : c.loop.pieces.items ≡ [] =
+    nil_from_length c.loop.pieces.items (omega (arith, c.loop.invariant.len, c.loop-test.false, c.len-end.ensures, c.loop.pieces.ok.0)) in
+    sym (append-nil c.loop.items.items) ∙ rw none at c.loop.invariant.together

@@ -1,6 +1,14 @@
 -- The attempt that succeeds, after others that didn't.
-use Rattle.spindle_rounds.proofs.BarrierClients.{stayed_on, moved_on, went_on, exit_gone, exit_closer, exit_again, keeps_on}
+use Rattle.std.proofs.Common.{ap}
+use Rattle.spindle_rounds.proofs.BarrierClients.{stayed_first, stayed_on, moved_on, went_on, exit_gone, exit_closer, exit_again, keeps_first, keeps_on}
 use Rattle.spindle_rounds.proofs.barrier.Barrier.exit.Goals as goal
+
+pub loop-init : goal.loop-init
+loop-init g c = (keeps_first c.args.self c.requires.held, stayed_first _)
+
+pub close_out-requires-clause-closer : goal.close_out-requires-clause-closer
+close_out-requires-clause-closer g c =
+    (_, _, _, ap (λ m. m.0.standing) (exit_closer c.loop.barrier.seat.me c.in-Closer.closer.seat.me c.in-Closer.ensures.1).seat)
 
 pub returns-in-Gone-clause-out : goal.returns-in-Gone-clause-out
 returns-in-Gone-clause-out g c = went_on _ _ _ c.loop.invariant.1 (exit_gone c.loop.barrier.seat.me c.in-Gone.seat.me c.in-Gone.ensures.1)

@@ -30,6 +30,12 @@ pub run-requires-clause-at : goal.run-requires-clause-at
 run-requires-clause-at g c κs within = let e = c.sees_stop.ensures in let a = c.in-Job.ensures.taken in
     (went_more _ _ _ c.sees_stop.new.seat c.try_claim.new.seat (went_then _ _ _ _ _ c.loop.invariant.went e.went) c.try_claim.ensures.seat a.0 (λ _. a.1)).at
 
+pub run-requires-clause-own : goal.run-requires-clause-own
+run-requires-clause-own g c κs within = c.in-Job.ensures.taken.2
+
+pub run-requires-clause-share : goal.run-requires-clause-share
+run-requires-clause-share g c κs within = c.in-Job.ensures.taken.3
+
 pub run-requires-clause-taken : goal.run-requires-clause-taken
 run-requires-clause-taken g c κs within = (c.sees_stop.new.seat.me.1, rw c.sees_stop.ensures.hands c.loop.invariant.holds, c.in-Job.ensures.taken.4)
 

@@ -16,6 +16,14 @@ loop-init g c = record {
   keeps = g.met.W.Work.keeps_same _;
 }
 
+pub put_back-requires-clause-free : goal.put_back-requires-clause-free
+put_back-requires-clause-free g c = let e = c.sees_stop.ensures in
+    (e.went.at.on.0.inside, e.same.1 ∙ c.loop.invariant.idle, e.seen ∙ c.if-sees_stop.true)
+
+pub next_of_share-requires-clause-free : goal.next_of_share-requires-clause-free
+next_of_share-requires-clause-free g c = let e = c.sees_stop.ensures in
+    (e.went.at.on.0.inside, e.same.1 ∙ c.loop.invariant.idle, e.seen ∙ c.if-sees_stop.false)
+
 pub returns-then-sees_stop-clause-went : goal.returns-then-sees_stop-clause-went
 returns-then-sees_stop-clause-went g c = went_then _ _ _ _ _ (went_then _ _ _ _ _ c.loop.invariant.went c.sees_stop.ensures.went) c.put_back.ensures.went
 
