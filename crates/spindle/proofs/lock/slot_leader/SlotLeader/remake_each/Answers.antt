@@ -6,3 +6,6 @@ returns-clause-remade g c = search rules
 
 pub returns-clause-played : goal.returns-clause-played
 returns-clause-played g c = search rules
+
+pub returns-clause-kept : goal.returns-clause-kept
+returns-clause-kept g c = search rules
