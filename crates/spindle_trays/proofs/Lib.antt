@@ -8,6 +8,6 @@ pub mod Reports
 pub mod ChunkRounds
 mod Helpers
 mod Leaving
-mod Refusals
+mod LeaderRounds
 pub mod Rooms
 mod Benches

@@ -1,7 +1,7 @@
 -- What was skipped is marked, what is marked was found left, and one job alone marks none.
 use Rattle.std.proofs.Common.{◌≡◌, ◌↔◌, ◌≤◌, ℕ, true, Contains, sym, subst, refl, ◌∙◌}
 use Rattle.std.proofs.lemmas.Result.{IfOk-weaker, err_from_is_err_and}
-use Rattle.spindle_trays.proofs.Refusals.{passed_on, none_marked, lost_refusal, lost_played}
+use Rattle.spindle_trays.proofs.LeaderRounds.{passed_on, none_marked, lost_refusal, lost_played}
 use Rattle.spindle_trays.specs.Leaders.{hands_of, view_of}
 use Rattle.spindle_trays.specs.Reports.{is_marked}
 use Rattle.spindle_trays.specs.declared.lock.report.Report.{Report}
