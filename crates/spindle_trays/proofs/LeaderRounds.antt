@@ -1,6 +1,6 @@
 -- Rounds of a leader: their jobs, where it stands between them, refusals that are passed on, and what a lost piece tells.
-use Rattle.std.proofs.Common.{◌≡◌, ℕ, ◌<◌, ◌≤◌, Bool, true, false, List, None, ⊎_elim, Result, Ok, Err, ap, ◌∙◌, replicate, zero, suc, sym, arith, length, min, ◌==◌, Vec, Global, vec_len}
-use Rattle.std.proofs.Common.{IsErrOf, IsErrAnd, IfErr, OnErr, subst}
+use Rattle.std.proofs.Common.{◌≡◌, ℕ, ◌<◌, ◌≤◌, Bool, true, false, List, None, ⊎_elim, Result, Ok, Err, ap, ◌∙◌, replicate, zero, suc, sym}
+use Rattle.std.proofs.Common.{arith, length, min, ◌==◌, Vec, Global, vec_len, IsErrOf, IsErrAnd, IfErr, OnErr, subst}
 use Rattle.std.proofs.lemmas.Bool.{cases_lt, false≢true}
 use Rattle.spindle_parts.specs.declared.fault.Fault.{Fault}
 use Rattle.spindle_parts.specs.declared.fault.Fault.TheVariants.{Memory, Lost}
@@ -37,6 +37,11 @@ pub pieces_are : {A : Type 0} (count jobs n_jobs : ℕ) (list : List A) (items :
     → jobs ≡ job_count (vec_len items) n_jobs → count ≡ job_count (vec_len items) n_jobs
 pieces_are count jobs n_jobs list items c e j = rw (c, e, j) (omega arith)
 
+-- where there are items for all jobs, there are as many pieces
+pub all_jobs : {A : Type 0} (count jobs : ℕ) (list : List A) (items : Vec A Global) → count ≡ min (length list) jobs → list ≡ items.items → jobs ≤ vec_len items
+    → count ≡ jobs
+all_jobs count jobs list items c e enough = rw (c, e) (omega arith)
+
 -- a round of items has some
 pub no_items : (len : ℕ) (empty : Bool) → empty ≡ (len == 0) → empty ≡ false → len ≡ 0 → false ≡ true
 no_items len empty is isnt none = sym isnt ∙ is ∙ ap (λ n. n == 0) {x = len} {y = 0} none
@@ -45,6 +50,15 @@ no_items len empty is isnt none = sym isnt ∙ is ∙ ap (λ n. n == 0) {x = len
 pub past_one : (jobs : ℕ) → 1 < jobs → jobs ≤ 1 → ⊥
 past_one jobs h k = omega arith
 
+-- one item is at most one job
+pub few_jobs : (n : ℕ) → n ≤ 1 → job_count n n ≤ 1
+few_jobs n few = omega arith
+
+-- a loop ends at its end
+pub same_end : (n m : ℕ) → n ≤ m → m ≤ n → n ≡ m
+same_end n m h k = omega arith
+
+-- a count that isn't 1 is more, and one that is isn't
 pub not_one : (n m : ℕ) → n ≡ m → 0 < n → (n ≡ 1 → ⊥) → m ≤ 1 → ⊥
 not_one n m e some isnt one = isnt (omega arith)
 
