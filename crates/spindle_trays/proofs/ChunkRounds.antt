@@ -1,5 +1,5 @@
 -- What follows of a round over the chunks of a list.
-use Rattle.std.proofs.Common.{◌≡◌, ◌↔◌, ℕ, ◌<◌, Bool, false, IsTrue, List, [], ◌∷◌, IfOk, Result, Ok, Vec, Global, vec_len, length, map, min, refl, ap, sym}
+use Rattle.std.proofs.Common.{◌≡◌, ◌↔◌, ℕ, ◌<◌, Bool, false, true, IsTrue, List, [], ◌∷◌, IfOk, Result, Ok, Vec, Global, vec_len, length, map, min, refl, ap, sym}
 use Rattle.std.proofs.Common.{◌∙◌, arith}
 use Rattle.std.proofs.lemmas.List.{length-map}
 use Rattle.spindle_parts.specs.Pieces.{lengths_of, cut_lengths}
@@ -24,6 +24,9 @@ mapped_each E f n_jobs list all is = gathered_map E f is.0 is.1 all is.4 is.5 �
 pub some_items : {T : Type 0} (list : List T) (empty : Bool) → (IsTrue empty ↔ (list ≡ [])) → empty ≡ false → 0 < length list
 some_items [] empty both isnt = let is = both.1 refl in absurd cc
 some_items (x ∷ xs) empty both isnt = omega arith
+
+pub no_items : {T : Type 0} (list : List T) (empty : Bool) → (IsTrue empty ↔ (list ≡ [])) → empty ≡ false → length list ≡ 0 → false ≡ true
+no_items list empty both isnt none = let some = some_items list empty both isnt in absurd (omega (arith, some, none))
 
 -- an empty list is no chunk, and nothing comes of it
 pub mapped_nothing : {T U E : Type 0} (Meets : List T → Result (Vec U Global) E → Type 0) (n_jobs : ℕ) (list : List T) (all : Vec U Global)

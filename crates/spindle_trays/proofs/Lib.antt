@@ -8,5 +8,6 @@ pub mod Reports
 pub mod ChunkRounds
 mod Helpers
 mod Leaving
+mod LeaderRounds
 pub mod Rooms
 mod Benches

@@ -2,7 +2,7 @@
 use Rattle.std.proofs.Common.{◌≡◌, ◌≢◌, ℕ, ◌+◌, ◌<◌, ◌≤◌, subst, ⊎_elim, List, [], ◌∷◌, length, take, get_or, map, slice_set, Option, Some, Result, Ok, Err}
 use Rattle.std.proofs.Common.{refl, ap, sym, ◌∙◌, zero, suc, OnOk, OnErr, arith}
 use Rattle.std.specs.Prelude.{option_and_then, slice_get, unwrap_or}
-use Rattle.std.proofs.lemmas.List.{get_or-set_same, length-set, take_more, take_more_set, take-map}
+use Rattle.std.proofs.lemmas.List.{get_or-set_same, length-set, take_more, take_more_set, take-map, take_all}
 use Rattle.std.proofs.lemmas.Bool.{cases_lt}
 use Rattle.std.proofs.lemmas.Option.{slice_get-get_or, unwrap_or-slice_get}
 use Rattle.std.specs.List.{AllZip}
@@ -61,6 +61,11 @@ pub await_numbers : {A B : Type 0} (items : List A) (pieces : ℕ) (own : List �
     (length own) (map (λ slot. slot.number) places) ≡ own
 await_numbers items pieces own places z =
     take-map (λ slot. slot.number) (length own) places ∙ numbers_await items pieces own (take (length own) places) z
+
+-- where the pieces of the first numbers wait, and these are all, the pieces of all wait
+pub all_wait : {A B : Type 0} (items : List A) (pieces : ℕ) (own : List ℕ) (places : List (PlaceView A B)) (len k : ℕ) → len ≡ length own → len ≤ k → k ≤ len
+    → AllZip (λ number slot. Awaits (piece_at items pieces number) number slot) (take k own) (take k places) → AwaitsAll items pieces own places
+all_wait items pieces own places len k e h h' z = let end : k ≡ length own = omega (arith, e, h, h') in rw (take_all k own (omega (arith, end)), end) at z
 
 -- one more place is filled
 pub one_more_waits : {A B : Type 0} (R : ℕ → PlaceView A B → Type 0) (own : List ℕ) (places : List (PlaceView A B)) (k n : ℕ) (t : PlaceView A B)

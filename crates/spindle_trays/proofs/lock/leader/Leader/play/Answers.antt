@@ -1,5 +1,39 @@
-use Rattle.std.proofs.Common.{rules}
+-- A round that is refused leaves no outputs.
+use Rattle.std.proofs.Common.{ap, refl, ◌∙◌}
+use Rattle.std.proofs.lemmas.Result.{err_from_is_err_and}
+use Rattle.spindle_trays.proofs.LeaderRounds.{all_jobs, passed_on}
 use Rattle.spindle_trays.proofs.lock.leader.Leader.play.Goals as goal
 
-pub returns-clause-left : goal.returns-clause-left
-returns-clause-left g c = search rules
+pub returns-in_err-from_vec : goal.returns-in_err-from_vec
+returns-in_err-from_vec g c = let p = err_from_is_err_and c.from_residual.result c.from_residual.ensures.1 in
+    rw (p.1, p.2) (record { answer = tt; given_up = c.requires.empty; refused = tt; played = tt; left = refl; lock = refl; hands = refl })
+
+pub returns-in_err-hand_out : goal.returns-in_err-hand_out
+returns-in_err-hand_out g c = rw (passed_on c.from_residual-in_err-hand_out.result c.from_residual-in_err-hand_out.ensures.1 c.in_err-hand_out.ensures)
+    (record { answer = tt; given_up = c.requires.empty; refused = tt; played = tt; left = refl; lock = refl; hands = refl })
+
+pub returns-in-Ok : goal.returns-in-Ok
+returns-in-Ok g c = let p = c.new-pieces.ensures in let own = c.in_ok-from_vec.ensures.items in let a = c.play_ahead-first.ensures in
+    let same = all_jobs c.new-pieces.result.count c.args.jobs _ c.args.items p.count own c.requires.jobs.2 in
+    record {
+      answer = rw (p.items ∙ own) at c.in-Ok.ensures.answers;
+      given_up = tt;
+      refused = tt;
+      played = rw same at a.played;
+      left = tt;
+      lock = ap (λ t. t.now.crew.most) a.tables;
+      hands = ap (λ t. t.now.crew.threads) a.tables;
+    }
+
+pub returns : goal.returns
+returns g c = let p = c.new-pieces.ensures in let own = c.in_ok-from_vec.ensures.items in let a = c.play_ahead-first.ensures in
+    let same = all_jobs c.new-pieces.result.count c.args.jobs _ c.args.items p.count own c.requires.jobs.2 in
+    record {
+      answer = tt;
+      given_up = c.clear.ensures.items;
+      refused = (rw same at c.in-Err.ensures.lost, c.requires.jobs.0, c.requires.threads);
+      played = tt;
+      left = rw same at a.played;
+      lock = ap (λ t. t.now.crew.most) a.tables;
+      hands = ap (λ t. t.now.crew.threads) a.tables;
+    }

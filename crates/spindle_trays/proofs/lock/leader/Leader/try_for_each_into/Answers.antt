@@ -1,35 +1,61 @@
--- There are as many pieces as jobs.
-use Rattle.std.proofs.Common.{◌≡◌, ◌↔◌, ◌≤◌, ℕ, List, Contains, IfErr, subst, vec_len, rules}
-use Rattle.spindle_rounds.specs.Leftovers.{IsFoundLeft}
-use Rattle.spindle_trays.specs.Leaders.{hands_of, view_of}
-use Rattle.spindle_trays.specs.Reports.{IsReport, IsTryRefusal}
-use Rattle.spindle_trays.specs.Rounds.{job_count}
+-- There are as many pieces as jobs, and a refused round leaves the report of no pieces.
+use Rattle.std.proofs.Common.{List, vec_len, refl, subst, ◌∙◌, rules}
+use Rattle.std.proofs.lemmas.Result.{err_from_is_err_and}
+use Rattle.spindle_trays.specs.Reports.{IsReport}
+use Rattle.spindle_trays.proofs.LeaderRounds.{between, jobs_are, no_items, passed, pieces_are}
 use Rattle.spindle_trays.proofs.lock.leader.Leader.try_for_each_into.Goals as goal
 
 pub returns-then-is_empty-clause-report : goal.returns-then-is_empty-clause-report
 returns-then-is_empty-clause-report g c = search rules
 
-pub returns-in_err-from_vec-clause-given_up : goal.returns-in_err-from_vec-clause-given_up
-returns-in_err-from_vec-clause-given_up g c = search rules
+pub returns-in_err-from_vec : goal.returns-in_err-from_vec
+returns-in_err-from_vec g c = let p = err_from_is_err_and c.from_residual.result c.from_residual.ensures.1 in
+    rw (p.1, p.2) (record {
+      report = tt;
+      skipped = λ _. tt;
+      given_up = rw c.replace-ran.ensures.after c.new.ensures;
+      refused = tt;
+      empty = no_items _ _ c.is_empty.ensures c.if-is_empty.false;
+      played = tt;
+      direct = λ _. refl;
+      left = refl;
+      between = between c.args.self.now.post;
+      lock = refl;
+      hands = refl;
+    })
 
-pub returns-clause-report : goal.returns-clause-report
-returns-clause-report g c = let told = c.in_ok-report in
-    let same : c.new-pieces.result.count ≡ job_count (vec_len c.args.items) c.args.n_jobs = search rules in
-    let own : c.new-pieces.result.items ≡ c.args.items.items = search rules in
-    subst (λ (xs : List g.row.J-In.Denot). IsReport g.J.Job.meets g.J.Job.fails xs (job_count (vec_len c.args.items) c.args.n_jobs) told.field-0) own
-    (subst (λ (n : ℕ). IsReport g.J.Job.meets g.J.Job.fails c.new-pieces.result.items n told.field-0) same told.ensures.report)
+pub returns-in_err-report : goal.returns-in_err-report
+returns-in_err-report g c = let e = c.in_err-report.ensures in
+    let jobs = jobs_are _ _ c.min-jobs.result (vec_len c.args.items) c.args.n_jobs c.len.ensures c.min.ensures c.min-jobs.ensures in
+    let same = pieces_are c.new-pieces.result.count _ c.args.n_jobs _ c.args.items c.new-pieces.ensures.count c.in_ok-from_vec.ensures.items jobs in
+    rw (← same, passed c.from_residual-in_err-report.result c.from_residual-in_err-report.ensures.1) (record {
+      report = tt;
+      skipped = λ _. tt;
+      given_up = rw c.replace-ran.ensures.after c.new.ensures;
+      refused = e.refused;
+      empty = no_items _ _ c.is_empty.ensures c.if-is_empty.false;
+      played = tt;
+      direct = e.direct;
+      left = e.left;
+      between = between c.try_pieces.new.self.post;
+      lock = e.lock;
+      hands = e.hands;
+    })
 
-pub returns-clause-skipped : goal.returns-clause-skipped
-returns-clause-skipped g c = let told = c.in_ok-report in
-    let same : c.new-pieces.result.count ≡ job_count (vec_len c.args.items) c.args.n_jobs = search rules in
-    subst (λ (n : ℕ). 2 ≤ n → (k : ℕ) → Contains told.field-0.skipped.items k
-    ↔ IsFoundLeft (view_of c.try_pieces.new.self) (hands_of c.args.self.now) n k) same told.ensures.skipped
-
-pub returns-in_err-report-clause-given_up : goal.returns-in_err-report-clause-given_up
-returns-in_err-report-clause-given_up g c = search rules
-
-pub returns-in_err-report-clause-refused : goal.returns-in_err-report-clause-refused
-returns-in_err-report-clause-refused g c = let refused = c.from_residual-in_err-report.result in
-    let same : c.new-pieces.result.count ≡ job_count (vec_len c.args.items) c.args.n_jobs = search rules in
-    let told : IfErr refused (IsTryRefusal (hands_of c.args.self.now) c.new-pieces.result.count (view_of c.try_pieces.new.self)) = search rules in
-    subst (λ (n : ℕ). IfErr refused (IsTryRefusal (hands_of c.args.self.now) n (view_of c.try_pieces.new.self))) same told
+pub returns : goal.returns
+returns g c = let e = c.in_ok-report.ensures in let own = c.new-pieces.ensures.items ∙ c.in_ok-from_vec.ensures.items in
+    let jobs = jobs_are _ _ c.min-jobs.result (vec_len c.args.items) c.args.n_jobs c.len.ensures c.min.ensures c.min-jobs.ensures in
+    let same = pieces_are c.new-pieces.result.count _ c.args.n_jobs _ c.args.items c.new-pieces.ensures.count c.in_ok-from_vec.ensures.items jobs in
+    rw (← same) (record {
+      report = subst (λ (xs : List g.row.J-In.Denot). IsReport g.J.Job.meets g.J.Job.fails xs c.new-pieces.result.count c.in_ok-report.field-0) own e.report;
+      skipped = e.skipped;
+      given_up = tt;
+      refused = tt;
+      empty = λ _. refl;
+      played = e.played;
+      direct = e.direct;
+      left = tt;
+      between = between c.try_pieces.new.self.post;
+      lock = e.lock;
+      hands = e.hands;
+    })

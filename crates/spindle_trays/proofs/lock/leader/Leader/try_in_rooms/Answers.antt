@@ -1,4 +1,6 @@
 -- A fresh tally fits all marks.
+use Rattle.std.proofs.Common.{refl, ap, ◌∙◌}
+use Rattle.spindle_trays.proofs.LeaderRounds.{not_one, not_two, passed_on}
 use Rattle.spindle_trays.proofs.lock.leader.Leader.try_in_rooms.Goals as goal
 
 pub tally_rooms-requires-clause-fresh : goal.tally_rooms-requires-clause-fresh
@@ -6,3 +8,42 @@ tally_rooms-requires-clause-fresh g c κs within = c.requires.fresh c.as_slice.r
 
 pub tally_rooms-requires-2-clause-fresh : goal.tally_rooms-requires-2-clause-fresh
 tally_rooms-requires-2-clause-fresh g c κs within = c.requires.fresh c.as_slice-2.result.now
+
+pub returns-in_err-rooms : goal.returns-in_err-rooms
+returns-in_err-rooms g c = rw (passed_on c.from_residual.result c.from_residual.ensures.1 c.in_err-rooms.ensures.memory)
+    (record {
+      tried = tt;
+      direct = λ _. (refl, refl);
+      marks = c.requires.marks;
+      noted = tt;
+      whole = tt;
+      memory = (refl, refl);
+      lock = refl;
+      hands = refl;
+    })
+
+pub returns : goal.returns
+returns g c = let p = c.play_rooms.ensures in let m = c.mark_left.ensures in let e = c.tally_rooms-2.ensures in
+    record {
+      tried = λ two. ((m.published ∙ p.played.0, m.standing ∙ p.played.1), rw (p.tables, c.requires.marks) at m.left);
+      direct = λ one. absurd (not_one _ _ c.count.ensures.number c.count.ensures.some c.if-count-eq1.false one);
+      marks = m.count ∙ c.requires.marks;
+      noted = rw (← c.as_slice-2.ensures.value) e.noted;
+      whole = e.whole;
+      memory = tt;
+      lock = ap (λ t. t.now.crew.most) (m.tables ∙ p.tables);
+      hands = ap (λ t. t.now.crew.threads) (m.tables ∙ p.tables);
+    }
+
+pub returns-then-count-eq1 : goal.returns-then-count-eq1
+returns-then-count-eq1 g c = let e = c.tally_rooms.ensures in
+    record {
+      tried = λ two. absurd (not_two _ _ c.count.ensures.number c.if-count-eq1.true two);
+      direct = λ _. (refl, refl);
+      marks = c.requires.marks;
+      noted = rw (← c.as_slice.ensures.value) e.noted;
+      whole = e.whole;
+      memory = tt;
+      lock = refl;
+      hands = refl;
+    }

@@ -1,5 +1,23 @@
 -- A fresh tally fits all marks.
+use Rattle.std.proofs.Common.{ap, refl, ◌∙◌}
+use Rattle.spindle_trays.proofs.LeaderRounds.{passed_on}
 use Rattle.spindle_trays.proofs.lock.leader.Leader.try_in_trays.Goals as goal
 
 pub tally-requires-clause-fresh : goal.tally-requires-clause-fresh
 tally-requires-clause-fresh g c = c.requires.fresh c.as_slice.result.now
+
+pub returns-in_err-hand_out : goal.returns-in_err-hand_out
+returns-in_err-hand_out g c = rw (passed_on c.from_residual.result c.from_residual.ensures.1 c.in_err-hand_out.ensures)
+    (record { tried = tt; marks = c.requires.marks; noted = tt; memory = (refl, refl); lock = refl; hands = refl })
+
+pub returns : goal.returns
+returns g c = let p = c.play.ensures in let m = c.mark_left.ensures in let t = c.task-task.ensures in
+    let played = rw (t.jobs, t.may_stop) at p.played in
+    record {
+      tried = ((m.published ∙ played.0, m.standing ∙ played.1), rw (p.tables, c.requires.marks) at m.left);
+      marks = m.count ∙ c.requires.marks;
+      noted = rw (← c.as_slice.ensures.value) c.tally.ensures.noted;
+      memory = tt;
+      lock = ap (λ t. t.now.crew.most) (m.tables ∙ p.tables);
+      hands = ap (λ t. t.now.crew.threads) (m.tables ∙ p.tables);
+    }

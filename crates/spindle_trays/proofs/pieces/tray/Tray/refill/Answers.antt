@@ -1,11 +1,10 @@
 -- One more piece waits, and at the end all that the thread was dealt.
 use Rattle.std.proofs.Common.{◌≡◌, ◌<◌, length, Some, arith}
 use Rattle.std.specs.Prelude.{slice_get}
-use Rattle.std.proofs.lemmas.List.{take_all}
 use Rattle.spindle_parts.specs.Pieces.{counted, dealt}
 use Rattle.spindle_trays.specs.PieceRuns.{piece_at}
-use Rattle.spindle_trays.specs.Trays.{Awaits, AwaitsAll}
-use Rattle.spindle_trays.proofs.TrayPlaces.{one_more_waits, await_numbers}
+use Rattle.spindle_trays.specs.Trays.{Awaits}
+use Rattle.spindle_trays.proofs.TrayPlaces.{all_wait, one_more_waits, await_numbers}
 use Rattle.spindle_trays.proofs.pieces.tray.Tray.refill.Goals as goal
 
 pub loop-place-preserved : goal.loop-place-preserved
@@ -27,15 +26,26 @@ loop-place-preserved g c =
           (rw (← c.in_ok-run.ensures) c.in_ok-refill.ensures);
     }
 
+pub run-requires : goal.run-requires
+run-requires g c = rw c.count-count.ensures.number at c.number-number.ensures.below
+
 pub invariant_of-self-2 : goal.invariant_of-self-2
 invariant_of-self-2 g c =
     let pieces = c.args.pieces.now in
-    let items = pieces.items in
     let count = c.count-count.ensures.number in
     let own = dealt (counted 0 pieces.count) c.args.self.now.threads c.args.self.now.thread in
     let places = c.loop-place.places.items in
-    let k = c.loop-place.place in
     let length_is : c.hand_length-length.result ≡ length own = rw (← count) c.hand_length-length.ensures in
-    let end : k ≡ length own = omega (arith, length_is, c.loop-place-test.false, c.loop-place.auto.place-end) in
-    let all : AwaitsAll items pieces.count own places = rw (take_all k own (omega (arith, end)), end) at c.loop-place.invariant.waits in
-    record { named = c.args.self.now.named; dealt = rw count (await_numbers items pieces.count own places all) }
+    let all = all_wait pieces.items pieces.count own places c.hand_length-length.result c.loop-place.place length_is c.loop-place-test.false
+    c.loop-place.auto.place-end c.loop-place.invariant.waits in
+    record { named = c.args.self.now.named; dealt = rw count (await_numbers pieces.items pieces.count own places all) }
+
+pub returns : goal.returns
+returns g c =
+    let pieces = c.args.pieces.now in
+    let own = dealt (counted 0 pieces.count) c.args.self.now.threads c.args.self.now.thread in
+    let length_is : c.hand_length-length.result ≡ length own = rw (← c.count-count.ensures.number) c.hand_length-length.ensures in
+    record {
+      waits = all_wait pieces.items pieces.count own c.loop-place.places.items c.hand_length-length.result c.loop-place.place length_is
+          c.loop-place-test.false c.loop-place.auto.place-end c.loop-place.invariant.waits;
+    }
