@@ -1,8 +1,9 @@
 -- The tables were opened for the crew with these slots, and its seats and benches stand at the tables that are shared.
-use Rattle.std.proofs.Common.{[], true, ap, sym, subst, ◌∙◌}
+use Rattle.std.proofs.Common.{[], true, All, ap, sym, subst, ◌∙◌}
 use Rattle.std.specs.Arc.{arc_value}
 use Rattle.spindle_rounds.specs.RoundSteps.{outsider}
 use Rattle.spindle_rounds.specs.Seating.{slots_of}
+use Rattle.spindle_trays.specs.Nested.{IsBenchAt}
 use Rattle.spindle_trays.specs.Opening.{AreSeatsAt}
 use Rattle.spindle.proofs.lock.slot_nest.NestedSlots+SlotWorkspace+J+A.open.Goals as goal
 
@@ -14,6 +15,11 @@ new-requires g c = let opened = c.in_ok-round.ensures.opened in record {
   sized = opened.0 ∙ c.threads-threads.ensures.number;
   seated = opened.1;
   outside = opened.4 ∙ ap (λ n. (outsider n true, [])) (sym opened.0);
+}
+
+pub invariant_of-new : goal.invariant_of-new
+invariant_of-new g c = record {
+  seated = subst (λ t. All (IsBenchAt t) c.in_ok-benches.benches.items) (sym c.in_ok-tables-2.ensures.ok) c.in_ok-benches.ensures.benches;
 }
 
 pub invariant_of-entry : goal.invariant_of-entry
