@@ -1,3 +1,4 @@
 -- The lemmas of this crate.
+pub mod Jobs
 pub mod FreeLists
 pub mod Folds

@@ -1,8 +1,9 @@
 -- One more item was remade.
-use Rattle.std.proofs.Common.{◌≡◌, ◌++◌, ◌∷◌, [], reverse, rules, arith, refl, ap, sym, subst, ◌∙◌, append_assoc}
+use Rattle.std.proofs.Common.{◌≡◌, ◌++◌, ◌∷◌, [], reverse, rules, arith, refl, ap, sym, subst, ◌∙◌, append_assoc, append-nil}
 use Rattle.std.specs.List.{AllZip}
 use mathlib.Core.List.{reverse-append}
 use Rattle.spindle_parts.proofs.Lists.{all_zip_append}
+use Rattle.spindle_slots.proofs.InPlace.{nothing_left, one_fits, some_ready}
 use Rattle.spindle_slots.proofs.work.in_place.remake_each.Goals as goal
 
 pub loop-init : goal.loop-init
@@ -27,3 +28,18 @@ loop-preserved g c = let i = c.loop.invariant in let R = g.J.Remakes.remade in l
       left = omega (arith, c.take_last.ensures.len, i.left);
       room = omega (arith, c.push_reserved.ensures.capacity, i.room);
     }
+
+pub take_last-requires : goal.take_last-requires
+take_last-requires g c = some_ready _ _ _ c.loop.invariant.left c.loop-test.true
+
+pub push_reserved-requires : goal.push_reserved-requires
+push_reserved-requires g c = let i = c.loop.invariant in one_fits _ _ _ _ i.len c.loop-test.true i.room
+
+pub new-requires : goal.new-requires
+new-requires g c = nothing_left _ _ _ _ c.loop.todo.ok.0 c.loop.invariant.left c.loop-test.false
+
+pub returns : goal.returns
+returns g c = let R = g.J.Remakes.remade in let done = c.loop.invariant.remade in let chunk = c.args.chunk in
+    let none = nothing_left _ _ _ _ c.loop.todo.ok.0 c.loop.invariant.left c.loop-test.false in
+    subst (AllZip R chunk) (sym c.new.ensures)
+    (subst (λ xs. AllZip R xs c.loop.done.items) (sym (done.1 ∙ (ap (λ t. done.0 ++ reverse t) none ∙ append-nil done.0))) done.2)

@@ -1,7 +1,14 @@
 -- Each turn moves the last item that is left.
-use Rattle.std.proofs.Common.{◌++◌, ◌∷◌, [], reverse, vec_len, rules, arith, ap, sym, ◌∙◌, append_assoc}
+use Rattle.std.proofs.Common.{◌≤◌, ◌++◌, ◌∷◌, [], reverse, vec_capacity, arith, ap, sym, subst, ◌∙◌, append_assoc}
 use mathlib.Core.List.{reverse-append}
+use Rattle.spindle_slots.proofs.InPlace.{moved_all, moved_fit, next_has_room, parts_at, some_left}
 use Rattle.spindle_slots.proofs.pieces.chunk.Room.load.Goals as goal
+
+pub take_last-requires : goal.take_last-requires
+take_last-requires g c = let i = c.loop.invariant in some_left _ _ _ _ _ _ i.left i.moved c.loop-test.true c.len-end.ensures
+
+pub push_reserved-requires : goal.push_reserved-requires
+push_reserved-requires g c = let i = c.loop.invariant in next_has_room _ _ _ _ _ _ i.moved c.loop-test.true c.len-end.ensures i.room
 
 pub loop-preserved : goal.loop-preserved
 loop-preserved g c = let i = c.loop.invariant in let x = c.take_last.result in let left = c.take_last.new.self.items in let todo = c.loop.todo.items in record {
@@ -12,3 +19,24 @@ loop-preserved g c = let i = c.loop.invariant in let x = c.take_last.result in l
   block = c.take_last.ensures.capacity ∙ i.block;
   room = omega (arith, c.push_reserved.ensures.capacity, i.room);
 }
+
+pub invariant_of-result : goal.invariant_of-result
+invariant_of-result g c = let i = c.loop.invariant in (
+  c.self.invariant.1,
+  subst (λ n. n ≤ vec_capacity c.self.inside.done) c.loop.todo.ok.0
+      (moved_fit _ _ _ _ _ _ (vec_capacity c.self.inside.todo) _ i.moved c.loop.auto.counter-end c.len-end.ensures c.requires.from c.requires.room c.self.view_is),
+)
+
+pub returns-clause-left : goal.returns-clause-left
+returns-clause-left g c = let i = c.loop.invariant in
+    let n = moved_all _ _ _ _ _ _ i.left i.moved c.loop-test.false c.loop.auto.counter-end c.len-end.ensures c.requires.from in
+    (parts_at _ _ _ _ i.items (sym c.loop.items.ok.0 ∙ n)).0
+
+pub returns-clause-len : goal.returns-clause-len
+returns-clause-len g c = let i = c.loop.invariant in
+    moved_all _ _ _ _ _ _ i.left i.moved c.loop-test.false c.loop.auto.counter-end c.len-end.ensures c.requires.from
+
+pub returns-clause-taken : goal.returns-clause-taken
+returns-clause-taken g c = let i = c.loop.invariant in
+    let n = moved_all _ _ _ _ _ _ i.left i.moved c.loop-test.false c.loop.auto.counter-end c.len-end.ensures c.requires.from in
+    (parts_at _ _ _ _ i.items (sym c.loop.items.ok.0 ∙ n)).1

@@ -1,9 +1,11 @@
 -- One piece more is a chunk.
-use Rattle.std.proofs.Common.{◌≡◌, ◌≤◌, ◌/◌, ◌+◌, ◌-◌, ◌++◌, ◌∷◌, [], ℕ, suc, length, take, drop, rules, refl, ap, sym, subst, ◌∙◌, arith, vec_len}
+use Rattle.std.proofs.Common.{◌≡◌, ◌≤◌, ◌/◌, ◌+◌, ◌-◌, ◌++◌, ◌∷◌, [], ℕ, suc, length, take, drop, refl, ap, sym, subst, ◌∙◌, arith, vec_len}
 use Rattle.std.proofs.lemmas.List.{take-take}
 use Rattle.spindle_slots.specs.InPlace.{HaveRoom, last_pieces}
+use Rattle.std.proofs.Math.Nat.{le_antisymm}
 use Rattle.spindle_trays.specs.PieceRuns.{piece_start, items_before, piece_at}
-use Rattle.spindle_slots.proofs.InPlace.{all_before, piece_last, piece_short, room_less, start_all}
+use Rattle.spindle_trays.proofs.PieceRuns.{before_first}
+use Rattle.spindle_slots.proofs.InPlace.{all_before, piece_last, piece_short, room_less, start_all, start_before, none_left, one_fits, some_ready}
 use Rattle.spindle_slots.proofs.pieces.store.Store.load.Goals as goal
 
 pub loop-done-init : goal.loop-done-init
@@ -54,3 +56,20 @@ loop-done-preserved g c = let i = c.loop-done.invariant in let old = c.args.item
       rooms = less.0;
       ready = omega (arith, c.take_last-room.ensures.len, i.ready);
     }
+
+pub take_last-room-requires : goal.take_last-room-requires
+take_last-room-requires g c = some_ready _ _ _ c.loop-done.invariant.ready c.loop-done-test.true
+
+pub load-requires-clause-from : goal.load-requires-clause-from
+load-requires-clause-from g c = start_before _ _ _ _ _ _ c.len-len.ensures c.loop-done-test.true c.start-from.ensures.start c.loop-done.invariant.len
+
+pub push_reserved-requires : goal.push_reserved-requires
+push_reserved-requires g c = let i = c.loop-done.invariant in one_fits _ _ _ _ i.chunked c.loop-done-test.true i.room
+
+pub returns-clause-chunks : goal.returns-clause-chunks
+returns-clause-chunks g c = let i = c.loop-done.invariant in
+    i.chunks ∙ ap (last_pieces c.args.items.now.items c.args.jobs) (le_antisymm c.loop-done.auto.done-end c.loop-done-test.false)
+
+pub returns-clause-items : goal.returns-clause-items
+returns-clause-items g c = let i = c.loop-done.invariant in let old = c.args.items.now.items in let n : ℕ = c.args.jobs in
+    (i.items ∙ (ap (λ (k : ℕ). items_before old n k) (none_left _ _ c.loop-done-test.false) ∙ before_first old n), i.block)
