@@ -1,6 +1,6 @@
 -- The places of a tray: what stands at the one that is written, and at the others.
 use Rattle.std.proofs.Common.{◌≡◌, ◌≢◌, ℕ, ◌+◌, ◌<◌, ◌≤◌, subst, ⊎_elim, List, [], ◌∷◌, length, take, get_or, map, slice_set, Option, Some, Result, Ok, Err}
-use Rattle.std.proofs.Common.{refl, ap, sym, ◌∙◌, zero, suc, OnOk, OnErr, arith}
+use Rattle.std.proofs.Common.{refl, ap, sym, ◌∙◌, zero, suc, OnOk, OnErr, arith, Vec, Global, vec_len}
 use Rattle.std.specs.Prelude.{option_and_then, slice_get, unwrap_or}
 use Rattle.std.proofs.lemmas.List.{get_or-set_same, length-set, take_more, take_more_set, take-map, take_all}
 use Rattle.std.proofs.lemmas.Bool.{cases_lt}
@@ -11,6 +11,10 @@ use Rattle.spindle_trays.specs.Trays.{Awaits, AwaitsAll, IsDoneAt, HoldsDone}
 use Rattle.spindle_trays.specs.PieceRuns.{piece_at}
 use Rattle.std.proofs.Math.Seq.{map-set_same}
 use Rattle.spindle_parts.proofs.Lists.{all_zip_append}
+
+-- a place before the end
+pub inside : {A : Type 0} (places : Vec A Global) (len at : ℕ) → len ≡ vec_len places → at < len → at < length places.items
+inside places len at e h = omega arith
 
 -- what stands at a place
 pub at_place : {A X : Type 0} (f : A → Option X) (xs : List A) (at : ℕ) (s : A) → at < length xs → s ≡ get_or xs at s → option_and_then f

@@ -1,8 +1,8 @@
 -- A place keeps its number, and what it refuses leaves it as it was.
-use Rattle.std.proofs.Common.{◌<◌, length, ap, sym, ◌∙◌, Some, rules, slice_set}
+use Rattle.std.proofs.Common.{ap, sym, ◌∙◌, Some, slice_set}
 use Rattle.spindle_parts.specs.Pieces.{counted, dealt}
 use Rattle.std.proofs.lemmas.List.{set-get_or}
-use Rattle.spindle_trays.proofs.TrayPlaces.{numbers_stay, at_place, at_written, at_others, on_ok, on_err, some_is}
+use Rattle.spindle_trays.proofs.TrayPlaces.{numbers_stay, inside, at_place, at_written, at_others, on_ok, on_err, some_is}
 use Rattle.spindle_trays.proofs.pieces.tray.Tray.put.Goals as goal
 
 pub invariant_of-self : goal.invariant_of-self
@@ -21,7 +21,7 @@ pub returns-clause-free : goal.returns-clause-free
 returns-clause-free g c =
     let xs = c.args.self.now.places.items in
     let d = c.index_mut-place.result.now in
-    let h : c.args.at < length xs = search rules in
+    let h = inside c.args.self.now.places _ c.args.at c.len.ensures c.if-at-len.false in
     let number = at_place (λ slot. Some slot.number) xs c.args.at d h c.index_mut-place.ensures.value in
     let finished = at_place (λ slot. slot.finished) xs c.args.at d h c.index_mut-place.ensures.value in
     let free = c.put.ensures.free in (
@@ -32,7 +32,7 @@ returns-clause-free g c =
 pub returns-clause-held : goal.returns-clause-held
 returns-clause-held g c =
     let xs = c.args.self.now.places.items in
-    let h : c.args.at < length xs = search rules in
+    let h = inside c.args.self.now.places _ c.args.at c.len.ensures c.if-at-len.false in
     on_ok c.put.result (λ held. at_written (λ slot. slot.finished) xs c.args.at c.put.new.self h ∙ held) c.put.ensures.held
 
 pub returns-clause-kept : goal.returns-clause-kept

@@ -1,7 +1,7 @@
 -- A place that is emptied keeps its number.
-use Rattle.std.proofs.Common.{◌<◌, length, ap, sym, ◌∙◌, rules}
+use Rattle.std.proofs.Common.{ap, sym, ◌∙◌}
 use Rattle.spindle_parts.specs.Pieces.{counted, dealt}
-use Rattle.spindle_trays.proofs.TrayPlaces.{numbers_stay, at_place, at_written, at_others}
+use Rattle.spindle_trays.proofs.TrayPlaces.{numbers_stay, inside, at_place, at_written, at_others}
 use Rattle.spindle_trays.proofs.pieces.tray.Tray.take.Goals as goal
 
 pub invariant_of-self : goal.invariant_of-self
@@ -19,13 +19,13 @@ invariant_of-self g c =
 pub returns-clause-piece : goal.returns-clause-piece
 returns-clause-piece g c =
     let xs = c.args.self.now.places.items in
-    let h : c.args.at < length xs = search rules in
+    let h = inside c.args.self.now.places _ c.args.at c.len.ensures c.if-at-len.false in
     c.take.ensures.piece ∙ sym (at_place (λ slot. slot.ready) xs c.args.at c.index_mut-place.result.now h c.index_mut-place.ensures.value)
 
 pub returns-clause-taken : goal.returns-clause-taken
 returns-clause-taken g c =
     let xs = c.args.self.now.places.items in
-    let h : c.args.at < length xs = search rules in
+    let h = inside c.args.self.now.places _ c.args.at c.len.ensures c.if-at-len.false in
     at_written (λ slot. slot.ready) xs c.args.at c.take.new.self h ∙ c.take.ensures.taken
 
 pub returns-clause-others : goal.returns-clause-others

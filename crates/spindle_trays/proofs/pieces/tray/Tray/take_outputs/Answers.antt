@@ -1,8 +1,8 @@
 -- A place that is emptied keeps its number.
-use Rattle.std.proofs.Common.{◌<◌, ◌↔◌, IsSome, length, ap, sym, subst, ◌∙◌, rules}
+use Rattle.std.proofs.Common.{◌↔◌, IsSome, ap, sym, subst, ◌∙◌}
 use Rattle.spindle_trays.specs.Outputs.{IsDoneOf}
 use Rattle.spindle_parts.specs.Pieces.{counted, dealt}
-use Rattle.spindle_trays.proofs.TrayPlaces.{numbers_stay, at_place, at_others}
+use Rattle.spindle_trays.proofs.TrayPlaces.{numbers_stay, inside, at_place, at_others}
 use Rattle.spindle_trays.proofs.pieces.tray.Tray.take_outputs.Goals as goal
 
 pub invariant_of-self : goal.invariant_of-self
@@ -22,6 +22,6 @@ returns-clause-others g c = at_others c.args.self.now.places.items c.args.at c.t
 pub returns-clause-held : goal.returns-clause-held
 returns-clause-held g c =
     let xs = c.args.self.now.places.items in
-    let h : c.args.at < length xs = search rules in
+    let h = inside c.args.self.now.places _ c.args.at c.len.ensures c.if-at-len.false in
     let same = at_place (λ slot. slot.finished) xs c.args.at c.index_mut-place.result.now h c.index_mut-place.ensures.value in
     subst (λ found. IsSome c.take_outputs.result ↔ IsDoneOf c.args.number c.args.items.now found) (sym same) c.take_outputs.ensures.held
