@@ -7,6 +7,11 @@ use Rattle.spindle_parts.proofs.Deals.{length-counted}
 pub two_or_more : (count n slots : ℕ) → count ≡ n → n ≢ 0 → n ≢ 1 → n ≤ slots → (2 ≤ count) × (count ≤ slots)
 two_or_more count n slots same some more few = (omega arith, omega arith)
 
+-- a list that is tested not to be empty has items
+pub not_empty : {P : Type 0} (len : ℕ) → false ≡ (len == 0) → len ≡ 0 → P
+not_empty zero some none = absurd cc
+not_empty (suc len) some none = absurd (omega (arith, none))
+
 -- of some items there is a job at least, and no more than there are items or slots
 pub some_jobs : (len n slots given least jobs : ℕ) → false ≡ (len == 0) → (0 < len → 0 < n) → 1 ≤ slots → given ≡ len → least ≡ min n slots → jobs ≡ min given least
     → (0 < jobs) × (jobs ≤ len) × (jobs ≤ slots)

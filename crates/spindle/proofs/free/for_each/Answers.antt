@@ -3,6 +3,7 @@ use Rattle.std.proofs.Common.{ap, sym, ◌∙◌, rules, of_calls}
 use Rattle.std.proofs.lemmas.Slice.Zip.{AllZip-long}
 use Rattle.rayon.proofs.ListFacts.{AllZip-weaken}
 use Rattle.rayon.specs.Lists.{vec_items, min_len_base}
+use Rattle.spindle.proofs.Jobs.{not_empty}
 use Rattle.spindle.proofs.free.for_each.Goals as goal
 
 pub returns-clause-answer : goal.returns-clause-answer
@@ -14,3 +15,6 @@ returns-clause-answer g c =
 
 pub returns-clause-length : goal.returns-clause-length
 returns-clause-length g c = search (AllZip-long _ _ _ (returns-clause-answer g c), rules)
+
+pub returns-in_err-collect-clause-empty : goal.returns-in_err-collect-clause-empty
+returns-in_err-collect-clause-empty g c = not_empty _ c.if-is_empty.ensures

@@ -19,3 +19,6 @@ returns-clause-answer g c =
 
 pub returns-clause-length : goal.returns-clause-length
 returns-clause-length g c = search (AllZip-long _ _ _ (returns-clause-answer g c), length-counted 0 c.args.n_jobs, rules)
+
+pub returns-in_err-collect-clause-empty : goal.returns-in_err-collect-clause-empty
+returns-in_err-collect-clause-empty g c = λ none. absurd (c.if-n_jobs-eq0.false none)
