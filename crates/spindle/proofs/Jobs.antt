@@ -13,8 +13,8 @@ not_empty zero some none = absurd cc
 not_empty (suc len) some none = absurd (omega (arith, none))
 
 -- of some items there is a job at least, and no more than there are items or slots
-pub some_jobs : (len n slots given least jobs : ℕ) → false ≡ (len == 0) → (0 < len → 0 < n) → 1 ≤ slots → given ≡ len → least ≡ min n slots → jobs ≡ min given least
-    → (0 < jobs) × (jobs ≤ len) × (jobs ≤ slots)
+pub some_jobs : (len n slots given least jobs : ℕ) → false ≡ (len == 0) → (0 < len → 0 < n) → 1 ≤ slots → given ≡ len → least ≡ min n slots
+    → jobs ≡ min given least → (0 < jobs) × (jobs ≤ len) × (jobs ≤ slots)
 some_jobs zero n slots given least jobs none asked some all few is = absurd cc
 some_jobs (suc len) n slots given least jobs there asked some all few is =
     let most : 0 < n = asked (omega arith) in (omega arith, omega arith, omega arith)

@@ -4,7 +4,8 @@ use Rattle.spindle.proofs.Jobs.{all_have_room, some_jobs, two_jobs}
 use Rattle.spindle.proofs.lock.slot_leader.SlotLeader.round_into.Goals as goal
 
 pub new-requires : goal.new-requires
-new-requires g c = let jobs = some_jobs _ _ _ _ _ _ c.if-is_empty.ensures c.requires.jobs c.slots-slots.ensures.range.0 c.len.ensures c.min.ensures c.min-jobs.ensures in
+new-requires g c =
+    let jobs = some_jobs _ _ _ _ _ _ c.if-is_empty.ensures c.requires.jobs c.slots-slots.ensures.range.0 c.len.ensures c.min.ensures c.min-jobs.ensures in
     (jobs.0, jobs.1)
 
 pub play-requires-clause-jobs : goal.play-requires-clause-jobs

@@ -24,7 +24,8 @@ pub invariant_of-result : goal.invariant_of-result
 invariant_of-result g c = let i = c.loop.invariant in (
   c.self.invariant.1,
   subst (λ n. n ≤ vec_capacity c.self.inside.done) c.loop.todo.ok.0
-      (moved_fit _ _ _ _ _ _ (vec_capacity c.self.inside.todo) _ i.moved c.loop.auto.counter-end c.len-end.ensures c.requires.from c.requires.room c.self.view_is),
+      (moved_fit _ _ _ _ _ _ (vec_capacity c.self.inside.todo) _ i.moved c.loop.auto.counter-end c.len-end.ensures
+      c.requires.from c.requires.room c.self.view_is),
 )
 
 pub returns-clause-left : goal.returns-clause-left
