@@ -15,7 +15,8 @@
 //! - `nested`: `for_each` over two shared lists of 256 numbers in four parts; a job opens a lock with trays for half of the threads and
 //!   runs sixteen rounds there, each of which adds one to each number, a part a job. An item of an inner round is a part itself, and
 //!   what a round answers is the next round's items. The lists that the jobs answer are the next round's items too. In place a job
-//!   copies its list into four, opens a lock in place for the sixteen rounds, and copies the numbers into a list again.
+//!   copies its list into four parts, each by itself, opens a lock in place for the sixteen rounds, and copies the numbers into a list
+//!   again.
 //! - `stencil4k`, `stencil256k`: `for_each` over 4096 or 262144 numbers, in one shared list a thread; a job answers a list of
 //!   each number and one more, and these lists are the next round's items. In place an item is a list, one a thread, with pages of
 //!   its own, and a job adds one to each of its numbers where they stand, by whole cache lines.

@@ -6,9 +6,9 @@ ghost use Rattle.spindle_lists.specs.Same.{equal_lists_are_same};
 ghost use denote.Param.Send.{IsSync};
 ghost use Rattle.spindle_bench.specs.Kernels.{one_more_of};
 
-use crate::jobs::stencils::{AddOneInPlace, one_more_each};
+use crate::jobs::stencils::one_more_each;
 use spindle::lock::{
-    End, InPlace, Job, JobCx, Leader, NoGate, Opens, PlaceLeader, Under, UnderInPlace,
+    End, InPlace, Job, JobCx, Leader, NoGate, Opens, PlaceLeader, Remake, Under, UnderInPlace,
 };
 use spindle::nested::with_slots_in_place;
 use spindle::{Fault, SharedList};
@@ -97,6 +97,27 @@ where
     Ok(parts)
 }
 
+/// Adds one to each number of a part, in its place. A part by itself is moved as one pointer, a list as three words and more.
+pub struct AddOneInPart;
+
+impl Remake for AddOneInPart {
+    type Item = Box<Part>;
+
+    type Inner = End;
+
+    ghost remade = { λ _ _. Unit {0} };
+
+    fn run<H: Threads + Wait + Sync>(
+        _rt: &H,
+        _alloc: Global,
+        mut part: Box<Part>,
+        _cx: &mut JobCx<End>,
+    ) -> Box<Part> {
+        one_more_each(&mut *part);
+        part
+    }
+}
+
 /// Opens a lock in place of half as many threads as its own lock has, and there adds one to each number of a list in each of so many
 /// rounds, a part a job.
 pub struct AddInRoundsInPlace;
@@ -106,7 +127,7 @@ impl Job for AddInRoundsInPlace {
 
     type Out = Result<SharedList<u64>, Fault>;
 
-    type Inner = UnderInPlace<AddOneInPlace>;
+    type Inner = UnderInPlace<AddOneInPart>;
 
     ghost meets = { λ _ _. Unit {0} };
 
@@ -114,17 +135,17 @@ impl Job for AddInRoundsInPlace {
         rt: &H,
         alloc: Global,
         numbers: &SharedList<u64>,
-        cx: &mut JobCx<UnderInPlace<AddOneInPlace>>,
+        cx: &mut JobCx<UnderInPlace<AddOneInPart>>,
     ) -> Result<SharedList<u64>, Fault> {
         let parts = parts_of(alloc, numbers.as_slice())?;
         let threads = (cx.max_num_threads() / 2).max(1);
-        let sums = with_slots_in_place::<InPlace<AddOneInPlace>, _, _, _, _>(
+        let sums = with_slots_in_place::<InPlace<AddOneInPart>, _, _, _, _>(
             rt,
             alloc,
             cx,
             threads,
             NESTED_PARTS,
-            |leader| -> Result<Vec<Vec<u64>>, Fault>
+            |leader| -> Result<Vec<Box<Part>>, Fault>
                 requires { IsSync H.row }
             { added_in_place(rt, alloc, leader, parts) },
         )??;
@@ -135,19 +156,21 @@ impl Job for AddInRoundsInPlace {
 }
 
 // The numbers in their parts.
-fn parts_of(alloc: Global, numbers: &[u64]) -> Result<Vec<Vec<u64>>, Fault> {
+fn parts_of(alloc: Global, numbers: &[u64]) -> Result<Vec<Box<Part>>, Fault> {
     let mut parts = Vec::with_capacity(alloc, NESTED_PARTS)?;
-    for part in numbers.chunks(NESTED_LEN / NESTED_PARTS) {
-        parts.push(part.to_vec(alloc)?)?;
+    for chunk in numbers.chunks_exact(NESTED_LEN / NESTED_PARTS) {
+        let mut part = [0u64; NESTED_LEN / NESTED_PARTS];
+        part.copy_from_slice(chunk);
+        parts.push(Box::new(alloc, part)?)?;
     }
     Ok(parts)
 }
 
 // The parts as one list.
-fn joined(alloc: Global, parts: &[Vec<u64>]) -> Result<SharedList<u64>, Fault> {
+fn joined(alloc: Global, parts: &[Box<Part>]) -> Result<SharedList<u64>, Fault> {
     let mut numbers = Vec::with_capacity(alloc, NESTED_LEN)?;
     for part in parts {
-        numbers.extend_from_slice(part.as_slice())?;
+        numbers.extend_from_slice(&part[..])?;
     }
     Ok(SharedList::from_vec(alloc, numbers)?)
 }
@@ -156,9 +179,9 @@ fn joined(alloc: Global, parts: &[Vec<u64>]) -> Result<SharedList<u64>, Fault> {
 fn added_in_place<H: Threads + Wait + Sync>(
     rt: &H,
     alloc: Global,
-    leader: &mut PlaceLeader<AddOneInPlace, NoGate>,
-    mut parts: Vec<Vec<u64>>,
-) -> Result<Vec<Vec<u64>>, Fault> {
+    leader: &mut PlaceLeader<AddOneInPart, NoGate>,
+    mut parts: Vec<Box<Part>>,
+) -> Result<Vec<Box<Part>>, Fault> {
     for _ in 0..NESTED_ROUNDS {
         leader.remake_each(rt, alloc, NESTED_PARTS, &mut parts)?;
     }

@@ -44,28 +44,8 @@ pub fn each_and_one(alloc: Global, numbers: &[u64]) -> Result<SharedList<u64>, F
     Ok(SharedList::from_vec(alloc, sums)?)
 }
 
-/// Adds one to each number of a list, in its place.
-pub struct AddOneInPlace;
-
-impl Remake for AddOneInPlace {
-    type Item = Vec<u64>;
-
-    type Inner = End;
-
-    ghost remade = { λ old new. new.items ≡ one_more_of old.items };
-
-    fn run<H: Threads + Wait + Sync>(
-        _rt: &H,
-        _alloc: Global,
-        mut item: Vec<u64>,
-        _cx: &mut JobCx<End>,
-    ) -> Vec<u64> {
-        one_more_each(item.as_mut_slice());
-        item
-    }
-}
-
-/// The same by whole cache lines, where the list's first number stands 16 bytes behind the beginning of one.
+/// Adds one to each number of a list, in its place, by whole cache lines where its first number stands 16 bytes behind the beginning
+/// of one.
 pub struct AddOneByLines;
 
 impl Remake for AddOneByLines {
