@@ -105,7 +105,7 @@ impl Remake for AddOneInPart {
 
     type Inner = End;
 
-    ghost remade = { λ _ _. Unit {0} };
+    ghost remade = { λ old new. new.value ≡ one_more_of old.value };
 
     fn run<H: Threads + Wait + Sync>(
         _rt: &H,
