@@ -4,8 +4,8 @@ use denote.Ref.{MutBor}
 use Rattle.std.specs.Fn.{Once, FnOnceTakesAtMut, FnOnceReturnsAtMut}
 use Rattle.std.specs.Prelude.{◌≡◌, ℕ, min}
 use Rattle.spindle_parts.specs.declared.requests.plays.Account.{Account}
-use Rattle.spindle_trays.specs.Accounts as accounts
-use Rattle.spindle_trays.specs.Notices as notices
+use Rattle.spindle_crew.specs.Accounts as accounts
+use Rattle.spindle_crew.specs.Notices as notices
 use Rattle.spindle_slots.specs.declared.posts.kept_post.KeptPost.{KeptPost}
 use Rattle.spindle.specs.declared.lock.slot_leader.SlotLeader.{SlotLeader}
 use Rattle.spindle_rounds.specs.declared.round_table.view.View.{View}

@@ -6,8 +6,8 @@ ghost use denote.Param.Send.{IsSync};
 
 use crate::checks::same_often;
 use crate::jobs::Double;
+use spindle_crew::limits::Limits;
 use spindle_parts::fault::Fault;
-use spindle_trays::crew::limits::Limits;
 use spindle_trays::job::Job;
 use spindle_trays::job::context::JobCx;
 use spindle_trays::job::gate::NoGate;

@@ -7,8 +7,8 @@ ghost use Rattle.std.proofs.Common.{rules};
 ghost use denote.Param.Send.{IsSync};
 
 use crate::checks::are;
+use spindle_crew::limits::Limits;
 use spindle_parts::fault::Fault;
-use spindle_trays::crew::limits::Limits;
 use spindle_trays::job::Job;
 use spindle_trays::job::context::JobCx;
 use spindle_trays::job::gate::NoGate;

@@ -4,9 +4,9 @@ ghost use Rattle.std.proofs.Common.{rules};
 ghost use denote.Param.Send.{IsSync};
 
 use crate::checks::same_often;
+use spindle_crew::limits::Limits;
 use spindle_lists::{ListRun, SharedList, gathered};
 use spindle_parts::fault::Fault;
-use spindle_trays::crew::limits::Limits;
 use spindle_trays::job::Job;
 use spindle_trays::job::context::JobCx;
 use spindle_trays::job::gate::NoGate;

@@ -3,8 +3,8 @@ ghost use Rattle.std.specs.Prelude.{◌<◌};
 
 use crate::checks::{are, holds, same_often};
 use crate::jobs::{DoubleBoth, FourUnits, Opener, Rounds, Where};
+use spindle_crew::limits::Limits;
 use spindle_parts::fault::Fault;
-use spindle_trays::crew::limits::Limits;
 use spindle_trays::job::gate::{Gate, NoGate};
 use spindle_trays::lock::pool::Pool;
 use spindle_trays_vectors::gates::Meetings;

@@ -140,10 +140,12 @@ module _ {X N : Type 0} (D : Discipline X N) (law : Lawful D) where
         D.clause (state run) (homes_after s.homes me.1 a) (set s.views 0 w) → Rule D t run (stepped s published_at (get_or s.words published_at 0) id me.1 w a))
     loaded run s r id me q at l x none_done b a c = let S : State = state run in let shows = (r.seats id me.0 at).0 in
         let w : View N = noted x (record me.0 { board = b }) in
-        moves_with D t run s r published_at (get_or s.words published_at 0) id me w a [] at tt r.is_run (subst (Words t S) (sym (set-get_or s.words published_at 0)) r.words)
+        moves_with D t run s r published_at (get_or s.words published_at 0) id me w a [] at tt r.is_run
+        (subst (Words t S) (sym (set-get_or s.words published_at 0)) r.words)
         record { stands = shows.stands; leads = shows.leads; claim = shows.claim; share = shows.share; inside = shows.inside }
         (ap (λ (d : List _). d ++ deeds_of me.0.trail) none_done ∙ (r.seats id me.0 at).1) refl
-        (still_laid D t run s r published_at (get_or s.words published_at 0) id me w [] at (inr refl) refl refl (λ _. refl) (inl (omega arith, (λ _. refl), λ _ _. refl)))
+        (still_laid D t run s r published_at (get_or s.words published_at 0) id me w [] at (inr refl) refl refl (λ _. refl)
+            (inl (omega arith, (λ _. refl), λ _ _. refl)))
         (subst (λ (z : ℕ). D.clause S (homes_after s.homes me.1 a) (set s.views z w)) (sym l.leads) c)
 
     sure_finished : (run : List Event) (s : table.State X (View N)) → Rule D t run s → (id : ℕ) (me : SeatOf D t) (q : ℕ) → get_elem? s.views id ≡ some me.0

@@ -1,5 +1,5 @@
 -- Lists in chunks, and the room for them.
-use Rattle.std.proofs.Common.{◌≡◌, ℕ, zero, suc, ◌+◌, ◌-◌, ◌/◌, ◌<◌, ◌≤◌, List, [], ◌∷◌, ◌++◌, length, min, take, drop, refl, ap, sym, ◌∙◌, arith}
+use Rattle.std.proofs.Common.{◌≡◌, ℕ, zero, suc, ◌+◌, ◌-◌, ◌/◌, ◌<◌, ◌≤◌, List, [], ◌∷◌, ◌++◌, length, take, drop, refl, ap, sym, ◌∙◌, arith}
 use Rattle.std.proofs.Common.{length-append}
 use Rattle.std.proofs.lemmas.List.{drop-take, nil_from_length, take_all}
 use Rattle.std.proofs.lemmas.Slice.Zip.{AllZip-long}
@@ -89,10 +89,6 @@ next_has_room moved from turn end len cap at lt long room = omega arith
 pub moved_all : (left moved from turn end len : ℕ) → left + moved ≡ len → from + moved ≡ turn → end ≤ turn → (from ≤ end → turn ≤ end) → end ≡ len → from ≤ len
     → left ≡ from
 moved_all left moved from turn end len all at last within long le = omega (arith, within (omega (arith, long, le)))
-
-pub moved_fit : (moved from turn end len room a b : ℕ) → from + moved ≡ turn → (from ≤ end → turn ≤ end) → end ≡ len → from ≤ len
-    → len - from ≤ room → min a b ≡ room → moved ≤ b
-moved_fit moved from turn end len room a b at within long le fits both = omega (arith, within (omega (arith, long, le)))
 
 -- each turn takes one and puts one
 pub some_ready : (left turn turns : ℕ) → left + turn ≡ turns → turn < turns → 0 < left

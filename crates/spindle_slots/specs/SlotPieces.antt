@@ -1,5 +1,5 @@
 -- A piece as a slot holds it, what answers it, and the items of a round over a list before they are there.
-use Rattle.std.specs.Prelude.{◌≡◌, ℕ, List, [], ◌∷◌, length, take, drop}
+use Rattle.std.specs.Prelude.{◌≡◌, ℕ, List, [], ◌∷◌, Option, None, Some, length, take, drop}
 use Rattle.std.specs.List.{AllZip}
 use Rattle.spindle_slots.specs.declared.pieces.items.Items.{Items}
 use Rattle.spindle_slots.specs.declared.pieces.items.Items.TheVariants.{Each, Runs}
@@ -11,6 +11,11 @@ use Rattle.spindle_trays.specs.PieceRuns.{piece_at}
 abbrev pub all_of : {A : Type 0} → OneOr A (List A) → List A
 all_of (One x) = x ∷ []
 all_of (Many xs) = xs
+
+-- the run that a block holds, if it holds one
+abbrev pub run_in : {A : Type 0} → Option (List A) → List A
+run_in None = []
+run_in (Some run) = run
 
 -- an answer is right where it relates to the items of the piece, one by one
 abbrev pub IsAnswerTo : {A B : Type 0} → (A → B → Type 0) → OneOr A (List A) → OneOr B (List B) → Type 0

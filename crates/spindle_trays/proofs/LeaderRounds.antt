@@ -9,8 +9,8 @@ use Rattle.spindle_rounds.specs.declared.round_table.view.View.{View}
 use Rattle.spindle_parts.specs.Words.{most_jobs}
 use Rattle.spindle_trays.specs.Rounds.{job_count}
 use Rattle.spindle_rounds.specs.RoundConditions.{MayFill}
-use Rattle.spindle_trays.specs.Posts.{party_view}
-use Rattle.spindle_trays.specs.declared.crew.leader_post.LeaderPost.{LeaderPost}
+use Rattle.spindle_crew.specs.Posts.{party_view}
+use Rattle.spindle_crew.specs.declared.leader_post.LeaderPost.{LeaderPost}
 use Rattle.spindle_trays.specs.Leaders.{TriedOnce, LeftByTryRefusal}
 use Rattle.spindle_trays.specs.Reports.{is_marked, IsLostOf, IsTryRefusal}
 use Rattle.spindle_trays.specs.declared.lock.leader.Leader.{Leader}

@@ -6,8 +6,5 @@ pub mod TrayPlaces
 pub mod PieceRuns
 pub mod Reports
 pub mod ChunkRounds
-mod Helpers
-mod Leaving
 mod LeaderRounds
 pub mod Rooms
-mod Benches

@@ -8,11 +8,4 @@ pub mod ChunkRounds
 pub mod Leaders
 pub mod Locks
 pub mod Rounds
-pub mod Opening
 pub mod Alone
-pub mod Posts
-pub mod Notices
-pub mod Accounts
-pub mod Helpers
-pub mod SlotPosts
-pub mod Nested

@@ -1,6 +1,5 @@
--- What contracts see of a pool and of a job's context, and how large a lock is.
-use Rattle.std.specs.Prelude.{ℕ, min}
-use Rattle.spindle_parts.specs.Words.{most_parties}
+-- What contracts see of a pool and of a job's context.
+use Rattle.std.specs.Prelude.{ℕ}
 use Rattle.spindle_parts.specs.declared.requests.plays.Account.{Account}
 
 -- a pool: its threads
@@ -13,7 +12,3 @@ pub record ContextView : Type 0 where
   pub threads : ℕ
   pub pool : ℕ
   pub account : Account
-
--- the threads of a lock: the least of the pool's, the caller's wish, and what a barrier can hold
-abbrev pub lock_threads : (pool wish : ℕ) → ℕ
-lock_threads pool wish = min (min pool wish) most_parties

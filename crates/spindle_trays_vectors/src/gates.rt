@@ -1,7 +1,7 @@
 //! A gate at which the jobs of a round meet.
 ghost use Rattle.std.specs.Prelude.{◌<◌};
 
-use spindle_trays::crew::limits::Limits;
+use spindle_crew::limits::Limits;
 use spindle_trays::job::gate::Gate;
 use spindle_trays::lock::pool::Pool;
 use std::hint::spin_loop;

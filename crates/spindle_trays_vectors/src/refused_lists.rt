@@ -8,8 +8,8 @@ ghost use Rattle.std.specs.Prelude.{◌<◌};
 
 use crate::checks::{are, holds};
 use crate::lists::{Length, are_three_numbers, seven_clones, three_numbers};
+use spindle_crew::limits::Limits;
 use spindle_parts::fault::Fault;
-use spindle_trays::crew::limits::Limits;
 use spindle_trays::job::gate::NoGate;
 use spindle_trays::lock::leader::Leader;
 use spindle_trays::lock::pool::Pool;

@@ -2,8 +2,8 @@
 ghost use Rattle.std.specs.Prelude.{◌≡◌, ◌<◌, true};
 ghost use Rattle.std.proofs.Common.{rules};
 
+use spindle_crew::limits::Limits;
 use spindle_parts::fault::Fault;
-use spindle_trays::crew::limits::Limits;
 use spindle_trays::job::context::JobCx;
 use spindle_trays::job::gate::{Gate, NoGate};
 use spindle_trays::job::nest::End;

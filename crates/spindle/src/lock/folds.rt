@@ -1,7 +1,7 @@
 //! Folding a list: each job folds a chunk of it, and the caller's thread folds what they answer.
 ghost use Rattle.std.specs.Prelude.{◌≡◌, IfOk, IfErr, IsOk, fold, length};
 ghost use Rattle.spindle.specs.Folds.{IsAssociative, IsNeutral, total_of};
-ghost use Rattle.spindle_trays.specs.Locks.{lock_threads};
+ghost use Rattle.spindle_crew.specs.Crews.{lock_threads};
 ghost use Rattle.spindle.specs.OneRound.{asked_jobs};
 ghost use Rattle.spindle_trays.specs.Rounds.{job_count, IsRefusal};
 ghost use Rattle.spindle_lists.specs.Same.{equal_lists_are_same};

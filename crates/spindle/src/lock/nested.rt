@@ -5,11 +5,13 @@
 ghost use Rattle.std.specs.Prelude.{◌≡◌, ◌<◌, ◌≤◌, IfOk, OnErr, IsErrOf};
 ghost use Rattle.std.specs.Arc.{arc_value};
 ghost use Rattle.std.specs.Fn.{FnOnceReturnsAtMut};
-ghost use Rattle.spindle_trays.specs.Locks.{lock_threads};
+ghost use Rattle.spindle_crew.specs.Crews.{lock_threads};
 ghost use Rattle.spindle.specs.SlotLeaders.{TakesLeaders, IsLeaderOf};
 
 use crate::lock::slot_leader::SlotLeader;
 use crate::lock::slot_nest::{Entry, NestedSlots, UnderPieces};
+use spindle_crew::Crew;
+use spindle_crew::limits::Limits;
 use spindle_parts::fault::Fault;
 use spindle_rounds::round_table::pieces::Pieces;
 use spindle_slots::crew::slot_post::Newcomer;
@@ -17,8 +19,6 @@ use spindle_slots::job::remake::Remakes;
 use spindle_slots::pieces::of_kind::{ChunkOf, PieceOf};
 use spindle_slots::posts::slot_workspace::{MakesSlots, OpensSlots, SlotWorkspace};
 use spindle_slots::work::in_slots::RunsPieces;
-use spindle_trays::crew::Crew;
-use spindle_trays::crew::limits::Limits;
 use spindle_trays::job::Job;
 use spindle_trays::job::context::JobCx;
 use spindle_trays::job::gate::NoGate;

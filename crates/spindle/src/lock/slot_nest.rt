@@ -3,9 +3,15 @@ ghost use Rattle.std.specs.Prelude.{◌≡◌, ◌≤◌, IfOk, OnErr, IsErrOf, 
 ghost use Rattle.std.specs.Arc.{arc_value};
 ghost use denote.Param.Send.{IsSync};
 ghost use Rattle.spindle_rounds.specs.Seating.{HasSlots};
-ghost use Rattle.spindle_trays.specs.Nested.{IsBenchAt};
-ghost use Rattle.spindle_trays.specs.Opening.{AreSeatsAt};
+ghost use Rattle.spindle_crew.specs.Benches.{IsBenchAt};
+ghost use Rattle.spindle_crew.specs.Opening.{AreSeatsAt};
 
+use spindle_crew::Crew;
+use spindle_crew::bench::Bench;
+use spindle_crew::limits::Limits;
+use spindle_crew::notices::Notices;
+use spindle_crew::seats::Seats;
+use spindle_crew::tables::Tables;
 use spindle_parts::fault::Fault;
 use spindle_rounds::round::Round;
 use spindle_rounds::round_table::pieces::{Answers, Pieces};
@@ -13,15 +19,12 @@ use spindle_slots::job::remake::InPlace;
 use spindle_slots::pieces::of_kind::{ChunkOf, PieceOf};
 use spindle_slots::posts::slot_workspace::SlotWorkspace;
 use spindle_slots::work::in_slots::RunsPieces;
-use spindle_trays::crew::Crew;
-use spindle_trays::crew::limits::Limits;
-use spindle_trays::crew::notices::Notices;
-use spindle_trays::crew::seats::Seats;
-use spindle_trays::crew::tables::Tables;
 use spindle_trays::job::Job;
 use spindle_trays::job::is_nest::IsNest;
 use spindle_trays::job::nest::Nest;
-use spindle_trays::lock::nested::{Bench, Child, ChildSlot, TakesHelpers, make_slots, serve_slots};
+use spindle_trays::lock::nested::{
+    Child, ChildSlot, TakesHelpers, help_from, make_slots, serve_slots,
+};
 use std::alloc::Global;
 use std::marker::PhantomData;
 use std::sync::{Arc, Wait};
@@ -101,8 +104,8 @@ impl<J: Job, A: RunsPieces<J>> NestedSlots<SlotWorkspace<J>, A> {
 impl<J: Job, A: RunsPieces<J>> TakesHelpers for NestedSlots<SlotWorkspace<J>, A> {
     fn help<H: Threads + Wait + Sync>(&self, rt: &H, alloc: Global) {
         let benches = self.benches.as_slice();
-        self.tables
-            .help_from::<J, SlotWorkspace<J>, H>(rt, alloc, &self.workspace, benches);
+        let tables = self.tables.as_ref();
+        help_from::<_, J, SlotWorkspace<J>, H>(rt, alloc, tables, &self.workspace, benches);
     }
 }
 

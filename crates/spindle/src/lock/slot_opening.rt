@@ -3,21 +3,21 @@ ghost use Rattle.std.specs.Prelude.{◌≡◌, ◌<◌, ◌≤◌, IfOk, OnErr, 
 ghost use Rattle.std.specs.Fn.{FnOnceReturnsAtMut};
 ghost use Rattle.std.specs.Arc.{arc_value};
 ghost use denote.Param.Send.{IsSync};
-ghost use Rattle.spindle_trays.specs.Locks.{lock_threads};
-ghost use Rattle.spindle_trays.specs.Opening.{AreSeatsAt};
+ghost use Rattle.spindle_crew.specs.Crews.{lock_threads};
+ghost use Rattle.spindle_crew.specs.Opening.{AreSeatsAt};
 ghost use Rattle.spindle.specs.SlotLeaders.{TakesLeaders, WasLed, threads_of};
 ghost use Rattle.spindle_rounds.specs.Seating.{HasSlots};
 
 use crate::lock::slot_leader::SlotLeader;
+use spindle_crew::Crew;
+use spindle_crew::limits::Limits;
+use spindle_crew::seats::Seats;
+use spindle_crew::tables::Tables;
 use spindle_parts::fault::Fault;
 use spindle_rounds::round_table::pieces::{Answers, Pieces};
 use spindle_rounds::round_table::slots::Slots;
 use spindle_slots::crew::slot_post::Newcomer;
 use spindle_slots::posts::slot_workspace::MakesSlots;
-use spindle_trays::crew::Crew;
-use spindle_trays::crew::limits::Limits;
-use spindle_trays::crew::seats::Seats;
-use spindle_trays::crew::tables::Tables;
 use spindle_trays::job::Job;
 use spindle_trays::job::gate::Gate;
 use spindle_trays::job::nest::Nest;

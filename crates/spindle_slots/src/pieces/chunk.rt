@@ -1,7 +1,8 @@
 //! A piece in place: its items, with room for what becomes of each.
 //!
 //! The items stand in reverse, so that they are taken from the end in their order, and what becomes of each goes to the end of the
-//! other list. Both lists keep their room from round to round.
+//! other list. Both lists keep their room from round to round, in a block of their own: so a slot holds a pointer to them, and slots are
+//! small, which threads pay for that pass them to each other.
 ghost use Rattle.std.specs.Prelude.{◌≡◌, ◌-◌, ◌+◌, ◌≤◌, ◌++◌, [], take, drop, reverse, true, OnOk, OnErr, IsErrOf, length, vec_len, vec_capacity};
 ghost use Rattle.spindle_slots.specs.SlotPieces.{all_of};
 
@@ -10,11 +11,19 @@ use spindle_parts::fault::Fault;
 use std::alloc::Global;
 use std::marker::Model;
 
+/// The items of a piece that wait, in reverse, and what became of the others.
+#[derive(Drop)]
+pub struct Lists<T> {
+    /// The items that wait.
+    pub(crate) todo: Vec<T>,
+    /// What became of the others.
+    pub(crate) done: Vec<T>,
+}
+
 /// Room for the items of a piece, and for what becomes of them. Contracts know it as the number of items for which there is room.
 #[derive(Drop)]
 pub struct Room<T> {
-    todo: Vec<T>,
-    done: Vec<T>,
+    lists: Box<Lists<T>>,
 }
 
 impl<T> Model for Room<T> {
@@ -22,16 +31,15 @@ impl<T> Model for Room<T> {
 
     ghost Value = { ℕ };
 
-    ghost view = { λ room. min (vec_capacity room.todo) (vec_capacity room.done) };
+    ghost view = { λ room. let lists = room.lists.value in min (vec_capacity lists.todo) (vec_capacity lists.done) };
 
-    ghost invariant = { λ room. (room.todo.items ≡ []) × (room.done.items ≡ []) };
+    ghost invariant = { λ room. (room.lists.value.todo.items ≡ []) × (room.lists.value.done.items ≡ []) };
 }
 
 /// Items that wait, with room for what becomes of them.
 #[derive(Drop)]
 pub struct Chunk<T> {
-    todo: Vec<T>,
-    done: Vec<T>,
+    lists: Box<Lists<T>>,
 }
 
 impl<T> Model for Chunk<T> {
@@ -39,17 +47,16 @@ impl<T> Model for Chunk<T> {
 
     ghost Value = { List T };
 
-    ghost view = { λ chunk. reverse chunk.todo.items };
+    ghost view = { λ chunk. reverse chunk.lists.value.todo.items };
 
-    ghost invariant = { λ chunk. (chunk.done.items ≡ [])
-        × (length chunk.todo.items ≤ vec_capacity chunk.done) };
+    ghost invariant = { λ chunk. (chunk.lists.value.done.items ≡ [])
+        × (length chunk.lists.value.todo.items ≤ vec_capacity chunk.lists.value.done) };
 }
 
 /// What became of the items of a chunk.
 #[derive(Drop)]
 pub struct Remade<T> {
-    todo: Vec<T>,
-    done: Vec<T>,
+    lists: Box<Lists<T>>,
 }
 
 impl<T> Model for Remade<T> {
@@ -57,27 +64,52 @@ impl<T> Model for Remade<T> {
 
     ghost Value = { List T };
 
-    ghost view = { λ chunk. chunk.done.items };
+    ghost view = { λ chunk. chunk.lists.value.done.items };
 
-    ghost invariant = { λ chunk. chunk.todo.items ≡ [] };
+    ghost invariant = { λ chunk. chunk.lists.value.todo.items ≡ [] };
+}
+
+impl<T> Lists<T> {
+    // Moves the items from a place on out of the list, the last one first.
+    fn load(&mut self, items: &mut Vec<T>, from: usize)
+        requires from { from ≤ vec_len items.old }
+        requires room { vec_len items.old - from ≤ vec_capacity self.old.todo }
+        requires empty { self.old.todo.items ≡ [] }
+        ensures left { items.new.items ≡ take from items.old.items }
+        ensures len { vec_len items.new ≡ from }
+        ensures block { vec_capacity items.new ≡ vec_capacity items.old }
+        ensures taken { reverse self.new.todo.items ≡ drop from items.old.items }
+        ensures many { from + vec_len self.new.todo ≡ vec_len items.old }
+        ensures done { self.new.done ≡ self.old.done }
+    {
+        for _ in from..items.len() {
+            self.todo.push_reserved(items.take_last());
+        }
+    }
+}
+
+impl<T: Drop> Room<T> {
+    /// Room for no item.
+    pub(crate) fn new(alloc: Global) -> Result<Room<T>, Fault>
+        ensures { OnErr result (IsErrOf result Fault.Memory) }
+    {
+        let lists = Lists {
+            todo: Vec::new(alloc),
+            done: Vec::new(alloc),
+        };
+        let lists = Box::new(alloc, lists)?;
+        Ok(Room { lists })
+    }
 }
 
 impl<T> Room<T> {
-    /// No room. Takes no memory.
-    pub(crate) fn new(alloc: Global) -> Room<T> {
-        Room {
-            todo: Vec::new(alloc),
-            done: Vec::new(alloc),
-        }
-    }
-
     /// Room for so many items.
     pub(crate) fn reserve(&mut self, items: usize) -> Result<(), Fault>
         ensures room { OnOk result (items ≤ self.new) }
         ensures memory { OnErr result (IsErrOf result Fault.Memory) }
     {
-        self.todo.reserve(items)?;
-        self.done.reserve(items)?;
+        self.lists.todo.reserve(items)?;
+        self.lists.done.reserve(items)?;
         Ok(())
     }
 
@@ -85,7 +117,7 @@ impl<T> Room<T> {
     pub(crate) fn has(&self, items: usize) -> bool
         ensures { result ≡ true → items ≤ self.now }
     {
-        items <= self.todo.capacity() && items <= self.done.capacity()
+        items <= self.lists.todo.capacity() && items <= self.lists.done.capacity()
     }
 
     /// Moves the items from a place on out of the list.
@@ -97,32 +129,30 @@ impl<T> Room<T> {
         ensures block { vec_capacity items.new ≡ vec_capacity items.old }
         ensures taken { result ≡ drop from items.old.items }
     {
-        let Room { mut todo, done } = self;
-        for _ in from..items.len() {
-            todo.push_reserved(items.take_last());
-        }
-        Chunk { todo, done }
+        let Room { mut lists } = self;
+        lists.load(items, from);
+        Chunk { lists }
     }
 }
 
 impl<T> Chunk<T> {
     /// The items in reverse, and the empty room for what becomes of them.
-    pub(crate) fn into_parts(self) -> (Vec<T>, Vec<T>)
-        ensures items { self ≡ reverse result.0.items }
-        ensures empty { result.1.items ≡ [] }
-        ensures room { vec_len result.0 ≤ vec_capacity result.1 }
+    pub(crate) fn into_lists(self) -> Box<Lists<T>>
+        ensures items { self ≡ reverse result.value.todo.items }
+        ensures empty { result.value.done.items ≡ [] }
+        ensures room { vec_len result.value.todo ≤ vec_capacity result.value.done }
     {
-        (self.todo, self.done)
+        self.lists
     }
 }
 
 impl<T> Remade<T> {
-    /// What became of the items, with their empty room.
-    pub(crate) fn new(todo: Vec<T>, done: Vec<T>) -> Remade<T>
-        requires { todo.items ≡ [] }
-        ensures { result ≡ done.items }
+    /// What became of the items, none of which waits any more.
+    pub(crate) fn new(lists: Box<Lists<T>>) -> Remade<T>
+        requires { lists.value.todo.items ≡ [] }
+        ensures { result ≡ lists.value.done.items }
     {
-        Remade { todo, done }
+        Remade { lists }
     }
 
     /// Moves what became of the items to the end of the list, and leaves their room.
@@ -131,9 +161,9 @@ impl<T> Remade<T> {
         ensures items { items.new.items ≡ items.old.items ++ self }
         ensures block { vec_capacity items.old ≤ vec_capacity items.new }
     {
-        let Remade { todo, mut done } = self;
-        items.append(&mut done).unwrap();
-        Room { todo, done }
+        let Remade { mut lists } = self;
+        items.append(&mut lists.done).unwrap();
+        Room { lists }
     }
 }
 

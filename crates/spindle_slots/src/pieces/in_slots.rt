@@ -9,7 +9,7 @@ ghost use Rattle.spindle_slots.specs.SlotPieces.{IsItemOf, IsPieceOf};
 use crate::crew::slot_tables::SlotTables;
 use crate::pieces::of_kind::PieceOf;
 use crate::pieces::rooms::Rooms;
-use crate::pieces::slot_piece::{Batch, OneOr};
+use crate::pieces::slot_piece::{Batch, OneOr, Parts};
 use spindle_parts::fault::Fault;
 use spindle_rounds::round_table::Seat;
 use spindle_rounds::round_table::pieces::{Answers, Pieces};
@@ -17,16 +17,16 @@ use spindle_trays::job::Job;
 use spindle_trays::pieces::runs;
 use std::alloc::{AllocError, Global};
 
-// The piece of a number, with this room for its outputs.
+// The piece of a number, with this room for its outputs, if there is any.
 fn batch<T: Drop, U: Drop>(
     pieces: &runs::Pieces<T>,
     number: usize,
-    room: Vec<U>,
+    room: Result<Box<Parts<T, U>>, AllocError>,
 ) -> Result<OneOr<T, Batch<T, U>>, AllocError>
     requires { number < pieces.now.count }
     ensures { IfOk result (IsPieceOf pieces.now.items pieces.now.count number) }
 {
-    Ok(OneOr::Many(Batch::new(pieces.run(number)?, room)?))
+    Ok(OneOr::Many(Batch::new(pieces.run(number)?, room?)?))
 }
 
 impl<'t, T: Drop, M: Drop, A: Answers<Piece = OneOr<T, M>>> SlotTables<'t, Pieces<A>> {
@@ -72,7 +72,7 @@ impl<'t, J: Job> SlotTables<'t, Pieces<PieceOf<J>>> {
         alloc: Global,
         seat: &mut Seat<Pieces<PieceOf<J>>>,
         pieces: &runs::Pieces<J::In>,
-        rooms: &mut Rooms<J::Out>,
+        rooms: &mut Rooms<J::In, J::Out>,
     ) -> Result<(), Fault>
         requires seated { IsSeatAt self.now.tables.now.round.init seat.old }
         requires held { HoldsEach IsEmpty self.now.slots seat.old.me.1 }
@@ -84,7 +84,7 @@ impl<'t, J: Job> SlotTables<'t, Pieces<PieceOf<J>>> {
         ensures empty { OnErr result (HoldsEach IsEmpty self.now.slots seat.new.me.1) }
         ensures memory { OnErr result (IsErrOf result Fault.Memory) }
     {
-        rooms.furnish(alloc, pieces.count())?;
+        rooms.furnish(pieces.count())?;
         let round = &self.tables.round;
         for slot in 0..pieces.count() {
             let room = rooms.take(alloc, slot);

@@ -36,7 +36,7 @@ pub trait FillsSlots<J: Job> {
         alloc: Global,
         tables: &SlotTables<'_, pieces::Pieces<PieceOf<J>>>,
         seat: &mut Seat<pieces::Pieces<PieceOf<J>>>,
-        rooms: &mut Rooms<J::Out>,
+        rooms: &mut Rooms<J::In, J::Out>,
     ) -> Result<(), Fault>
         requires seated { IsSeatAt tables.now.tables.now.round.init seat.old }
         requires held { HoldsEach IsEmpty tables.now.slots seat.old.me.1 }
@@ -90,7 +90,7 @@ impl<J: Job> FillsSlots<J> for Items<J::In> {
         alloc: Global,
         tables: &SlotTables<'_, pieces::Pieces<PieceOf<J>>>,
         seat: &mut Seat<pieces::Pieces<PieceOf<J>>>,
-        rooms: &mut Rooms<J::Out>,
+        rooms: &mut Rooms<J::In, J::Out>,
     ) -> Result<(), Fault> {
         match self {
             Items::Each(items) => {
@@ -131,7 +131,7 @@ impl<J: Job<In = usize>> FillsSlots<J> for Numbers {
         _alloc: Global,
         tables: &SlotTables<'_, pieces::Pieces<PieceOf<J>>>,
         seat: &mut Seat<pieces::Pieces<PieceOf<J>>>,
-        _rooms: &mut Rooms<J::Out>,
+        _rooms: &mut Rooms<J::In, J::Out>,
     ) -> Result<(), Fault> {
         tables.fill_counted(seat, self.count);
         Ok(())

@@ -24,13 +24,13 @@ pub struct PieceOf<J: Job> {
 impl<J: Job> Answers for PieceOf<J> {
     type Piece = OneOr<J::In, Batch<J::In, J::Out>>;
 
-    type Answer = OneOr<J::Out, Outputs<J::Out>>;
+    type Answer = OneOr<J::Out, Outputs<J::In, J::Out>>;
 
     ghost answers = { IsAnswerTo J.meets };
 }
 
 impl<J: Job> Keeps for PieceOf<J> {
-    type Kept = Rooms<J::Out>;
+    type Kept = Rooms<J::In, J::Out>;
 }
 
 /// A piece in place is answered by what became of its items, each in its place.

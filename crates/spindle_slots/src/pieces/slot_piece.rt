@@ -6,7 +6,7 @@ ghost use Rattle.std.specs.Prelude.{◌≡◌, ◌+◌, ◌≤◌, ◌++◌, [],
 ghost use Rattle.spindle_slots.specs.SlotPieces.{all_of};
 
 use spindle_lists::run::ListRun;
-use std::alloc::AllocError;
+use std::alloc::{AllocError, Global};
 use std::marker::Model;
 
 /// One item, or many, which M holds.
@@ -18,72 +18,99 @@ pub enum OneOr<T, M> {
     Many(M),
 }
 
+/// A run of the items of a round, where it hasn't begun, and room for the outputs. They stand in a block of their own, which is kept
+/// from round to round, so that a slot holds a pointer to it: threads pass slots to each other, and pay for their size.
+#[derive(Drop)]
+pub struct Parts<T, U> {
+    inputs: Option<ListRun<T>>,
+    /// The outputs.
+    pub(crate) outputs: Vec<U>,
+}
+
 /// A run of the items of a round, with room for an output for each of them. Contracts know it as its items.
 #[derive(Drop)]
 pub struct Batch<T, U> {
-    inputs: ListRun<T>,
-    room: Vec<U>,
+    parts: Box<Parts<T, U>>,
 }
 
 impl<T, U> Model for Batch<T, U> {
-    ghost use Rattle.std.specs.Prelude.{◌≡◌, ◌≤◌, List, [], length, vec_capacity};
+    ghost use Rattle.std.specs.Prelude.{◌≡◌, ◌≤◌, List, [], IsSome, length, vec_capacity};
+    ghost use Rattle.spindle_slots.specs.SlotPieces.{run_in};
 
     ghost Value = { List T };
 
-    ghost view = { λ batch. batch.inputs };
+    ghost view = { λ batch. run_in batch.parts.value.inputs };
 
-    ghost invariant = { λ batch. (batch.room.items ≡ [])
-        × (length batch.inputs ≤ vec_capacity batch.room) };
+    ghost invariant = { λ batch. let parts = batch.parts.value in IsSome parts.inputs × (parts.outputs.items ≡ [])
+        × (length (run_in parts.inputs) ≤ vec_capacity parts.outputs) };
 }
 
 /// The outputs of a run, one for each of its items.
 #[derive(Drop)]
-pub struct Outputs<U> {
-    outputs: Vec<U>,
+pub struct Outputs<T, U> {
+    parts: Box<Parts<T, U>>,
 }
 
-impl<U> Model for Outputs<U> {
+impl<T, U> Model for Outputs<T, U> {
     ghost use Rattle.std.specs.Prelude.{List};
 
     ghost Value = { List U };
 
-    ghost view = { λ all. all.outputs.items };
+    ghost view = { λ all. all.parts.value.outputs.items };
 }
 
 impl<T: Drop, U: Drop> Batch<T, U> {
-    /// A run with room for its outputs. What the list held goes; its room is used.
-    pub(crate) fn new(inputs: ListRun<T>, mut room: Vec<U>) -> Result<Batch<T, U>, AllocError>
+    /// A run with room for its outputs. What the block held goes; its room is used.
+    pub(crate) fn new(
+        inputs: ListRun<T>,
+        mut parts: Box<Parts<T, U>>,
+    ) -> Result<Batch<T, U>, AllocError>
         ensures { IfOk result (λ batch. batch ≡ inputs) }
     {
-        room.clear();
-        room.reserve(inputs.len())?;
-        Ok(Batch { inputs, room })
+        parts.outputs.clear();
+        parts.outputs.reserve(inputs.len())?;
+        parts.inputs = Some(inputs);
+        Ok(Batch { parts })
+    }
+}
+
+impl<T, U> Parts<T, U> {
+    /// No run and no room for its outputs.
+    pub(crate) fn new(alloc: Global) -> Parts<T, U> {
+        Parts {
+            inputs: None,
+            outputs: Vec::new(alloc),
+        }
     }
 }
 
 impl<T, U> Batch<T, U> {
     /// The items, and the empty room for their outputs.
-    pub(crate) fn into_parts(self) -> (ListRun<T>, Vec<U>)
+    pub(crate) fn into_parts(self) -> (ListRun<T>, Box<Parts<T, U>>)
         ensures items { result.0 ≡ self }
-        ensures empty { result.1.items ≡ [] }
-        ensures room { length self ≤ vec_capacity result.1 }
+        ensures empty { result.1.value.outputs.items ≡ [] }
+        ensures room { length self ≤ vec_capacity result.1.value.outputs }
     {
-        (self.inputs, self.room)
+        let Batch { mut parts } = self;
+        let Some(inputs) = parts.inputs.take() else {
+            unreachable!()
+        };
+        (inputs, parts)
     }
 }
 
-impl<U> Outputs<U> {
-    /// These outputs.
-    pub(crate) fn new(outputs: Vec<U>) -> Outputs<U>
-        ensures { result ≡ outputs.items }
+impl<T, U> Outputs<T, U> {
+    /// The outputs in a block.
+    pub(crate) fn new(parts: Box<Parts<T, U>>) -> Outputs<T, U>
+        ensures { result ≡ parts.value.outputs.items }
     {
-        Outputs { outputs }
+        Outputs { parts }
     }
 }
 
-impl<U> OneOr<U, Outputs<U>> {
+impl<T, U> OneOr<U, Outputs<T, U>> {
     /// Moves the outputs to the end of the list. Of many their empty room is left.
-    pub(crate) fn unload(self, outputs: &mut Vec<U>) -> Option<Vec<U>>
+    pub(crate) fn unload(self, outputs: &mut Vec<U>) -> Option<Box<Parts<T, U>>>
         requires room { vec_len outputs.old + length (all_of self) ≤ vec_capacity outputs.old }
         ensures outputs { outputs.new.items ≡ outputs.old.items ++ all_of self }
         ensures block { vec_capacity outputs.old ≤ vec_capacity outputs.new }
@@ -93,9 +120,9 @@ impl<U> OneOr<U, Outputs<U>> {
                 outputs.push_reserved(output);
                 None
             }
-            OneOr::Many(Outputs { outputs: mut room }) => {
-                outputs.append(&mut room).unwrap();
-                Some(room)
+            OneOr::Many(Outputs { mut parts }) => {
+                outputs.append(&mut parts.outputs).unwrap();
+                Some(parts)
             }
         }
     }

@@ -44,7 +44,7 @@ impl<T: Drop> Store<T> {
         self.put_aside();
         self.ready.reserve(jobs)?;
         for _ in 0..jobs {
-            let mut room = self.take(alloc);
+            let mut room = self.take(alloc)?;
             room.reserve(most)?;
             self.ready.push_reserved(room);
         }
@@ -80,13 +80,14 @@ impl<T: Drop> Store<T> {
         }
     }
 
-    /// Room that waits, or none yet.
-    pub(crate) fn take(&mut self, alloc: Global) -> Room<T>
+    /// Room that waits, or new room for no item.
+    pub(crate) fn take(&mut self, alloc: Global) -> Result<Room<T>, Fault>
+        ensures memory { OnErr result (IsErrOf result Fault.Memory) }
         ensures ready { self.new.ready ≡ self.old.ready }
         ensures chunks { self.new.chunks ≡ self.old.chunks }
     {
         match self.spare.pop() {
-            Some(room) => room,
+            Some(room) => Ok(room),
             None => Room::new(alloc),
         }
     }

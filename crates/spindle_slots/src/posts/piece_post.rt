@@ -2,7 +2,7 @@
 ghost use Rattle.std.specs.Prelude.{◌≡◌, ◌≤◌, [], OnOk, OnErr, IsErrOf, vec_capacity, length};
 ghost use Rattle.std.specs.List.{AllZip};
 ghost use denote.Param.Send.{IsSync};
-ghost use Rattle.spindle_trays.specs.SlotPosts.{view_in};
+ghost use Rattle.spindle_crew.specs.SlotPosts.{view_in};
 ghost use Rattle.spindle_rounds.specs.RoundConditions.{MayFill};
 ghost use Rattle.spindle_rounds.specs.Working.{PlayedRound};
 
@@ -13,9 +13,9 @@ use crate::pieces::of_kind::PieceOf;
 use crate::pieces::rooms::Rooms;
 use crate::posts::kept_post::KeptPost;
 use crate::posts::slot_workspace::OpensSlots;
+use spindle_crew::tables::Tables;
 use spindle_parts::fault::Fault;
 use spindle_rounds::round_table::pieces::Pieces;
-use spindle_trays::crew::tables::Tables;
 use spindle_trays::job::Job;
 use spindle_trays::job::gate::Gate;
 use spindle_trays::work::runner::Runner;
@@ -76,7 +76,7 @@ impl<J: Job> SlotPost<PieceOf<J>> {
         alloc: Global,
         runner: &mut Runner<'_, J, G>,
         items: &mut S,
-        rooms: &mut Rooms<J::Out>,
+        rooms: &mut Rooms<J::In, J::Out>,
         outputs: &mut Vec<J::Out>,
     ) -> Result<(), Fault>
         requires jobs { (2 ≤ S.pieces items.old) × (S.pieces items.old ≤ self.old.slots) }

@@ -3,7 +3,7 @@ ghost use Rattle.std.specs.Prelude.{◌≡◌, ◌<◌, ◌≤◌, true, OnOk, O
 ghost use Rattle.std.specs.List.{AllZip};
 ghost use denote.Param.Send.{IsSync};
 ghost use Rattle.spindle_slots.specs.InPlace.{IsReady};
-ghost use Rattle.spindle_trays.specs.SlotPosts.{view_in};
+ghost use Rattle.spindle_crew.specs.SlotPosts.{view_in};
 ghost use Rattle.spindle_rounds.specs.RoundConditions.{MayFill};
 ghost use Rattle.spindle_rounds.specs.Working.{PlayedRound};
 
@@ -15,9 +15,9 @@ use crate::pieces::store::Store;
 use crate::posts::kept_post::KeptPost;
 use crate::posts::slot_workspace::OpensSlots;
 use crate::work::in_place::remake_chunk;
+use spindle_crew::tables::Tables;
 use spindle_parts::fault::Fault;
 use spindle_rounds::round_table::pieces::Pieces;
-use spindle_trays::crew::tables::Tables;
 use spindle_trays::job::gate::Gate;
 use spindle_trays::work::runner::Runner;
 use std::alloc::Global;
@@ -95,7 +95,7 @@ impl<J: Remakes> PlaysInPlace<KeptPost<ChunkOf<J>>> for J {
         items: &mut Vec<J::Item>,
     ) -> Result<(), Fault> {
         let store = post.kept.get_or_insert_with(|| Store::new(alloc));
-        let mut room = store.take(alloc);
+        let mut room = store.take(alloc)?;
         room.reserve(items.len())?;
         let chunk = room.load(items, 0);
         let remade = remake_chunk(rt, alloc, runner, 0, None, chunk);

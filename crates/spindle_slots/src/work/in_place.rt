@@ -1,5 +1,5 @@
 //! Rounds in place: a thread remakes the items of its piece, and puts back what became of them.
-ghost use Rattle.std.specs.Prelude.{◌≡◌, ◌≤◌, ◌<◌, true, vec_len, vec_capacity};
+ghost use Rattle.std.specs.Prelude.{◌≡◌, ◌≤◌, ◌<◌, true, [], reverse, vec_len, vec_capacity};
 ghost use Rattle.std.specs.List.{AllZip};
 ghost use Rattle.std.specs.Option.{ForSome};
 ghost use Rattle.spindle_rounds.specs.Holding.{Keeps};
@@ -9,7 +9,7 @@ ghost use Rattle.spindle_slots.specs.SlotRounds.{LeadsIn};
 
 use crate::crew::slot_tables::SlotTables;
 use crate::job::remake::Remakes;
-use crate::pieces::chunk::{Chunk, Remade};
+use crate::pieces::chunk::{Chunk, Lists, Remade};
 use crate::pieces::of_kind::ChunkOf;
 use crate::pieces::slot_piece::OneOr;
 use crate::pieces::store::Store;
@@ -123,24 +123,27 @@ pub(crate) fn remake_chunk<J: Remakes, G: Gate, H: Threads + Wait + Sync>(
     let notices = runner.notices.another();
     let mut context = JobCx::new(Some(runner.slots), notices, site);
     runner.gate.begun(number);
-    let remade = remake_each::<J, H>(rt, alloc, chunk, &mut context);
+    let mut lists = chunk.into_lists();
+    remake_each::<J, H>(rt, alloc, &mut lists, &mut context);
     runner.gate.done(number);
-    remade
+    Remade::new(lists)
 }
 
-// Remakes the items one after the other.
+// Remakes the items that wait, one after the other.
 fn remake_each<J: Remakes, H: Threads + Wait + Sync>(
     rt: &H,
     alloc: Global,
-    chunk: Chunk<J::Item>,
+    lists: &mut Lists<J::Item>,
     context: &mut JobCx<'_, J::Inner>,
-) -> Remade<J::Item>
-    ensures { AllZip J.remade chunk result }
+)
+    requires empty { lists.old.done.items ≡ [] }
+    requires room { vec_len lists.old.todo ≤ vec_capacity lists.old.done }
+    ensures none { lists.new.todo.items ≡ [] }
+    ensures remade { AllZip J.remade (reverse lists.old.todo.items) lists.new.done.items }
 {
-    let (mut todo, mut done) = chunk.into_parts();
-    for _ in 0..todo.len() {
-        let mut item = Some(todo.take_last());
-        done.push_reserved(J::remake(rt, alloc, &mut item, context));
+    for _ in 0..lists.todo.len() {
+        let mut item = Some(lists.todo.take_last());
+        let remade = J::remake(rt, alloc, &mut item, context);
+        lists.done.push_reserved(remade);
     }
-    Remade::new(todo, done)
 }

@@ -12,14 +12,14 @@ ghost use Rattle.spindle_slots.specs.SlotRounds.{LeadsAt, PlayedPieces};
 
 use crate::crew::slot_tables::SlotTables;
 use crate::pieces::of_kind::Keeps;
+use spindle_crew::phases::end_round;
+use spindle_crew::post::Post;
 use spindle_rounds::barrier::Barrier;
 use spindle_rounds::round::claim::Claimed;
 use spindle_rounds::round::party::{Party, Work};
 use spindle_rounds::round::task::Task;
 use spindle_rounds::round_table::Seat;
 use spindle_rounds::round_table::pieces::{Answers, Pieces, Stand};
-use spindle_trays::crew::phases::end_round;
-use spindle_trays::crew::post::Post;
 use spindle_trays::job::Job;
 use spindle_trays::job::gate::Gate;
 use spindle_trays::work::runner::Runner;

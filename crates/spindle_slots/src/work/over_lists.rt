@@ -31,7 +31,7 @@ impl<'t, J: Job> SlotTables<'t, Pieces<PieceOf<J>>> {
         barrier: &mut Barrier<'_, Pieces<PieceOf<J>>>,
         runner: &mut Runner<'_, J, G>,
         items: &mut S,
-        rooms: &mut Rooms<J::Out>,
+        rooms: &mut Rooms<J::In, J::Out>,
         outputs: &mut Vec<J::Out>,
     ) -> Result<(), Fault>
         requires leads { LeadsIn self.now.tables.now barrier.old }
@@ -73,7 +73,7 @@ impl<J: Job> RunsPieces<J> for PieceOf<J> {
         runner: &mut Runner<'_, J, G>,
         number: usize,
         piece: &mut Option<OneOr<J::In, Batch<J::In, J::Out>>>,
-    ) -> OneOr<J::Out, Outputs<J::Out>> {
+    ) -> OneOr<J::Out, Outputs<J::In, J::Out>> {
         let index = runner.site.index;
         let Some(piece) = piece.take() else {
             unreachable!()
@@ -81,10 +81,10 @@ impl<J: Job> RunsPieces<J> for PieceOf<J> {
         match piece {
             OneOr::One(item) => OneOr::One(runner.run_one(rt, alloc, number, index, &item)),
             OneOr::Many(batch) => {
-                let (inputs, mut outputs) = batch.into_parts();
+                let (inputs, mut parts) = batch.into_parts();
                 let items = inputs.as_slice();
-                runner.run(rt, alloc, number, index, items, &mut outputs);
-                OneOr::Many(Outputs::new(outputs))
+                runner.run(rt, alloc, number, index, items, &mut parts.outputs);
+                OneOr::Many(Outputs::new(parts))
             }
         }
     }

@@ -1,9 +1,9 @@
 //! What a job is given beside its input: where it runs.
 ghost use Rattle.std.specs.Prelude.{◌≡◌, ◌<◌, ◌≤◌, IfSome};
 
-use crate::crew::notices::Notices;
-use crate::crew::site::Site;
 use crate::job::nest::Nest;
+use spindle_crew::notices::Notices;
+use spindle_crew::site::Site;
 use std::marker::Model;
 
 /// The context of a job whose kind has the inner nest N.
@@ -19,7 +19,7 @@ pub struct JobCx<'a, N: Nest> {
 
 impl<'a, N: Nest> Model for JobCx<'a, N> {
     ghost use Rattle.spindle_trays.specs.Locks.{ContextView};
-    ghost use Rattle.spindle_trays.specs.Accounts.{account_of};
+    ghost use Rattle.spindle_crew.specs.Accounts.{account_of};
 
     ghost Value = { ContextView };
 
@@ -27,8 +27,8 @@ impl<'a, N: Nest> Model for JobCx<'a, N> {
 }
 
 impl<'a, N: Nest> JobCx<'a, N> {
-    ghost use Rattle.spindle_trays.specs.Accounts.{account_of};
-    ghost use Rattle.spindle_trays.specs.Notices.{AnnouncedRest};
+    ghost use Rattle.spindle_crew.specs.Accounts.{account_of};
+    ghost use Rattle.spindle_crew.specs.Notices.{AnnouncedRest};
 
     /// The context of a job that runs at this site.
     pub fn new(slots: Option<&'a N::Slots>, notices: Notices<'a>, site: Site<'a>) -> JobCx<'a, N>

@@ -1,102 +1,56 @@
 //! The life of a helper: it takes a number, joins the barrier, works in each round, and ends once exit is announced.
-ghost use Rattle.std.specs.Prelude.{◌≡◌, ◌<◌, ◌≤◌, false};
-ghost use Rattle.spindle_parts.specs.ThreadNumbers.{IsSeatOf, IsSameSeat as IsSameNumberSeat};
-ghost use Rattle.spindle_parts.specs.declared.numbers.plays.Holding.TheVariants.{Nothing, Has};
-ghost use Rattle.spindle_trays.specs.Posts.{IsOut, AreOut, AreSameSeats, party_view};
-ghost use Rattle.spindle_trays.specs.Helpers.{IsHelperAt, IsNews, seat_of};
-ghost use Rattle.spindle_rounds.specs.RoundConditions.{IsDone};
+ghost use Rattle.std.specs.Prelude.{◌≡◌, ◌<◌, false};
+ghost use Rattle.spindle_crew.specs.Posts.{IsOut, AreOut, AreSameSeats, party_view};
+ghost use Rattle.spindle_crew.specs.Helpers.{IsHelperAt, IsNews, seat_of};
 ghost use Rattle.spindle_rounds.specs.Seating.{IsSameSeat};
 
-use crate::crew::notices::Notices;
-use crate::crew::phases::end_or_leave;
-use crate::crew::post::{Post, Whereabouts};
-use crate::crew::seats::Seats;
-use crate::crew::tables::Tables;
 use crate::job::Job;
 use crate::job::gate::Gate;
 use crate::job::nest::Nest;
 use crate::lock::part::TakesPart;
 use crate::work::runner::Runner;
-use spindle_parts::numbers;
-use spindle_parts::numbers::{Numbers, Take};
-use spindle_rounds::barrier::ExitStatus;
-use spindle_rounds::round::task::Task;
+use spindle_crew::helping::{News, await_news, end_part, take_number};
+use spindle_crew::notices::Notices;
+use spindle_crew::post::{Post, Whereabouts};
+use spindle_crew::seats::{Recruit, Seats};
+use spindle_crew::tables::Tables;
 use spindle_rounds::round_table;
 use spindle_rounds::round_table::slots::Slots;
 use std::alloc::Global;
 use std::sync::Wait;
-use std::thread;
 use std::thread::Threads;
 
-/// A thread that isn't in the lock yet: its seats at the lock's tables.
-#[derive(Drop)]
-pub(crate) struct Recruit<'a, D: Slots> {
-    pub(crate) tables: &'a Tables<D>,
-    pub(crate) seats: Seats<D>,
-    ghost out: { AreOut tables.now seats },
-}
-
-impl<'a, D: Slots> Recruit<'a, D> {
-    /// The helper's life, from its number to its end. Its seats come back.
-    pub(crate) fn help<J: Job + 'a, L: TakesPart<J, D>, G: Gate, H: Threads + Wait + Sync>(
-        self,
-        rt: &H,
-        alloc: Global,
-        workspace: &'a L,
-        gate: &'a G,
-    ) -> Seats<D>
-        ensures out { AreOut self.entry.tables.now result }
-        ensures own { AreSameSeats self.entry.seats result }
-    {
-        let Recruit { tables, seats } = self;
-        let Seats {
-            round,
-            mut numbers,
-            mut ledger,
-        } = seats;
-        let thread = take_number(rt, &tables.numbers, &mut numbers);
-        let post = Post::join(rt, tables, round, thread);
-        let seat = tables.ledger.new_seat(&mut ledger);
-        let notices = Notices::new(&tables.ledger, seat, tables.child_slots);
-        let site = tables.site(L::members(tables), thread);
-        let runner = Runner::<'a, J, G>::new(workspace.children(), gate, site, notices);
-        let round = live::<D, J, L, G, H>(rt, alloc, post, runner, workspace);
-        tables.numbers.give(&mut numbers, thread);
-        Seats {
-            round,
-            numbers,
-            ledger,
-        }
-    }
-}
-
-// Takes a thread number, and tries again until it has one.
-fn take_number<H: Wait>(rt: &H, numbers: &Numbers, seat: &mut numbers::Seat) -> usize
-    requires seated { IsSeatOf numbers.now seat.old }
-    requires no_number { seat.old.me.0.holding ≡ Nothing }
-    ensures seat { IsSeatOf numbers.now seat.new }
-    ensures same { IsSameNumberSeat seat.old seat.new }
-    ensures own { seat.new.me.0.holding ≡ Has result }
-    ensures number { result < numbers.now.threads }
+/// A helper's life, from its number to its end. Its seats come back.
+pub(crate) fn help<
+    'a,
+    D: Slots,
+    J: Job + 'a,
+    L: TakesPart<J, D>,
+    G: Gate,
+    H: Threads + Wait + Sync,
+>(rt: &H, alloc: Global, recruit: Recruit<'a, D>, workspace: &'a L, gate: &'a G) -> Seats<D>
+    ensures out { AreOut recruit.entry.tables.now result }
+    ensures own { AreSameSeats recruit.entry.seats result }
 {
-    for _ in rt.forever() {
-        if let Take::Taken(number) = numbers.try_take(seat) {
-            return number;
-        }
-        thread::yield_now();
+    let Recruit { tables, seats } = recruit;
+    let Seats {
+        round,
+        mut numbers,
+        mut ledger,
+    } = seats;
+    let thread = take_number(rt, &tables.numbers, &mut numbers);
+    let post = Post::join(rt, tables, round, thread);
+    let seat = tables.ledger.new_seat(&mut ledger);
+    let notices = Notices::new(&tables.ledger, seat, tables.child_slots);
+    let site = tables.site(L::members(tables), thread);
+    let runner = Runner::<'a, J, G>::new(workspace.children(), gate, site, notices);
+    let round = live::<D, J, L, G, H>(rt, alloc, post, runner, workspace);
+    tables.numbers.give(&mut numbers, thread);
+    Seats {
+        round,
+        numbers,
+        ledger,
     }
-    unreachable!()
-}
-
-// What a helper has waited for.
-#[derive(Drop)]
-enum News {
-    // Exit is announced.
-    Exit,
-    // A round is published.
-    Round(Task),
-    // Nested locks ask for helpers.
-    Requests,
 }
 
 // Takes part in each round, and goes to the nested locks that ask for helpers, until exit is announced.
@@ -148,31 +102,6 @@ fn follow<'a, D: Slots, J: Job, L: TakesPart<J, D>, G: Gate, H: Threads + Wait +
     }
 }
 
-// Waits until the round has ended, or leaves where nested locks ask for helpers.
-fn end_part<'a, D: Slots, H: Wait>(
-    rt: &H,
-    post: Post<'a, D>,
-    notices: &mut Notices<'_>,
-) -> Whereabouts<'a, D>
-    requires helper { (party_view post.barrier).leader ≡ false }
-    requires done { IsDone (party_view post.barrier) }
-    ensures at { IsHelperAt post.entry.tables.now post.entry.thread result }
-    ensures seat { IsSameSeat post.entry.barrier.seat (seat_of result) }
-{
-    let Post {
-        tables,
-        barrier,
-        thread,
-    } = post;
-    match end_or_leave(rt, tables, barrier, notices) {
-        ExitStatus::Exit(seat) => {
-            tables.present.go();
-            Whereabouts::Out(seat)
-        }
-        ExitStatus::Remain(barrier) => Whereabouts::In(Post::new(tables, barrier, thread)),
-    }
-}
-
 // A helper that is out of the barrier goes to the nested locks that ask for helpers, and joins again.
 fn return_to_post<'a, D: Slots, J: Job, G: Gate, H: Threads + Wait + Sync>(
     rt: &H,
@@ -196,31 +125,4 @@ fn return_to_post<'a, D: Slots, J: Job, G: Gate, H: Threads + Wait + Sync>(
             Post::join(rt, tables, seat, thread)
         }
     }
-}
-
-// Waits for a round, for requests, or for the announcement of exit.
-fn await_news<'a, D: Slots, H: Wait>(
-    rt: &H,
-    post: &mut Post<'a, D>,
-    notices: &mut Notices<'a>,
-) -> News
-    ensures news { IsNews (party_view post.new.barrier) result }
-    ensures post { (post.new.tables ≡ post.old.tables) × (post.new.thread ≡ post.old.thread) }
-    ensures leader { (party_view post.new.barrier).leader ≡ (party_view post.old.barrier).leader }
-    ensures seat { IsSameSeat post.old.barrier.seat post.new.barrier.seat }
-{
-    let mut idle = post.tables.sleep.idle();
-    for _ in rt.forever() {
-        if notices.is_exit_announced() {
-            return News::Exit;
-        }
-        if let Some(task) = post.task() {
-            return News::Round(task);
-        }
-        if notices.requests() > 0 {
-            return News::Requests;
-        }
-        idle.pass(rt, notices.is_rest_announced());
-    }
-    unreachable!()
 }

@@ -8,14 +8,16 @@ ghost use Rattle.spindle_parts.specs.Pieces.{counted};
 ghost use Rattle.spindle_trays.specs.Leaders.{crew_of, threads_of, hands_of, AnnouncedRest, IsBetweenRounds, MadeNoStep, PlayedOnce, LeftByRefusal};
 ghost use Rattle.spindle_trays.specs.Rounds.{job_count, IsRefusal};
 
-use crate::crew::leader_post::LeaderPost;
-use crate::crew::members::Members;
 use crate::job::Job;
 use crate::job::gate::Gate;
 use crate::lock::workspace::{Opens, Workspace};
 use crate::pieces::runs::Pieces;
 use crate::pieces::spares::Spares;
+use crate::work::ahead::play_ahead;
+use crate::work::alone::play_alone;
 use crate::work::runner::Runner;
+use spindle_crew::leader_post::LeaderPost;
+use spindle_crew::members::Members;
 use spindle_lists::shared::SharedList;
 use spindle_parts::fault::Fault;
 use spindle_rounds::round_table::slots::Bare;
@@ -155,8 +157,8 @@ impl<'a, J: Opens<L>, G: Gate, L> Leader<'a, J, G, L> {
             self.runner.run(rt, alloc, 0, None, inputs, outputs);
         } else {
             let pieces = Pieces::new(SharedList::from_vec(alloc, items)?, jobs);
-            self.post
-                .play_alone(rt, alloc, &mut self.runner, &pieces, outputs);
+            let (post, runner) = (&mut self.post, &mut self.runner);
+            play_alone(rt, alloc, post, runner, &pieces, outputs);
         }
         Ok(())
     }
@@ -185,9 +187,8 @@ impl<'a, J: Opens<L>, G: Gate, L> Leader<'a, J, G, L> {
         let pieces = Pieces::new(SharedList::from_vec(alloc, items)?, jobs);
         let trays = J::trays(self.workspace);
         trays.hand_out(rt, alloc, &pieces, &mut Spares::none(alloc))?;
-        let first = self
-            .post
-            .play_ahead(rt, alloc, trays, &mut self.runner, &pieces, outputs);
+        let (post, runner) = (&mut self.post, &mut self.runner);
+        let first = play_ahead(rt, alloc, post, trays, runner, &pieces, outputs);
         match trays.gather_rest(rt, &pieces, first, outputs) {
             Ok(()) => Ok(()),
             Err(number) => {

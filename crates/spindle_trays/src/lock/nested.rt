@@ -1,14 +1,12 @@
 //! Nested locks: what a job opens, to which idle helpers of the job's lock move.
 //!
-//! `berth` has the child slots in which they stand, and `bench` the seats of their helpers, whatever the kind of the nested lock;
-//! `child`, `opening` and `rounds` those whose pieces stand in trays.
+//! `berth` has the child slots in which they stand, whatever the kind of the nested lock; `child`, `opening` and `rounds` those whose
+//! pieces stand in trays.
 
-mod bench;
 mod berth;
 mod child;
 mod opening;
 mod rounds;
 
-pub use self::bench::Bench;
 pub use self::berth::{Berth, ChildSlot, make_slots, serve_slots};
-pub use self::child::{Child, Nested, TakesHelpers};
+pub use self::child::{Child, Nested, TakesHelpers, help_from};

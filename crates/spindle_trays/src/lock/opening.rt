@@ -1,22 +1,22 @@
 //! Starting the helpers of a lock, and running its closure beside them.
 ghost use Rattle.std.specs.Prelude.{◌≡◌, []};
 ghost use Rattle.spindle_trays.specs.Leaders.{WasLed};
-ghost use Rattle.spindle_trays.specs.Opening.{AreSeatsAt};
+ghost use Rattle.spindle_crew.specs.Opening.{AreSeatsAt};
 
-use crate::crew::leader_post::LeaderPost;
-use crate::crew::notices::Notices;
-use crate::crew::post::Post;
-use crate::crew::seats::Seats;
-use crate::crew::tables::Tables;
 use crate::job::Job;
 use crate::job::gate::Gate;
 use crate::job::nest::Nest;
-use crate::lock::helper::Recruit;
+use crate::lock::helper::help;
 use crate::lock::leader::Leader;
 use crate::lock::part::TakesPart;
 use crate::lock::pool::Pool;
 use crate::lock::workspace::Opens;
 use crate::work::runner::Runner;
+use spindle_crew::leader_post::LeaderPost;
+use spindle_crew::notices::Notices;
+use spindle_crew::post::Post;
+use spindle_crew::seats::Seats;
+use spindle_crew::tables::Tables;
 use spindle_rounds::round_table::slots::{Bare, Slots};
 use std::alloc::Global;
 use std::sync::Wait;
@@ -30,21 +30,6 @@ pub(crate) struct Entrant<'s, D: Slots, G: Gate, L> {
     pub(crate) pool: &'s Pool<G>,
     pub(crate) seats: Seats<D>,
     ghost seated: { AreSeatsAt tables.now seats },
-}
-
-impl<D: Slots> Seats<D> {
-    // A helper's seats, split from the leader's.
-    fn recruit<'a>(&mut self, tables: &'a Tables<D>) -> Recruit<'a, D>
-        requires { AreSeatsAt tables.now self.old }
-        ensures { AreSeatsAt tables.now self.new }
-    {
-        let seats = Seats {
-            round: tables.round.init().new_seat(&mut self.round),
-            numbers: tables.numbers.new_seat(&mut self.numbers),
-            ledger: tables.ledger.new_seat(&mut self.ledger),
-        };
-        Recruit { tables, seats }
-    }
 }
 
 // Starts as many helpers as the pool may start, but no more than the lock has threads beside its leader.
@@ -78,7 +63,7 @@ where
     let gate = pool.gate();
     for _ in 0..pool.starts().min(tables.crew.threads() - 1) {
         let recruit = seats.recruit(tables);
-        drop(scope.spawn(move || drop(recruit.help::<J, L, G, H>(rt, alloc, workspace, gate))));
+        drop(scope.spawn(move || drop(help::<D, J, L, G, H>(rt, alloc, recruit, workspace, gate))));
     }
 }
 

@@ -5,14 +5,15 @@ ghost use Rattle.spindle_rounds.specs.RoundConditions.{IsDone};
 ghost use Rattle.spindle_rounds.specs.Seating.{IsSameSeat};
 ghost use Rattle.spindle_rounds.specs.Working.{OnTask};
 
-use crate::crew::members::Members;
-use crate::crew::post::Post;
-use crate::crew::tables::Tables;
 use crate::job::Job;
 use crate::job::gate::Gate;
 use crate::job::nest::Nest;
 use crate::lock::workspace::Opens;
+use crate::work::in_trays::take_part;
 use crate::work::runner::Runner;
+use spindle_crew::members::Members;
+use spindle_crew::post::Post;
+use spindle_crew::tables::Tables;
 use spindle_rounds::round::task::Task;
 use spindle_rounds::round_table::slots::{Bare, Slots};
 use std::alloc::Global;
@@ -62,6 +63,6 @@ impl<J: Opens<L>, L> TakesPart<J, Bare> for L {
         runner: &mut Runner<'_, J, G>,
         task: Task,
     ) {
-        post.take_part(rt, alloc, J::trays(self), runner, task);
+        take_part(rt, alloc, post, J::trays(self), runner, task);
     }
 }

@@ -1,9 +1,9 @@
 //! A pool: how many threads its locks may have, how they idle, and whom they tell of their jobs.
 ghost use Rattle.std.specs.Prelude.{◌≡◌, ◌<◌, IsNone};
 
-use crate::crew::limits::Limits;
 use crate::job::gate::{Gate, NoGate};
 use rayon::current_num_threads;
+use spindle_crew::limits::Limits;
 use std::marker::Model;
 use std::thread::Threads;
 

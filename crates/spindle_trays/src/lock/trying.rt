@@ -12,7 +12,8 @@ use crate::lock::report::Report;
 use crate::lock::workspace::Opens;
 use crate::pieces::runs::Pieces;
 use crate::pieces::spares::Spares;
-use crate::work::rooms::make_rooms;
+use crate::work::in_trays::play_in_trays;
+use crate::work::rooms::{make_rooms, play_rooms};
 use crate::work::tally::Tally;
 use spindle_lists::shared::SharedList;
 use spindle_parts::fault::Fault;
@@ -188,7 +189,7 @@ impl<'a, J: Opens<L>, G: Gate, L> Leader<'a, J, G, L> {
         let trays = J::trays(self.workspace);
         trays.hand_out(rt, alloc, pieces, spares)?;
         let task = pieces.task(true);
-        self.post.play(rt, alloc, trays, &mut self.runner, task);
+        play_in_trays(rt, alloc, &mut self.post, trays, &mut self.runner, task);
         self.post.mark_left(left);
         trays.tally(rt, pieces, left.as_slice(), tally);
         Ok(())
@@ -228,8 +229,8 @@ impl<'a, J: Opens<L>, G: Gate, L> Leader<'a, J, G, L> {
                 .tally_rooms(rt, alloc, pieces, rooms, left.as_slice(), tally);
             return Ok(());
         }
-        self.post
-            .play_rooms(rt, alloc, &mut self.runner, pieces, &mut rooms);
+        let (post, runner) = (&mut self.post, &mut self.runner);
+        play_rooms(rt, alloc, post, runner, pieces, &mut rooms);
         self.post.mark_left(left);
         self.runner
             .tally_rooms(rt, alloc, pieces, rooms, left.as_slice(), tally);

@@ -7,8 +7,6 @@ ghost use Rattle.spindle_rounds.specs.Working.{PlayedRound};
 ghost use Rattle.spindle_trays.specs.Alone.{HasAnswered};
 ghost use Rattle.spindle_trays.specs.PieceRuns.{items_before};
 
-use crate::crew::leader_post::LeaderPost;
-use crate::crew::phases::{end_round, publish};
 use crate::job::Job;
 use crate::job::gate::Gate;
 use crate::pieces::finished::Finished;
@@ -16,6 +14,8 @@ use crate::pieces::runs::Pieces;
 use crate::pieces::trays::Trays;
 use crate::work::alone::LoneWork;
 use crate::work::runner::Runner;
+use spindle_crew::leader_post::LeaderPost;
+use spindle_crew::phases::{end_round, publish};
 use spindle_rounds::round::claim::Claimed;
 use spindle_rounds::round::party::{Party, Work};
 use spindle_rounds::round_table::Seat;
@@ -32,47 +32,45 @@ struct AheadWork<'t, 'p, 'r, 'a, J: Job, G: Gate> {
     held: Option<Finished<J>>,
 }
 
-impl<'a> LeaderPost<'a, Bare> {
-    /// Publishes the pieces, which stand in the trays, takes part, and waits until the round has ended. Answers how many
-    /// pieces the outputs answer, from the first on; what came of the others lies in the trays.
-    pub(crate) fn play_ahead<J: Job, G: Gate, H: Threads + Wait + Sync>(
-        &mut self,
-        rt: &H,
-        alloc: Global,
-        trays: &Trays<J>,
-        runner: &mut Runner<'a, J, G>,
-        pieces: &Pieces<J::In>,
-        outputs: &mut Vec<J::Out>,
-    ) -> usize
-        requires counted { (2 ≤ pieces.now.count) × (pieces.now.count ≤ 4294967295) }
-        requires empty { outputs.old.items ≡ [] }
-        requires room { length pieces.now.items ≤ vec_capacity outputs.old }
-        ensures answered { HasAnswered J.meets
-            pieces.now.items pieces.now.count result outputs.new }
-        ensures played { PlayedRound pieces.now.count
-            self.old.post.barrier.seat.me.0 self.new.post.barrier.seat.me.0 }
-        ensures tables { self.new.post.tables ≡ self.old.post.tables }
-    {
-        let post = &mut self.post;
-        let tables = post.tables;
-        let task = pieces.task(false);
-        publish(rt, tables, &mut post.barrier, &mut runner.notices, task);
-        let party = Party {
-            round: &tables.round,
-            thread: 0,
-            task,
-        };
-        let work = AheadWork {
-            trays,
-            own: LoneWork::new(alloc, pieces, runner, outputs),
-            held: None,
-        };
-        let AheadWork { trays, own, held } = party.work(rt, &mut post.barrier.seat, work);
-        trays.bring_back(rt, pieces.count(), held);
-        end_round(rt, tables, &mut post.barrier);
-        *outputs = own.outputs;
-        own.next
-    }
+/// Publishes the pieces, which stand in the trays, takes part, and waits until the round has ended. Answers how many
+/// pieces the outputs answer, from the first on; what came of the others lies in the trays.
+pub(crate) fn play_ahead<'a, J: Job, G: Gate, H: Threads + Wait + Sync>(
+    rt: &H,
+    alloc: Global,
+    leader: &mut LeaderPost<'a, Bare>,
+    trays: &Trays<J>,
+    runner: &mut Runner<'a, J, G>,
+    pieces: &Pieces<J::In>,
+    outputs: &mut Vec<J::Out>,
+) -> usize
+    requires counted { (2 ≤ pieces.now.count) × (pieces.now.count ≤ 4294967295) }
+    requires empty { outputs.old.items ≡ [] }
+    requires room { length pieces.now.items ≤ vec_capacity outputs.old }
+    ensures answered { HasAnswered J.meets
+        pieces.now.items pieces.now.count result outputs.new }
+    ensures played { PlayedRound pieces.now.count
+        leader.old.post.barrier.seat.me.0 leader.new.post.barrier.seat.me.0 }
+    ensures tables { leader.new.post.tables ≡ leader.old.post.tables }
+{
+    let post = &mut leader.post;
+    let tables = post.tables;
+    let task = pieces.task(false);
+    publish(rt, tables, &mut post.barrier, &mut runner.notices, task);
+    let party = Party {
+        round: &tables.round,
+        thread: 0,
+        task,
+    };
+    let work = AheadWork {
+        trays,
+        own: LoneWork::new(alloc, pieces, runner, outputs),
+        held: None,
+    };
+    let AheadWork { trays, own, held } = party.work(rt, &mut post.barrier.seat, work);
+    trays.bring_back(rt, pieces.count(), held);
+    end_round(rt, tables, &mut post.barrier);
+    *outputs = own.outputs;
+    own.next
 }
 
 impl<'t, 'p, 'r, 'a, J: Job, G: Gate> Work<Bare> for AheadWork<'t, 'p, 'r, 'a, J, G> {

@@ -8,13 +8,13 @@ ghost use Rattle.std.proofs.Common.{refl, ◌∙◌};
 ghost use Rattle.spindle_trays.specs.Alone.{HasAnswered};
 ghost use Rattle.spindle_rounds.specs.Working.{PlayedRound};
 
-use crate::crew::leader_post::LeaderPost;
-use crate::crew::phases::{end_round, publish};
 use crate::job::Job;
 use crate::job::gate::Gate;
 use crate::pieces::finished::Finished;
 use crate::pieces::runs::Pieces;
 use crate::work::runner::Runner;
+use spindle_crew::leader_post::LeaderPost;
+use spindle_crew::phases::{end_round, publish};
 use spindle_rounds::round::claim::Claimed;
 use spindle_rounds::round::party::{Party, Work};
 use spindle_rounds::round_table::Seat;
@@ -34,39 +34,37 @@ pub(crate) struct LoneWork<'p, 'r, 'a, J: Job, G: Gate> {
     pub(crate) outputs: Vec<J::Out>,
 }
 
-impl<'a> LeaderPost<'a, Bare> {
-    /// Publishes the pieces, runs each of them in its order, and ends the round.
-    pub(crate) fn play_alone<J: Job, G: Gate, H: Threads + Wait + Sync>(
-        &mut self,
-        rt: &H,
-        alloc: Global,
-        runner: &mut Runner<'a, J, G>,
-        pieces: &Pieces<J::In>,
-        outputs: &mut Vec<J::Out>,
-    )
-        requires counted { (2 ≤ pieces.now.count) × (pieces.now.count ≤ 4294967295) }
-        requires empty { outputs.old.items ≡ [] }
-        requires room { length pieces.now.items ≤ vec_capacity outputs.old }
-        ensures answered { AllZip J.meets pieces.now.items outputs.new.items }
-        ensures played { PlayedRound pieces.now.count
-            self.old.post.barrier.seat.me.0 self.new.post.barrier.seat.me.0 }
-        ensures tables { self.new.post.tables ≡ self.old.post.tables }
-    {
-        let post = &mut self.post;
-        let tables = post.tables;
-        let task = pieces.task(false);
-        publish(rt, tables, &mut post.barrier, &mut runner.notices, task);
-        let party = Party {
-            round: &tables.round,
-            thread: 0,
-            task,
-        };
-        let work = LoneWork::new(alloc, pieces, runner, outputs);
-        let mut work = party.work(rt, &mut post.barrier.seat, work);
-        work.run_left(rt);
-        *outputs = work.outputs;
-        end_round(rt, tables, &mut post.barrier);
-    }
+/// Publishes the pieces, runs each of them in its order, and ends the round.
+pub(crate) fn play_alone<'a, J: Job, G: Gate, H: Threads + Wait + Sync>(
+    rt: &H,
+    alloc: Global,
+    leader: &mut LeaderPost<'a, Bare>,
+    runner: &mut Runner<'a, J, G>,
+    pieces: &Pieces<J::In>,
+    outputs: &mut Vec<J::Out>,
+)
+    requires counted { (2 ≤ pieces.now.count) × (pieces.now.count ≤ 4294967295) }
+    requires empty { outputs.old.items ≡ [] }
+    requires room { length pieces.now.items ≤ vec_capacity outputs.old }
+    ensures answered { AllZip J.meets pieces.now.items outputs.new.items }
+    ensures played { PlayedRound pieces.now.count
+        leader.old.post.barrier.seat.me.0 leader.new.post.barrier.seat.me.0 }
+    ensures tables { leader.new.post.tables ≡ leader.old.post.tables }
+{
+    let post = &mut leader.post;
+    let tables = post.tables;
+    let task = pieces.task(false);
+    publish(rt, tables, &mut post.barrier, &mut runner.notices, task);
+    let party = Party {
+        round: &tables.round,
+        thread: 0,
+        task,
+    };
+    let work = LoneWork::new(alloc, pieces, runner, outputs);
+    let mut work = party.work(rt, &mut post.barrier.seat, work);
+    work.run_left(rt);
+    *outputs = work.outputs;
+    end_round(rt, tables, &mut post.barrier);
 }
 
 impl<'p, 'r, 'a, J: Job, G: Gate> Work<Bare> for LoneWork<'p, 'r, 'a, J, G> {

@@ -4,15 +4,15 @@ ghost use Rattle.spindle_rounds.specs.RoundConditions.{IsDone};
 ghost use Rattle.spindle_rounds.specs.Seating.{IsSameSeat};
 ghost use Rattle.spindle_rounds.specs.Working.{OnTask, PlayedRoundOf};
 
-use crate::crew::leader_post::LeaderPost;
-use crate::crew::phases::{end_round, publish};
-use crate::crew::post::Post;
 use crate::job::Job;
 use crate::job::gate::Gate;
 use crate::pieces::finished::Finished;
 use crate::pieces::trays::Trays;
 use crate::work::finishing::finish;
 use crate::work::runner::Runner;
+use spindle_crew::leader_post::LeaderPost;
+use spindle_crew::phases::{end_round, publish};
+use spindle_crew::post::Post;
 use spindle_rounds::round::claim::Claimed;
 use spindle_rounds::round::party::{Party, Work};
 use spindle_rounds::round::task::Task;
@@ -31,72 +31,68 @@ struct TrayWork<'t, 'r, 'a, J: Job, G: Gate> {
     held: Option<Finished<J>>,
 }
 
-impl<'a> Post<'a, Bare> {
-    /// Runs the jobs of a published round that are left for the thread.
-    pub(crate) fn take_part<J: Job, G: Gate, H: Threads + Wait + Sync>(
-        &mut self,
-        rt: &H,
-        alloc: Global,
-        trays: &Trays<J>,
-        runner: &mut Runner<'_, J, G>,
-        task: Task,
-    )
-        requires task { OnTask task.jobs task.may_stop self.old.barrier.seat.me.0 }
-        requires helper { self.old.barrier.seat.me.0.leader ≡ false }
-        ensures post { (self.new.tables ≡ self.old.tables) × (self.new.thread ≡ self.old.thread) }
-        ensures leader { self.new.barrier.seat.me.0.leader ≡ false }
-        ensures done { IsDone self.new.barrier.seat.me.0 }
-        ensures seat { IsSameSeat self.old.barrier.seat self.new.barrier.seat }
-    {
-        let party = Party {
-            round: &self.tables.round,
-            thread: self.thread,
-            task,
-        };
-        let work = TrayWork {
-            trays,
-            runner,
-            alloc,
-            held: None,
-        };
-        let work = party.work(rt, &mut self.barrier.seat, work);
-        trays.bring_back(rt, task.jobs as usize, work.held);
-    }
+/// Runs the jobs of a published round that are left for the thread.
+pub(crate) fn take_part<J: Job, G: Gate, H: Threads + Wait + Sync>(
+    rt: &H,
+    alloc: Global,
+    post: &mut Post<'_, Bare>,
+    trays: &Trays<J>,
+    runner: &mut Runner<'_, J, G>,
+    task: Task,
+)
+    requires task { OnTask task.jobs task.may_stop post.old.barrier.seat.me.0 }
+    requires helper { post.old.barrier.seat.me.0.leader ≡ false }
+    ensures post { (post.new.tables ≡ post.old.tables) × (post.new.thread ≡ post.old.thread) }
+    ensures leader { post.new.barrier.seat.me.0.leader ≡ false }
+    ensures done { IsDone post.new.barrier.seat.me.0 }
+    ensures seat { IsSameSeat post.old.barrier.seat post.new.barrier.seat }
+{
+    let party = Party {
+        round: &post.tables.round,
+        thread: post.thread,
+        task,
+    };
+    let work = TrayWork {
+        trays,
+        runner,
+        alloc,
+        held: None,
+    };
+    let work = party.work(rt, &mut post.barrier.seat, work);
+    trays.bring_back(rt, task.jobs as usize, work.held);
 }
 
-impl<'a> LeaderPost<'a, Bare> {
-    /// Publishes a task, whose pieces stand in the trays, takes part, and waits until the round has ended.
-    pub(crate) fn play<J: Job, G: Gate, H: Threads + Wait + Sync>(
-        &mut self,
-        rt: &H,
-        alloc: Global,
-        trays: &Trays<J>,
-        runner: &mut Runner<'a, J, G>,
-        task: Task,
-    )
-        requires counted { (2 ≤ task.jobs) × (task.jobs ≤ 4294967295) }
-        ensures played { PlayedRoundOf task.jobs task.may_stop
-            self.old.post.barrier.seat.me.0 self.new.post.barrier.seat.me.0 }
-        ensures tables { self.new.post.tables ≡ self.old.post.tables }
-    {
-        let post = &mut self.post;
-        let tables = post.tables;
-        publish(rt, tables, &mut post.barrier, &mut runner.notices, task);
-        let party = Party {
-            round: &tables.round,
-            thread: 0,
-            task,
-        };
-        let work = TrayWork {
-            trays,
-            runner,
-            alloc,
-            held: None,
-        };
-        let work = party.work(rt, &mut post.barrier.seat, work);
-        trays.bring_back(rt, task.jobs as usize, work.held);
-        end_round(rt, tables, &mut post.barrier);
-    }
+/// Publishes a task, whose pieces stand in the trays, takes part, and waits until the round has ended.
+pub(crate) fn play_in_trays<'a, J: Job, G: Gate, H: Threads + Wait + Sync>(
+    rt: &H,
+    alloc: Global,
+    leader: &mut LeaderPost<'a, Bare>,
+    trays: &Trays<J>,
+    runner: &mut Runner<'a, J, G>,
+    task: Task,
+)
+    requires counted { (2 ≤ task.jobs) × (task.jobs ≤ 4294967295) }
+    ensures played { PlayedRoundOf task.jobs task.may_stop
+        leader.old.post.barrier.seat.me.0 leader.new.post.barrier.seat.me.0 }
+    ensures tables { leader.new.post.tables ≡ leader.old.post.tables }
+{
+    let post = &mut leader.post;
+    let tables = post.tables;
+    publish(rt, tables, &mut post.barrier, &mut runner.notices, task);
+    let party = Party {
+        round: &tables.round,
+        thread: 0,
+        task,
+    };
+    let work = TrayWork {
+        trays,
+        runner,
+        alloc,
+        held: None,
+    };
+    let work = party.work(rt, &mut post.barrier.seat, work);
+    trays.bring_back(rt, task.jobs as usize, work.held);
+    end_round(rt, tables, &mut post.barrier);
 }
 
 impl<'t, 'r, 'a, J: Job, G: Gate> Work<Bare> for TrayWork<'t, 'r, 'a, J, G> {

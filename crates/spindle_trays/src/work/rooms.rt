@@ -8,8 +8,6 @@ ghost use Rattle.spindle_trays.specs.PieceRuns.{piece_at};
 ghost use Rattle.spindle_trays.specs.Reports.{AreRooms, IsNoted, IsRoomFor};
 ghost use Rattle.spindle_rounds.specs.Working.{PlayedRoundOf};
 
-use crate::crew::leader_post::LeaderPost;
-use crate::crew::phases::{end_round, publish};
 use crate::job::Job;
 use crate::job::gate::Gate;
 use crate::pieces::finished::Finished;
@@ -18,6 +16,8 @@ use crate::pieces::spares::Spares;
 use crate::work::finishing::finish;
 use crate::work::runner::Runner;
 use crate::work::tally::{Tally, has_failure};
+use spindle_crew::leader_post::LeaderPost;
+use spindle_crew::phases::{end_round, publish};
 use spindle_parts::fault::Fault;
 use spindle_rounds::round::claim::Claimed;
 use spindle_rounds::round::party::{Party, Work};
@@ -37,42 +37,40 @@ struct RoomWork<'p, 'r, 'a, J: Job, G: Gate> {
     rooms: Vec<Vec<J::Out>>,
 }
 
-impl<'a> LeaderPost<'a, Bare> {
-    /// Publishes the pieces for a round that may stop, runs those that it claims in their rooms, and ends the round.
-    pub(crate) fn play_rooms<J: Job, G: Gate, H: Threads + Wait + Sync>(
-        &mut self,
-        rt: &H,
-        alloc: Global,
-        runner: &mut Runner<'a, J, G>,
-        pieces: &Pieces<J::In>,
-        rooms: &mut Vec<Vec<J::Out>>,
-    )
-        requires counted { (2 ≤ pieces.now.count) × (pieces.now.count ≤ 4294967295) }
-        requires fit { AreRooms J.meets pieces.now.items pieces.now.count 0 rooms.old.items }
-        ensures fit { AreRooms J.meets pieces.now.items pieces.now.count 0 rooms.new.items }
-        ensures played { PlayedRoundOf pieces.now.count true
-            self.old.post.barrier.seat.me.0 self.new.post.barrier.seat.me.0 }
-        ensures tables { self.new.post.tables ≡ self.old.post.tables }
-    {
-        let post = &mut self.post;
-        let tables = post.tables;
-        let task = pieces.task(true);
-        publish(rt, tables, &mut post.barrier, &mut runner.notices, task);
-        let party = Party {
-            round: &tables.round,
-            thread: 0,
-            task,
-        };
-        let work = RoomWork {
-            pieces,
-            runner,
-            alloc,
-            rooms: mem::replace(rooms, Vec::new(alloc)),
-        };
-        let work = party.work(rt, &mut post.barrier.seat, work);
-        *rooms = work.rooms;
-        end_round(rt, tables, &mut post.barrier);
-    }
+/// Publishes the pieces for a round that may stop, runs those that it claims in their rooms, and ends the round.
+pub(crate) fn play_rooms<'a, J: Job, G: Gate, H: Threads + Wait + Sync>(
+    rt: &H,
+    alloc: Global,
+    leader: &mut LeaderPost<'a, Bare>,
+    runner: &mut Runner<'a, J, G>,
+    pieces: &Pieces<J::In>,
+    rooms: &mut Vec<Vec<J::Out>>,
+)
+    requires counted { (2 ≤ pieces.now.count) × (pieces.now.count ≤ 4294967295) }
+    requires fit { AreRooms J.meets pieces.now.items pieces.now.count 0 rooms.old.items }
+    ensures fit { AreRooms J.meets pieces.now.items pieces.now.count 0 rooms.new.items }
+    ensures played { PlayedRoundOf pieces.now.count true
+        leader.old.post.barrier.seat.me.0 leader.new.post.barrier.seat.me.0 }
+    ensures tables { leader.new.post.tables ≡ leader.old.post.tables }
+{
+    let post = &mut leader.post;
+    let tables = post.tables;
+    let task = pieces.task(true);
+    publish(rt, tables, &mut post.barrier, &mut runner.notices, task);
+    let party = Party {
+        round: &tables.round,
+        thread: 0,
+        task,
+    };
+    let work = RoomWork {
+        pieces,
+        runner,
+        alloc,
+        rooms: mem::replace(rooms, Vec::new(alloc)),
+    };
+    let work = party.work(rt, &mut post.barrier.seat, work);
+    *rooms = work.rooms;
+    end_round(rt, tables, &mut post.barrier);
 }
 
 impl<'p, 'r, 'a, J: Job, G: Gate> Work<Bare> for RoomWork<'p, 'r, 'a, J, G> {

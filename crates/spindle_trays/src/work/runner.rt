@@ -3,12 +3,12 @@ ghost use Rattle.std.specs.Prelude.{◌≡◌, ◌+◌, ◌<◌, ◌≤◌, ◌+
 ghost use Rattle.std.specs.Option.{ForSome};
 ghost use Rattle.spindle_trays.specs.Rounds.{AddsAnswers};
 
-use crate::crew::notices::Notices;
-use crate::crew::site::Site;
 use crate::job::Job;
 use crate::job::context::JobCx;
 use crate::job::gate::Gate;
 use crate::job::nest::Nest;
+use spindle_crew::notices::Notices;
+use spindle_crew::site::Site;
 use std::alloc::Global;
 use std::sync::Wait;
 use std::thread::Threads;

@@ -2,13 +2,13 @@
 //! a helper walks over them.
 ghost use Rattle.std.specs.Prelude.{◌≡◌, ◌<◌, ◌≤◌, IfSome, OnErr, IsErrOf, vec_len};
 ghost use denote.Param.Send.{IsSync};
-ghost use Rattle.spindle_trays.specs.Accounts.{IsSameThread};
+ghost use Rattle.spindle_crew.specs.Accounts.{IsSameThread};
 
-use crate::crew::asking::{Asked, Offered};
-use crate::crew::notices::Notices;
-use crate::crew::sleep::Sleep;
 use crate::lock::nested::child::{Child, TakesHelpers};
 use crossbeam_utils::CachePadded;
+use spindle_crew::asking::{Asked, Offered};
+use spindle_crew::notices::Notices;
+use spindle_crew::sleep::Sleep;
 use spindle_parts::aarc_imp::AtomicArc;
 use spindle_parts::fault::Fault;
 use std::alloc::Global;

@@ -1,22 +1,25 @@
 //! A lock that a job opened, as it stands in a child slot of the outer lock.
 ghost use Rattle.std.specs.Prelude.{◌≡◌, ◌<◌, IfOk, OnErr, IsErrOf, All};
 ghost use Rattle.std.specs.Arc.{arc_value};
-ghost use Rattle.spindle_trays.specs.Nested.{IsBenchAt};
-ghost use Rattle.spindle_trays.specs.Opening.{AreSeatsAt};
+ghost use Rattle.spindle_crew.specs.Benches.{IsBenchAt};
+ghost use Rattle.spindle_crew.specs.Opening.{AreSeatsAt};
 ghost use denote.Param.Send.{IsSync};
 
-use crate::crew::Crew;
-use crate::crew::limits::Limits;
-use crate::crew::seats::Seats;
-use crate::crew::tables::Tables;
 use crate::job::Job;
+use crate::job::gate::NoGate;
 use crate::job::nest::Nest;
-use crate::lock::nested::bench::Bench;
+use crate::lock::helper::help;
+use crate::lock::part::TakesPart;
 use crate::lock::workspace::{Opens, Workspace};
+use spindle_crew::Crew;
+use spindle_crew::bench::Bench;
+use spindle_crew::limits::Limits;
+use spindle_crew::seats::Seats;
+use spindle_crew::tables::Tables;
 use spindle_parts::aarc_imp::Fits;
 use spindle_parts::fault::Fault;
 use spindle_rounds::round::Round;
-use spindle_rounds::round_table::slots::Bare;
+use spindle_rounds::round_table::slots::{Bare, Slots};
 use std::alloc::Global;
 use std::sync::{Arc, Wait};
 use std::thread::Threads;
@@ -35,6 +38,27 @@ pub trait TakesHelpers {
     /// Lives as one of its helpers. Where it has no seats for another one, that life ends at once.
     fn help<H: Threads + Wait + Sync>(&self, rt: &H, alloc: Global)
         requires { IsSync H.row };
+}
+
+/// Lives as a helper of a nested lock, with seats that rest on one of its benches; where none do, that life ends at once.
+pub fn help_from<D: Slots, J: Job, L: TakesPart<J, D>, H: Threads + Wait + Sync>(
+    rt: &H,
+    alloc: Global,
+    tables: &Tables<D>,
+    workspace: &L,
+    benches: &[Bench<D>],
+)
+    requires sync { IsSync H.row }
+    requires benches { All (IsBenchAt tables.now) benches.now }
+{
+    let gate = NoGate;
+    for bench in benches {
+        if let Some(recruit) = bench.take(tables) {
+            let seats = help::<D, J, L, NoGate, H>(rt, alloc, recruit, workspace, &gate);
+            bench.give(tables, seats);
+            return;
+        }
+    }
 }
 
 /// A share of a nested lock of type N, which is `Nested<K>` for a kind of job K whose pieces stand in trays.
@@ -104,7 +128,6 @@ impl<K: Job> Child<Nested<K>> {
 impl<K: Job> TakesHelpers for Nested<K> {
     fn help<H: Threads + Wait + Sync>(&self, rt: &H, alloc: Global) {
         let benches = self.benches.as_slice();
-        self.tables
-            .help_from::<K, Workspace<K>, H>(rt, alloc, &self.workspace, benches);
+        help_from::<_, K, Workspace<K>, H>(rt, alloc, &self.tables, &self.workspace, benches);
     }
 }

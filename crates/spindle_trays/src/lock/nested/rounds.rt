@@ -3,7 +3,7 @@ ghost use Rattle.std.specs.Prelude.{◌≡◌, ◌<◌, ◌≤◌, IfOk, IfErr, 
 ghost use Rattle.std.specs.List.{AllZip};
 ghost use Rattle.spindle_parts.specs.Pieces.{counted};
 ghost use Rattle.spindle_trays.specs.Leaders.{threads_of};
-ghost use Rattle.spindle_trays.specs.Locks.{lock_threads};
+ghost use Rattle.spindle_crew.specs.Crews.{lock_threads};
 ghost use Rattle.spindle_trays.specs.Rounds.{job_count, IsRefusal};
 ghost use denote.Param.Send.{IsSync};
 

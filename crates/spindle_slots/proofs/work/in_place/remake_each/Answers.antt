@@ -8,21 +8,21 @@ use Rattle.spindle_slots.proofs.work.in_place.remake_each.Goals as goal
 
 pub loop-init : goal.loop-init
 loop-init g c = record {
-  remade = ([], c.into_parts-todo.ensures.items, subst (λ ys. AllZip g.J.Remakes.remade [] ys) (sym c.into_parts-todo.ensures.empty) (tt {0}));
+  remade = ([], refl, subst (λ ys. AllZip g.J.Remakes.remade [] ys) (sym c.requires.empty) (tt {0}));
   len = search rules;
   left = search rules;
   room = search rules;
 }
 
 pub loop-preserved : goal.loop-preserved
-loop-preserved g c = let i = c.loop.invariant in let R = g.J.Remakes.remade in let x = c.take_last.result in let y = c.remake.result in
+loop-preserved g c = let i = c.loop.invariant in let R = g.J.Remakes.remade in let x = c.take_last.result in let y = c.remake-remade.result in
     let todo = c.take_last.new.self.items in let before = i.remade.0 in
-    let split : reverse c.loop.todo.items ≡ x ∷ reverse todo = ap reverse c.take_last.ensures.items ∙ reverse-append todo (x ∷ []) in record {
+    let split : reverse c.loop.lists.todo.items ≡ x ∷ reverse todo = ap reverse c.take_last.ensures.items ∙ reverse-append todo (x ∷ []) in record {
       remade = (
         before ++ x ∷ [],
         i.remade.1 ∙ (ap (λ l. before ++ l) split ∙ sym (append_assoc before (x ∷ []) (reverse todo))),
         subst (λ ys. AllZip R (before ++ x ∷ []) ys) (sym c.push_reserved.ensures.items)
-            (all_zip_append R before c.loop.done.items (x ∷ []) (y ∷ []) i.remade.2 (c.remake.ensures x refl, tt {0})),
+            (all_zip_append R before c.loop.lists.done.items (x ∷ []) (y ∷ []) i.remade.2 (c.remake-remade.ensures x refl, tt {0})),
       );
       len = omega (arith, c.push_reserved.ensures.len, i.len);
       left = omega (arith, c.take_last.ensures.len, i.left);
@@ -35,11 +35,10 @@ take_last-requires g c = some_ready _ _ _ c.loop.invariant.left c.loop-test.true
 pub push_reserved-requires : goal.push_reserved-requires
 push_reserved-requires g c = let i = c.loop.invariant in one_fits _ _ _ _ i.len c.loop-test.true i.room
 
-pub new-requires : goal.new-requires
-new-requires g c = nothing_left _ _ _ _ c.loop.todo.ok.0 c.loop.invariant.left c.loop-test.false
+pub returns-clause-none : goal.returns-clause-none
+returns-clause-none g c = nothing_left _ _ _ _ c.loop.lists.todo.ok.0 c.loop.invariant.left c.loop-test.false
 
-pub returns : goal.returns
-returns g c = let R = g.J.Remakes.remade in let done = c.loop.invariant.remade in let chunk = c.args.chunk in
-    let none = nothing_left _ _ _ _ c.loop.todo.ok.0 c.loop.invariant.left c.loop-test.false in
-    subst (AllZip R chunk) (sym c.new.ensures)
-    (subst (λ xs. AllZip R xs c.loop.done.items) (sym (done.1 ∙ (ap (λ t. done.0 ++ reverse t) none ∙ append-nil done.0))) done.2)
+pub returns-clause-remade : goal.returns-clause-remade
+returns-clause-remade g c = let R = g.J.Remakes.remade in let done = c.loop.invariant.remade in
+    let none = nothing_left _ _ _ _ c.loop.lists.todo.ok.0 c.loop.invariant.left c.loop-test.false in
+    subst (λ xs. AllZip R xs c.loop.lists.done.items) (sym (done.1 ∙ (ap (λ t. done.0 ++ reverse t) none ∙ append-nil done.0))) done.2

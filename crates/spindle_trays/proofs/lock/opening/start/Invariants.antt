@@ -1,5 +1,5 @@
 -- The leader's seats stay its own while the helpers' are split from them.
-use Rattle.spindle_trays.specs.Opening.{AreSeatsAt}
+use Rattle.spindle_crew.specs.Opening.{AreSeatsAt}
 use Rattle.spindle_trays.proofs.lock.opening.start.Given as goal
 
 abbrev pub invariant-loop : goal.invariant-loop

@@ -12,6 +12,7 @@ loop-number-preserved g c = let p = c.args.pieces.now in let i = c.loop-number i
     let large : length c.piece.result.now ≤ vec_capacity room = search rules in record {
       len = search rules;
       room = search rules;
-      fit = λ k d lt. subst (λ (xs : List (Vec g.row.J-Out.Denot Global)). IsRoomFor g.J.Job.meets (piece_at p.items p.count k) (slice_index_or xs k d)) (sym e.items)
+      fit = λ k d lt. subst (λ (xs : List (Vec g.row.J-Out.Denot Global)).
+          IsRoomFor g.J.Job.meets (piece_at p.items p.count k) (slice_index_or xs k d)) (sym e.items)
           (rooms_more g.J.Job.meets p.items p.count i.rooms.items i.number room long (inl (empty, omega (arith, run, large))) i.invariant.fit k d lt);
     }

@@ -1,5 +1,5 @@
 -- Each turn puts the slot's own number into the slot at the hand.
-use Rattle.std.proofs.Common.{◌≡◌, ◌+◌, ◌∷◌, [], ℕ, refl, ap, ◌∙◌, sym, subst, arith}
+use Rattle.std.proofs.Common.{◌+◌, ◌∷◌, [], ℕ, refl, ap, ◌∙◌, sym, subst, arith}
 use Rattle.spindle_parts.specs.Pieces.{counted}
 use Rattle.spindle_rounds.specs.RoundPieces.{IsAtHand}
 use Rattle.spindle_rounds.specs.SlotHands.{WaitsAs}

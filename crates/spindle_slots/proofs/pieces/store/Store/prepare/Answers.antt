@@ -17,8 +17,8 @@ loop-init g c = record {
 pub loop-preserved : goal.loop-preserved
 loop-preserved g c = let i = c.loop.invariant in record {
   rooms = subst (HaveRoom (c.args.len / c.args.jobs + 1)) (sym c.push_reserved.ensures.items)
-      (room_more (c.args.len / c.args.jobs + 1) c.take-room.new.self.ready.items c.reserve-in-loop.new.self
-      (subst (λ ready. HaveRoom (c.args.len / c.args.jobs + 1) ready.items) (sym c.take-room.ensures.ready) i.rooms) c.in_ok-reserve-3.ensures.room);
+      (room_more (c.args.len / c.args.jobs + 1) c.take.new.self.ready.items c.reserve-in-loop.new.self
+      (subst (λ ready. HaveRoom (c.args.len / c.args.jobs + 1) ready.items) (sym c.take.ensures.ready) i.rooms) c.in_ok-reserve-3.ensures.room);
   many = search rules;
   room = search rules;
   none = search rules;

@@ -11,7 +11,7 @@ returns-in_err-hand_out g c = rw (passed_on c.from_residual.result c.from_residu
     (record { tried = tt; marks = c.requires.marks; noted = tt; memory = (refl, refl); lock = refl; hands = refl })
 
 pub returns : goal.returns
-returns g c = let p = c.play.ensures in let m = c.mark_left.ensures in let t = c.task-task.ensures in
+returns g c = let p = c.play_in_trays.ensures in let m = c.mark_left.ensures in let t = c.task-task.ensures in
     let played = rw (t.jobs, t.may_stop) at p.played in
     record {
       tried = ((m.published ∙ played.0, m.standing ∙ played.1), rw (p.tables, c.requires.marks) at m.left);

@@ -28,4 +28,5 @@ pub returns-clause-numbers : goal.returns-clause-numbers
 unfolding AreFailed
 returns-clause-numbers g c = let Fails = g.J.Job.fails in let ran = c.args.self.now.ran.items in let at = c.loop-piece.piece-index in
     let past : length ran ≤ at = search rules in
-    subst (AreFailed Fails ran) (append-nil c.loop-piece.numbers.items) (c.loop-piece.invariant [] (subst (λ ps. AreFailed Fails ps []) (sym (drop_all at ran past)) refl))
+    subst (AreFailed Fails ran) (append-nil c.loop-piece.numbers.items)
+    (c.loop-piece.invariant [] (subst (λ ps. AreFailed Fails ps []) (sym (drop_all at ran past)) refl))

@@ -33,7 +33,7 @@ tally-requires-in-loop-thread-2-clause-next g c =
     omega (arith, rest_within c.count-count.result c.len-threads.result c.loop-thread-2.thread c.loop-thread-2-test.true, c.count-count.ensures.number)
 
 pub returns : goal.returns
-returns g c = record {
-  noted = noted_at _ _ _ _ _ _ (all_numbers c.count-count.result c.len-threads.result c.loop-thread-2.thread c.loop-thread-2-test.false c.loop-thread-2.auto.thread-end
-      ∙ c.count-count.ensures.number) c.loop-thread-2.invariant;
+returns g c = let turn = c.loop-thread-2 in record {
+  noted = noted_at _ _ _ _ _ _ (all_numbers c.count-count.result c.len-threads.result turn.thread c.loop-thread-2-test.false turn.auto.thread-end
+      ∙ c.count-count.ensures.number) turn.invariant;
 }

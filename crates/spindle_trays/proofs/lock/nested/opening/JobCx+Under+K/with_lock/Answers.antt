@@ -1,7 +1,7 @@
 -- The closure was called with a leader of a lock of these threads.
 use Rattle.std.proofs.Common.{ap, refl, ◌∙◌}
-use Rattle.spindle_trays.specs.declared.crew.Crew.{Crew}
-use Rattle.spindle_trays.specs.Locks.{lock_threads}
+use Rattle.spindle_crew.specs.declared.Crew.{Crew}
+use Rattle.spindle_crew.specs.Crews.{lock_threads}
 use Rattle.spindle_trays.proofs.lock.nested.opening.JobCx+Under+K.with_lock.Goals as goal
 
 pub returns-in-Some-berth-clause-promise : goal.returns-in-Some-berth-clause-promise

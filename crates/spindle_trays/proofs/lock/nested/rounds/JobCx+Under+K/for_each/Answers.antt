@@ -3,7 +3,7 @@ use Rattle.std.proofs.Common.{vec_len}
 use Rattle.std.proofs.lemmas.Bool.{false≢true}
 use Rattle.std.proofs.lemmas.Result.{on_err_weaker}
 use Rattle.spindle_parts.specs.declared.fault.Fault.TheVariants.{Memory}
-use Rattle.spindle_trays.specs.Locks.{lock_threads}
+use Rattle.spindle_crew.specs.Crews.{lock_threads}
 use Rattle.spindle_trays.specs.Rounds.{job_count, IsRefusal}
 use Rattle.spindle_trays.proofs.LeaderRounds.{no_items, only_memory, passed_on}
 use Rattle.spindle_trays.proofs.lock.nested.rounds.JobCx+Under+K.for_each.Goals as goal

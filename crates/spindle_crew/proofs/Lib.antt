@@ -1,0 +1,4 @@
+-- The lemmas of this crate.
+mod Benches
+mod Helpers
+pub mod Leaving

@@ -1,0 +1,13 @@
+-- The post is the same, and so is its party's part.
+use Rattle.std.proofs.Common.{◌≡◌}
+use Rattle.spindle_crew.specs.Posts.{party_view}
+use Rattle.spindle_rounds.specs.Seating.{IsSameSeat}
+use Rattle.spindle_crew.proofs.helping.await_news.Given as goal
+
+abbrev pub invariant-loop : goal.invariant-loop
+invariant-loop g l = record {
+  tables : l.post.tables ≡ l.fn.post.tables;
+  thread : l.post.thread ≡ l.fn.post.thread;
+  leader : (party_view l.post.barrier).leader ≡ (party_view l.fn.post.barrier).leader;
+  seat : IsSameSeat l.fn.post.barrier.seat l.post.barrier.seat;
+}

@@ -1,0 +1,131 @@
+//! How idle threads of a lock wait: turns of pauses between two looks, then sleep until somebody has changed a word.
+//!
+//! Who changes a word that idle threads wait for stores it first, then takes the mutex, and wakes all who sleep by then. A thread
+//! that is about to sleep looks once more while it holds the mutex, so no change is missed.
+ghost use Rattle.std.specs.Prelude.{◌<◌};
+
+use crate::limits::Limits;
+use crossbeam_utils::{Backoff, CachePadded};
+use std::hint::spin_loop;
+use std::sync::{Condvar, Mutex, MutexGuard, Wait};
+use std::thread;
+
+/// From this turn on a turn also yields the processor.
+const QUIET_TURNS: u32 = 64;
+
+/// Where the idle threads of a lock sleep.
+#[derive(Drop)]
+pub struct Sleep {
+    limits: Limits,
+    bed: CachePadded<Bed>,
+}
+
+// How many sleep, behind the mutex of those who are about to. Whoever wakes them writes here, so it shares no cache line with what
+// waiting threads read.
+#[derive(Drop)]
+struct Bed {
+    sleepers: Mutex<usize>,
+    changed: Condvar,
+}
+
+impl Bed {
+    // Sleeps until somebody has changed a word, counted among the sleepers meanwhile.
+    fn sleep<'a, H: Wait>(
+        &'a self,
+        rt: &H,
+        mut guard: MutexGuard<'a, usize>,
+    ) -> MutexGuard<'a, usize> {
+        *guard = guard.wrapping_add(1);
+        let mut guard = self.changed.wait(rt, guard);
+        *guard = guard.wrapping_sub(1);
+        guard
+    }
+}
+
+impl Sleep {
+    /// A place to sleep for threads with these limits.
+    pub fn new(limits: Limits) -> Sleep {
+        let bed = Bed {
+            sleepers: Mutex::new(0),
+            changed: Condvar::new(),
+        };
+        Sleep {
+            limits,
+            bed: CachePadded::new(bed),
+        }
+    }
+
+    /// How idle threads pause here.
+    pub fn limits(&self) -> Limits {
+        self.limits
+    }
+
+    /// Wakes all who sleep. A word was changed before.
+    pub fn wake<H: Wait>(&self, rt: &H) {
+        let sleepers = *self.bed.sleepers.lock(rt);
+        if sleepers > 0 {
+            self.bed.changed.notify_all();
+        }
+    }
+
+    /// The pauses of a thread that begins to wait.
+    pub fn idle(&self) -> Idle<'_> {
+        Idle {
+            bed: &self.bed,
+            pauses: self.limits.pause,
+            turns: self.limits.spin / self.limits.pause.max(1),
+            turn: 0,
+            backoff: Backoff::new(),
+            guard: None,
+        }
+    }
+}
+
+/// The pauses of one thread, from its first look on.
+#[derive(Drop)]
+pub struct Idle<'a> {
+    bed: &'a Bed,
+    pauses: u32,
+    turns: u32,
+    turn: u32,
+    backoff: Backoff,
+    guard: Option<MutexGuard<'a, usize>>,
+}
+
+impl<'a> Idle<'a> {
+    /// Passes the time between two looks. A thread that is told to rest makes no turn.
+    pub fn pass<H: Wait>(&mut self, rt: &H, rest: bool) {
+        match self.guard.take() {
+            Some(guard) => self.guard = Some(self.bed.sleep(rt, guard)),
+            None => {
+                if rest || self.turn >= self.turns {
+                    self.guard = Some(self.bed.sleepers.lock(rt));
+                } else {
+                    self.take_turn();
+                }
+            }
+        }
+    }
+
+    /// The same where the thread is about to leave, and looks again soon: it makes no turn, and doesn't sleep.
+    pub fn pass_or_hurry<H: Wait>(&mut self, rt: &H, hurries: bool) {
+        if hurries {
+            drop(self.guard.take());
+            thread::yield_now();
+        } else {
+            self.pass(rt, false);
+        }
+    }
+
+    fn take_turn(&mut self)
+        requires { self.old.turn < self.old.turns }
+    {
+        self.turn += 1;
+        for _ in 0..self.pauses {
+            spin_loop();
+        }
+        if self.turn > QUIET_TURNS {
+            self.backoff.snooze();
+        }
+    }
+}

@@ -1,0 +1,59 @@
+//! What the threads of a lock share, whatever the kind of job: rounds, thread numbers, notices, a place to sleep, and who is
+//! there. What the slots of its round table hold is a parameter.
+ghost use Rattle.std.specs.Prelude.{◌≡◌, ◌<◌};
+ghost use Rattle.spindle_parts.specs.LedgerSeats.{slot_count};
+
+use crate::Crew;
+use crate::members::Members;
+use crate::present::Present;
+use crate::site::Site;
+use crate::sleep::Sleep;
+use spindle_parts::numbers::Numbers;
+use spindle_parts::requests::Requests;
+use spindle_rounds::round::Round;
+use spindle_rounds::round_table::slots::Slots;
+use std::sync::Wait;
+
+/// The tables of a lock.
+#[derive(Drop)]
+pub struct Tables<D: Slots> {
+    /// How many threads the lock and its pool have.
+    pub crew: Crew,
+    /// The round table, with the barrier.
+    pub round: Round<D>,
+    /// The numbers of its threads.
+    pub numbers: Numbers,
+    /// What its threads announce, and how many helpers nested locks ask for.
+    pub ledger: Requests,
+    /// The child slots: so many locks that its jobs open may stand there at once.
+    pub child_slots: usize,
+    /// Where idle threads sleep.
+    pub sleep: Sleep,
+    /// The threads' own count of who is there.
+    pub present: Present,
+    ghost rounds: { round.init.threads ≡ crew.threads },
+    ghost named: { numbers.threads ≡ crew.threads },
+    ghost placed: { slot_count ledger ≡ child_slots },
+}
+
+impl<D: Slots> Tables<D> {
+    /// Wakes all who sleep, unless the leader is the only thread. A word was changed before.
+    pub fn wake<H: Wait>(&self, rt: &H) {
+        if self.crew.threads() > 1 {
+            self.sleep.wake(rt);
+        }
+    }
+
+    /// Where the thread of this number runs jobs, which read there how many threads take part.
+    pub fn site<'a>(&'a self, members: Members<'a>, thread: usize) -> Site<'a>
+        requires thread { thread < self.now.crew.threads }
+        ensures crew { result.crew ≡ self.now.crew }
+    {
+        Site {
+            crew: self.crew,
+            members,
+            sleep: &self.sleep,
+            index: Some(thread),
+        }
+    }
+}
