@@ -145,7 +145,7 @@ module _ {X N : Type 0} (D : Discipline X N) (law : Lawful D) where
         record { stands = shows.stands; leads = shows.leads; claim = shows.claim; share = shows.share; inside = shows.inside }
         (ap (λ (d : List _). d ++ deeds_of me.0.trail) none_done ∙ (r.seats id me.0 at).1) refl
         (still_laid D t run s r published_at (get_or s.words published_at 0) id me w [] at (inr refl) refl refl (λ _. refl)
-            (inl (omega arith, (λ _. refl), λ _ _. refl)))
+        (inl (omega arith, (λ _. refl), λ _ _. refl)))
         (subst (λ (z : ℕ). D.clause S (homes_after s.homes me.1 a) (set s.views z w)) (sym l.leads) c)
 
     sure_finished : (run : List Event) (s : table.State X (View N)) → Rule D t run s → (id : ℕ) (me : SeatOf D t) (q : ℕ) → get_elem? s.views id ≡ some me.0
