@@ -1,5 +1,5 @@
 -- Where a thread of a lock stands between two of its calls.
-use Rattle.std.specs.Prelude.{◌≡◌, false}
+use Rattle.std.specs.Prelude.{◌≡◌, ◌<◌, ℕ, Option, Some, None, false}
 use Rattle.atomic_table.specs.declared.shared.Seat.{Seat}
 use Rattle.spindle_crew.specs.declared.tables.Tables.{Tables}
 use Rattle.spindle_crew.specs.declared.seats.Seats.{Seats}
@@ -7,9 +7,11 @@ use Rattle.spindle_parts.specs.LedgerSeats as ledger
 use Rattle.spindle_parts.specs.ThreadNumbers as numbers
 use Rattle.spindle_parts.specs.declared.numbers.plays.Holding.TheVariants.{Nothing}
 use Rattle.spindle_rounds.specs.declared.barrier.Barrier.{Barrier}
+use Rattle.spindle_rounds.specs.declared.round.task.Task.{Task}
 use Rattle.spindle_rounds.specs.declared.round_table.view.View.{View}
 use Rattle.spindle_rounds.specs.declared.round_table.view.Standing.TheVariants.{Away}
 use Rattle.spindle_rounds.specs.Holding.{IsHeld}
+use Rattle.spindle_rounds.specs.RoundSteps.{learning}
 use Rattle.spindle_rounds.specs.Seating.{IsSeatAt, IsSameSeat}
 use Rattle.spindle_rounds.specs.Working.{IsIdle}
 
@@ -29,6 +31,11 @@ IsAt tables b = IsHeld b × IsSeatAt tables.round.init b.seat × IsSized tables 
 abbrev pub IsOut : {T S N : Type 0} → Tables T S N → Seat S (View N) → Type 0
 IsOut tables seat = IsSeatAt tables.round.init seat × IsSized tables seat.me.0
     × (seat.me.0.standing ≡ Away) × IsIdle seat.me.0
+
+-- one load of the published word: there is no task exactly where it was 0
+abbrev pub LookedForTask : {N : Type 0} → Option Task → (old new : View N) → Type 0
+LookedForTask None old new = new ≡ learning 0 old
+LookedForTask (Some task) old new = (word : ℕ) × (0 < word) × (new ≡ learning word old)
 
 -- the seats of a helper before its life in the lock and after it: no member, no number, no credit
 pub record AreOut {T S N : Type 0} (tables : Tables T S N) (seats : Seats T S N) : Type 0 where

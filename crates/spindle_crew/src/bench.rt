@@ -1,5 +1,5 @@
 //! Where a helper's seats at the tables of a nested lock rest until a helper comes for them.
-ghost use Rattle.std.specs.Prelude.{◌≡◌, [], IfSome, IfOk, All};
+ghost use Rattle.std.specs.Prelude.{◌≡◌, ◌+◌, [], IfSome, IfOk, All, vec_len};
 ghost use Rattle.spindle_crew.specs.Opening.{AreSeatsAt};
 ghost use Rattle.spindle_crew.specs.Benches.{IsBenchAt};
 ghost use Rattle.spindle_crew.specs.Posts.{AreOut};
@@ -95,6 +95,7 @@ impl<D: Slots> Tables<D> {
         requires { AreSeatsAt self.now seats.old }
         ensures seats { AreSeatsAt self.now seats.new }
         ensures benches { IfOk result (λ benches. All (IsBenchAt self.now) benches.items) }
+        ensures helpers { IfOk result (λ benches. vec_len benches + 1 ≡ self.now.crew.threads) }
     {
         let mut benches = Vec::with_capacity(alloc, self.crew.threads())?;
         for _ in 1..self.crew.threads() {

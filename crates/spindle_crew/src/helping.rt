@@ -4,7 +4,8 @@ ghost use Rattle.std.specs.Prelude.{◌≡◌, ◌<◌, false};
 ghost use Rattle.spindle_parts.specs.ThreadNumbers.{IsSeatOf, IsSameSeat as IsSameNumberSeat};
 ghost use Rattle.spindle_parts.specs.declared.numbers.plays.Holding.TheVariants.{Nothing, Has};
 ghost use Rattle.spindle_crew.specs.Posts.{party_view};
-ghost use Rattle.spindle_crew.specs.Helpers.{IsHelperAt, IsNews, seat_of};
+ghost use Rattle.spindle_crew.specs.Accounts.{account_of};
+ghost use Rattle.spindle_crew.specs.Helpers.{HasRead, IsHelperAt, IsNews, seat_of};
 ghost use Rattle.spindle_rounds.specs.RoundConditions.{IsDone};
 ghost use Rattle.spindle_rounds.specs.Seating.{IsSameSeat};
 
@@ -55,11 +56,12 @@ pub fn await_news<'a, D: Slots, H: Wait>(
     notices: &mut Notices<'a>,
 ) -> News
     ensures news { IsNews (party_view post.new.barrier) result }
+    ensures read { HasRead result (account_of notices.new) }
     ensures post { (post.new.tables ≡ post.old.tables) × (post.new.thread ≡ post.old.thread) }
     ensures leader { (party_view post.new.barrier).leader ≡ (party_view post.old.barrier).leader }
     ensures seat { IsSameSeat post.old.barrier.seat post.new.barrier.seat }
 {
-    let mut idle = post.tables.sleep.idle();
+    let mut idle = post.tables.sleep.idle_until_news();
     for _ in rt.forever() {
         if notices.is_exit_announced() {
             return News::Exit;

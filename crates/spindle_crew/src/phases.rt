@@ -49,7 +49,7 @@ pub fn publish<'a, D: Slots, H: Wait>(
     tables.round.fill(&mut barrier.seat, task.jobs);
     notices.end_rest();
     publish_task(&tables.round, &mut barrier.seat, task);
-    tables.wake(rt);
+    tables.wake_for_news(rt);
 }
 
 // One store of the task's word: that of a plain round, or of one that may stop.
@@ -79,7 +79,7 @@ pub fn end_round<'a, D: Slots, H: Wait>(rt: &H, tables: &Tables<D>, barrier: &mu
     match barrier.arrive() {
         Arrival::Closer => {
             barrier.close();
-            tables.wake(rt);
+            tables.wake_for_end(rt);
         }
         Arrival::Arrived => await_end(rt, tables, barrier),
     }
@@ -92,7 +92,7 @@ fn await_end<'a, D: Slots, H: Wait>(rt: &H, tables: &Tables<D>, barrier: &mut Ba
     ensures held { Keeps barrier.old barrier.new }
     ensures next { InNext barrier.old.seat.me barrier.new.seat.me }
 {
-    let mut idle = tables.sleep.idle();
+    let mut idle = tables.sleep.idle_until_end();
     for _ in rt.forever() {
         if let Look::Ended = barrier.look() {
             return;
@@ -119,7 +119,7 @@ pub fn end_or_leave<'a, D: Slots, H: Wait>(
     match barrier.arrive() {
         Arrival::Closer => {
             barrier.close();
-            tables.wake(rt);
+            tables.wake_for_end(rt);
             ExitStatus::Remain(barrier)
         }
         Arrival::Arrived => await_end_or_leave(rt, tables, barrier, notices),
@@ -138,7 +138,7 @@ fn await_end_or_leave<'a, D: Slots, H: Wait>(
     ensures status { EndedOrLeft barrier.entry result }
     ensures same { IsSameThread notices.old notices.new }
 {
-    let mut idle = tables.sleep.idle();
+    let mut idle = tables.sleep.idle_until_end();
     for _ in rt.forever() {
         let asked = notices.requests();
         barrier = match barrier.take_turn(asked) {

@@ -3,7 +3,7 @@ ghost use Rattle.std.specs.Prelude.{◌≡◌, ℕ, ◌<◌, ◌%◌, false, tru
 ghost use Rattle.spindle_rounds.specs.declared.round_table.view.Standing.TheVariants.{Inside};
 ghost use Rattle.spindle_rounds.specs.RoundSteps.{round_of};
 ghost use Rattle.spindle_rounds.specs.Working.{OnTask, IsIdle};
-ghost use Rattle.spindle_crew.specs.Posts.{IsAt, IsOut, IsSized, party_view};
+ghost use Rattle.spindle_crew.specs.Posts.{IsAt, IsOut, IsSized, LookedForTask, party_view};
 ghost use Rattle.spindle_rounds.specs.Seating.{IsSeatAt, IsSameSeat, IsSameTable};
 
 use crate::tables::Tables;
@@ -96,6 +96,7 @@ impl<'a, D: Slots> Post<'a, D> {
     pub fn task(&mut self) -> Option<Task>
         ensures task { IfSome result (λ task.
             OnTask task.jobs task.may_stop (party_view self.new.barrier)) }
+        ensures looked { LookedForTask result (party_view self.old.barrier) (party_view self.new.barrier) }
         ensures post { (self.new.tables ≡ self.old.tables) × (self.new.thread ≡ self.old.thread) }
         ensures leader { (party_view self.new.barrier).leader ≡ (party_view self.old.barrier).leader }
         ensures seat { IsSameSeat self.old.barrier.seat self.new.barrier.seat }

@@ -1,6 +1,7 @@
 //! Where a thread runs jobs: what these see of the lock, in a form that names no slots of its round table.
-ghost use Rattle.std.specs.Prelude.{◌≡◌, ◌<◌, ◌≤◌};
+ghost use Rattle.std.specs.Prelude.{◌≡◌, ℕ, ◌<◌, ◌≤◌};
 ghost use Rattle.std.specs.Option.{ForSome};
+ghost use Rattle.spindle_crew.specs.declared.members.Members.TheVariants.{Fixed};
 
 use crate::Crew;
 use crate::members::Members;
@@ -25,6 +26,8 @@ impl<'a> Site<'a> {
     pub fn under(&self, index: Option<usize>) -> Site<'a>
         requires index { ForSome index (λ i. i < self.now.crew.most) }
         ensures crew { result.crew ≡ self.now.crew }
+        ensures members { result.members ≡ self.now.members }
+        ensures number { result.index ≡ index }
     {
         Site {
             crew: self.crew,
@@ -37,6 +40,7 @@ impl<'a> Site<'a> {
     /// The same for a job that another job runs directly: the number of threads stays as it is now.
     pub fn within(&self) -> Site<'a>
         ensures crew { result.crew ≡ self.now.crew }
+        ensures fixed { (now : ℕ) × (result.members ≡ Fixed now) }
         ensures index { result.index ≡ self.now.index }
     {
         Site {

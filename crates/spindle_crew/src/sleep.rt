@@ -1,7 +1,8 @@
 //! How idle threads of a lock wait: turns of pauses between two looks, then sleep until somebody has changed a word.
 //!
-//! Who changes a word that idle threads wait for stores it first, then takes the mutex, and wakes all who sleep by then. A thread
-//! that is about to sleep looks once more while it holds the mutex, so no change is missed.
+//! Who changes a word that idle threads wait for stores it first, then takes their mutex, and wakes all who sleep by then. A thread
+//! that is about to sleep looks once more while it holds the mutex, so no change is missed. Those who wait for news and those who
+//! wait for a round's end have a mutex each: the leader's publish takes one, and whoever ends the round the other.
 ghost use Rattle.std.specs.Prelude.{◌<◌};
 
 use crate::limits::Limits;
@@ -17,11 +18,12 @@ const QUIET_TURNS: u32 = 64;
 #[derive(Drop)]
 pub struct Sleep {
     limits: Limits,
-    bed: CachePadded<Bed>,
+    news: CachePadded<Bed>,
+    end: CachePadded<Bed>,
 }
 
 // How many sleep, behind the mutex of those who are about to. Whoever wakes them writes here, so it shares no cache line with what
-// waiting threads read.
+// waiting threads read, nor with the other bed.
 #[derive(Drop)]
 struct Bed {
     sleepers: Mutex<usize>,
@@ -29,6 +31,21 @@ struct Bed {
 }
 
 impl Bed {
+    fn new() -> Bed {
+        Bed {
+            sleepers: Mutex::new(0),
+            changed: Condvar::new(),
+        }
+    }
+
+    // Wakes all who sleep here.
+    fn wake<H: Wait>(&self, rt: &H) {
+        let sleepers = *self.sleepers.lock(rt);
+        if sleepers > 0 {
+            self.changed.notify_all();
+        }
+    }
+
     // Sleeps until somebody has changed a word, counted among the sleepers meanwhile.
     fn sleep<'a, H: Wait>(
         &'a self,
@@ -45,13 +62,10 @@ impl Bed {
 impl Sleep {
     /// A place to sleep for threads with these limits.
     pub fn new(limits: Limits) -> Sleep {
-        let bed = Bed {
-            sleepers: Mutex::new(0),
-            changed: Condvar::new(),
-        };
         Sleep {
             limits,
-            bed: CachePadded::new(bed),
+            news: CachePadded::new(Bed::new()),
+            end: CachePadded::new(Bed::new()),
         }
     }
 
@@ -60,18 +74,35 @@ impl Sleep {
         self.limits
     }
 
-    /// Wakes all who sleep. A word was changed before.
+    /// Wakes all who sleep, whatever they wait for. A word was changed before.
     pub fn wake<H: Wait>(&self, rt: &H) {
-        let sleepers = *self.bed.sleepers.lock(rt);
-        if sleepers > 0 {
-            self.bed.changed.notify_all();
-        }
+        self.wake_for_news(rt);
+        self.wake_for_end(rt);
     }
 
-    /// The pauses of a thread that begins to wait.
-    pub fn idle(&self) -> Idle<'_> {
+    /// Wakes those who wait for a round, for requests, or for the announcement of exit. A word was changed before.
+    pub fn wake_for_news<H: Wait>(&self, rt: &H) {
+        self.news.wake(rt);
+    }
+
+    /// Wakes those who wait for a round's end. The round was ended before.
+    pub fn wake_for_end<H: Wait>(&self, rt: &H) {
+        self.end.wake(rt);
+    }
+
+    /// The pauses of a thread that begins to wait for a round, for requests, or for the announcement of exit.
+    pub fn idle_until_news(&self) -> Idle<'_> {
+        self.idle(&self.news)
+    }
+
+    /// The pauses of a thread that begins to wait for a round's end.
+    pub fn idle_until_end(&self) -> Idle<'_> {
+        self.idle(&self.end)
+    }
+
+    fn idle<'a>(&self, bed: &'a Bed) -> Idle<'a> {
         Idle {
-            bed: &self.bed,
+            bed,
             pauses: self.limits.pause,
             turns: self.limits.spin / self.limits.pause.max(1),
             turn: 0,

@@ -1,6 +1,6 @@
 //! What the threads of a lock share, whatever the kind of job: rounds, thread numbers, notices, a place to sleep, and who is
 //! there. What the slots of its round table hold is a parameter.
-ghost use Rattle.std.specs.Prelude.{◌≡◌, ◌<◌};
+ghost use Rattle.std.specs.Prelude.{◌≡◌, ◌<◌, Some};
 ghost use Rattle.spindle_parts.specs.LedgerSeats.{slot_count};
 
 use crate::Crew;
@@ -44,10 +44,26 @@ impl<D: Slots> Tables<D> {
         }
     }
 
+    /// The same for those who wait for news alone: a round was published.
+    pub fn wake_for_news<H: Wait>(&self, rt: &H) {
+        if self.crew.threads() > 1 {
+            self.sleep.wake_for_news(rt);
+        }
+    }
+
+    /// The same for those who wait for a round's end alone: it was ended.
+    pub fn wake_for_end<H: Wait>(&self, rt: &H) {
+        if self.crew.threads() > 1 {
+            self.sleep.wake_for_end(rt);
+        }
+    }
+
     /// Where the thread of this number runs jobs, which read there how many threads take part.
     pub fn site<'a>(&'a self, members: Members<'a>, thread: usize) -> Site<'a>
         requires thread { thread < self.now.crew.threads }
         ensures crew { result.crew ≡ self.now.crew }
+        ensures members { result.members ≡ members.entry }
+        ensures index { result.index ≡ Some thread }
     {
         Site {
             crew: self.crew,

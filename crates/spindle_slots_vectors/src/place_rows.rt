@@ -190,16 +190,18 @@ fn refused_rounds_as_a_value_are_played_when_asked_again(rt: HostRuntime) -> Res
     Ok(())
 }
 
+// The room of a round serves the next one of its size: where one of three rounds is refused, it is the first, and no item has
+// made a step.
 #[test]
-fn refused_round_in_place_leaves_the_items(rt: HostRuntime) -> Result<(), Fault> {
+fn refused_rounds_in_place_leave_the_items(rt: HostRuntime) -> Result<(), Fault> {
     let alloc = rt.alloc();
     let pool = Pool::new(4, Limits::new(), NoGate);
     for jobs in [1, 4, 7] {
         let mut list = seven_items(alloc)?;
         let mut steps = 0usize;
         for _ in 0..2 {
-            if step_often(&rt, alloc, &pool, 7, jobs, 1, &mut list).is_ok() {
-                steps = steps.wrapping_add(1);
+            if step_often(&rt, alloc, &pool, 7, jobs, 3, &mut list).is_ok() {
+                steps = steps.wrapping_add(3);
             }
             holds(&rt, have_stepped(list.as_slice(), steps));
         }

@@ -116,3 +116,31 @@ fn refused_round_into_a_kept_list_leaves_it_empty(rt: HostRuntime) -> Result<(),
     }
     Ok(())
 }
+
+// With as many jobs as items no list is shared, and the room of a round serves the next one: where one of three rounds is refused,
+// it is the first, and no job has run.
+#[test]
+fn refused_rounds_in_slots_are_refused_before_the_first(rt: HostRuntime) -> Result<(), Fault> {
+    let alloc = rt.alloc();
+    let calls = Calls::new();
+    let pool = Pool::new(4, Limits::new(), Counting { calls: &calls });
+    let mut squares = Vec::new(alloc);
+    let mut lists = [
+        seven_items(alloc)?,
+        seven_items(alloc)?,
+        seven_items(alloc)?,
+    ];
+    let played = with_slots::<Square, _, _, _, _, _>(&rt, alloc, &pool, 4, 7, |leader| {
+        for items in &mut lists {
+            leader.for_each_into(&rt, alloc, 7, items, &mut squares)?;
+        }
+        Ok::<(), Fault>(())
+    });
+    if let Ok(Ok(())) = played {
+        holds(&rt, are_seven_squares(squares.as_slice()));
+        is(&rt, calls.in_all(), (21, 21));
+    } else {
+        is(&rt, calls.in_all(), (0, 0));
+    }
+    Ok(())
+}

@@ -104,7 +104,7 @@ impl<'t, A: Answers> SlotTables<'t, Pieces<A>> {
     {
         let tables = self.tables;
         tables.round.publish_held(&mut barrier.seat, jobs);
-        tables.sleep.wake(rt);
+        tables.sleep.wake_for_news(rt);
         let task = Task {
             jobs,
             may_stop: false,
