@@ -41,10 +41,18 @@ bench() {
   done
 }
 
+#: format [CRATE..]     put the crates' files (all, where none is named) into the layout without which the gate proves no crate
+format() {
+  local crate
+  for crate in ${*:-$(.ci/crates .)}; do
+    (cd "crates/$crate" && rt fmt)
+  done
+}
+
 #: figures              lines of code, specs and proofs of each crate, its edits, and what is longest in it
 figures() { .ci/figures; }
 
 case ${1:-} in
-  check | test | refusals | edits | bench | figures) "$@" ;;
+  check | test | refusals | edits | bench | format | figures) "$@" ;;
   *) sed -n 's|^#: |./do |p' do && exit 2 ;;
 esac
