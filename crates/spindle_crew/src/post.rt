@@ -109,7 +109,7 @@ impl<'a, D: Slots> Post<'a, D> {
         None
     }
 
-    /// Leaves the barrier.
+    /// Leaves the barrier. Where others waited for that, and the round has ended by it, it wakes them.
     pub fn leave<H: Wait>(self, rt: &H) -> Seat<D>
         ensures out { IsOut self.entry.tables.now result }
         ensures leader { result.me.0.leader ≡ (party_view self.entry.barrier).leader }
@@ -120,9 +120,11 @@ impl<'a, D: Slots> Post<'a, D> {
             barrier,
             thread: _,
         } = self;
-        let seat = barrier.exit(rt);
+        let departure = barrier.depart(rt);
         tables.present.go();
-        tables.wake(rt);
-        seat
+        if departure.has_closed {
+            tables.wake_for_end(rt);
+        }
+        departure.seat
     }
 }

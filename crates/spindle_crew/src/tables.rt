@@ -37,21 +37,14 @@ pub struct Tables<D: Slots> {
 }
 
 impl<D: Slots> Tables<D> {
-    /// Wakes all who sleep, unless the leader is the only thread. A word was changed before.
-    pub fn wake<H: Wait>(&self, rt: &H) {
-        if self.crew.threads() > 1 {
-            self.sleep.wake(rt);
-        }
-    }
-
-    /// The same for those who wait for news alone: a round was published.
+    /// Wakes those who wait for news, unless the leader is the only thread: a round was published, or exit announced.
     pub fn wake_for_news<H: Wait>(&self, rt: &H) {
         if self.crew.threads() > 1 {
             self.sleep.wake_for_news(rt);
         }
     }
 
-    /// The same for those who wait for a round's end alone: it was ended.
+    /// The same for those who wait for a round's end: it was ended.
     pub fn wake_for_end<H: Wait>(&self, rt: &H) {
         if self.crew.threads() > 1 {
             self.sleep.wake_for_end(rt);

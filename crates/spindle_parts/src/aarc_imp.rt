@@ -8,9 +8,10 @@ ghost use Rattle.counted_slot.specs.Counting.{readers, IsTurn};
 
 mod word;
 
+use crate::pauses::Pauses;
 pub use counted_slot::Fits;
 use counted_slot::{Claim, Counted, FREE, MARKED, ONE_READER, PRESENT, TAKEN};
-use crossbeam_utils::{Backoff, CachePadded};
+use crossbeam_utils::CachePadded;
 use std::marker::Model;
 use std::sync::Wait;
 use word::{Clearing, admits, clearing_of, is_free, is_present};
@@ -112,7 +113,7 @@ impl<T: Fits> AtomicArc<T> {
     pub fn clear<R: Wait>(&self, rt: &R) -> Option<T>
         ensures { IfSome result (T.fits self.now) }
     {
-        let pauses = Backoff::new();
+        let mut pauses = Pauses::new();
         for _ in rt.forever() {
             let word = self.slot.load();
             match clearing_of(word) {
@@ -125,7 +126,7 @@ impl<T: Fits> AtomicArc<T> {
                 Clearing::Mark => self.mark(word),
                 Clearing::Wait => {}
             }
-            pauses.snooze();
+            pauses.pause();
         }
         unreachable!()
     }

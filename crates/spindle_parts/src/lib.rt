@@ -6,6 +6,7 @@ pub mod aarc_imp;
 pub mod cut;
 pub mod fault;
 pub mod numbers;
+pub mod pauses;
 pub mod requests;
 pub mod steps;
 pub mod trail;

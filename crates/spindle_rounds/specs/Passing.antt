@@ -1,11 +1,12 @@
 -- What a party's steps on the barrier leave of its seat.
-use Rattle.std.specs.Prelude.{◌≡◌, ◌⊎◌, ℕ, ◌+◌, ◌%◌, ◌<◌, false, List, [], ◌∷◌, ◌++◌}
+use Rattle.std.specs.Prelude.{◌≡◌, ◌⊎◌, ℕ, ◌+◌, ◌%◌, ◌<◌, true, false, Bool, List, [], ◌∷◌, ◌++◌}
 use Rattle.atomic_table.specs.Table.{Me}
 use Rattle.spindle_parts.specs.declared.trail.Trace.{Trace}
 use Rattle.spindle_rounds.specs.declared.barrier.steps.JoinStep.TheVariants.{Joined, Full}
 use Rattle.spindle_rounds.specs.declared.barrier.steps.Arrival.TheVariants.{Arrived}
 use Rattle.spindle_rounds.specs.declared.barrier.steps.Look.TheVariants as look
 use Rattle.spindle_rounds.specs.declared.barrier.steps.LeaveStep.TheVariants as leave
+use Rattle.spindle_rounds.specs.declared.barrier.steps.ExitStep.TheVariants as exit
 use Rattle.spindle_rounds.specs.declared.round_table.view.Standing.{Standing}
 use Rattle.spindle_rounds.specs.declared.round_table.view.Standing.TheVariants.{Away, Inside}
 use Rattle.spindle_rounds.specs.declared.round_table.view.Kind.{Kind}
@@ -13,7 +14,7 @@ use Rattle.spindle_rounds.specs.declared.round_table.view.Known.{Known}
 use Rattle.spindle_rounds.specs.declared.round_table.view.View.{View}
 use Rattle.spindle_rounds.specs.RoundRule.{deeds_of}
 use Rattle.spindle_rounds.specs.RoundSteps.{round_of, unknown}
-use Rattle.spindle_rounds.specs.RoundAnswers.{JoinedBy, ArrivedBy, LookedBy, LeftBy}
+use Rattle.spindle_rounds.specs.RoundAnswers.{JoinedBy, ArrivedBy, LookedBy, LeftBy, ExitedBy}
 
 -- it stands elsewhere and knows something else,
 -- and no number began, finished or was published by its steps
@@ -34,6 +35,11 @@ module _ {S N : Type 0} where
   -- it is no member any more, and no closer
   abbrev pub WentOut : Me S (View N) → Me S (View N) → Type 0
   WentOut m w = Moved Away (unknown false false) m w
+
+  -- it exited, after attempts between which other steps came: as the closer it then ended its round
+  abbrev pub Departed : Bool → Me S (View N) → Me S (View N) → Type 0
+  Departed false m w = (u : Me S (View N)) × Stayed m u × ExitedBy exit.Gone u w
+  Departed true m w = (u c : Me S (View N)) × Stayed m u × ExitedBy exit.Closer u c × WentOut c w
 
   -- a join after others that were refused
   abbrev pub JoinedAtLast : ℕ → Me S (View N) → Me S (View N) → Type 0

@@ -2,7 +2,7 @@
 ghost use Rattle.std.specs.Prelude.{◌≡◌, ◌⊎◌, ℕ, ◌<◌, IfOk, IfErr, true, false, Option, Bool};
 ghost use Rattle.spindle_rounds.specs.RoundConditions.{IsFreeInside, IsDone, IsWaiting, MayExit, MayLeave};
 ghost use Rattle.spindle_rounds.specs.Holding.{IsHeld, IsPartyOf, Keeps, AwaitTold, StatusTold, TurnsLast, WaitTold, TurnsTold};
-ghost use Rattle.spindle_rounds.specs.Passing.{Stayed, InNext, WentOut, JoinedAtLast, FullAtLast, TurnsOn};
+ghost use Rattle.spindle_rounds.specs.Passing.{Stayed, InNext, WentOut, Departed, JoinedAtLast, FullAtLast, TurnsOn};
 ghost use Rattle.spindle_rounds.specs.declared.round_table.view.Standing.TheVariants.{Away, Closing};
 ghost use Rattle.spindle_rounds.specs.Seating.{IsSeatAt, IsSameSeat};
 
@@ -12,39 +12,8 @@ use super::steps::{Arrival, Look};
 use super::{Barrier, BarrierInit, JoinRefused};
 use crate::round_table::Seat;
 use crate::round_table::slots::Slots;
-use crossbeam_utils::Backoff;
-use std::hint::spin_loop;
+use spindle_parts::pauses::Pauses;
 use std::sync::Wait;
-
-/// How many looks a party takes before it begins to yield.
-const SPINS: u32 = 256;
-
-/// The pauses of a party that waits, between its looks.
-#[derive(Drop)]
-pub struct Pauses {
-    spins: u32,
-    backoff: Backoff,
-}
-
-impl Pauses {
-    /// The pauses of a party that begins to wait.
-    pub fn new() -> Pauses {
-        Pauses {
-            spins: SPINS,
-            backoff: Backoff::new(),
-        }
-    }
-
-    /// A short pause at first, and a yield of the processor later.
-    pub fn pause(&mut self) {
-        if self.spins > 0 {
-            self.spins -= 1;
-            spin_loop();
-        } else {
-            self.backoff.snooze();
-        }
-    }
-}
 
 /// There are as many parties as there may be. The seat comes back.
 #[derive(Drop)]
@@ -75,6 +44,15 @@ pub enum ExitStatus<'a, D: Slots> {
     Exit(Seat<D>),
     /// It is inside the next round.
     Remain(Barrier<'a, D>),
+}
+
+/// What is left of a party that has exited.
+#[derive(Drop)]
+pub struct Departure<D: Slots> {
+    /// Its seat.
+    pub seat: Seat<D>,
+    /// Whether it closed its round, for whose end others waited.
+    pub has_closed: bool,
 }
 
 impl<D: Slots> BarrierInit<D> {
@@ -142,12 +120,33 @@ impl<'a, D: Slots> Barrier<'a, D> {
         ensures seat { IsSameSeat self.entry.seat result }
         ensures out { WentOut self.entry.seat.me result.me }
     {
+        self.depart(rt).seat
+    }
+
+    /// Exits, and tells whether it closed the round: then others waited for its end.
+    pub fn depart<R: Wait>(self, rt: &R) -> Departure<D>
+        requires held { IsHeld self }
+        requires free { MayExit self.seat.me.0 }
+        ensures seat { IsSameSeat self.entry.seat result.seat }
+        ensures out { WentOut self.entry.seat.me result.seat.me }
+        ensures told { Departed result.has_closed self.entry.seat.me result.seat.me }
+    {
         let mut pauses = Pauses::new();
         let mut barrier = self;
         for _ in rt.forever() {
             barrier = match barrier.try_exit() {
-                Exit::Gone(seat) => return seat,
-                Exit::Closer(closer) => return closer.close_out(),
+                Exit::Gone(seat) => {
+                    return Departure {
+                        seat,
+                        has_closed: false,
+                    };
+                }
+                Exit::Closer(closer) => {
+                    return Departure {
+                        seat: closer.close_out(),
+                        has_closed: true,
+                    };
+                }
                 Exit::Again(again) => again,
             };
             pauses.pause();

@@ -37,7 +37,7 @@ impl<J: Job, A: RunsPieces<J>> OpensSlots<KeptPost<A>> for J {
     }
 
     fn wake<H: Wait>(rt: &H, post: &KeptPost<A>) {
-        post.post.tables.sleep.wake(rt);
+        post.post.tables.wake_for_news(rt);
     }
 
     fn leave<H: Wait>(rt: &H, post: KeptPost<A>) {

@@ -82,7 +82,7 @@ pub trait OpensSlots<P>: Job + HasPost<P> {
         ensures range { (1 ≤ result) × (result ≤ 4294967295) }
         ensures between { MayFill (Self.OpensSlots.view post.now) };
 
-    /// Wakes all who sleep.
+    /// Wakes those who sleep until news comes: exit is announced.
     fn wake<H: Wait>(rt: &H, post: &P);
 
     /// Leaves the lock's barrier.

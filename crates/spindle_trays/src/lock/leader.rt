@@ -62,7 +62,7 @@ impl<'a, J: Opens<L>, G: Gate, L> Leader<'a, J, G, L> {
     /// Tells the helpers to end.
     pub(crate) fn dismiss<H: Wait>(&mut self, rt: &H) {
         self.runner.notices.announce_exit();
-        self.post.post.tables.wake(rt);
+        self.post.post.tables.wake_for_news(rt);
     }
 
     /// Runs the items in `n_jobs` jobs, or in as many as there are items where these are fewer, and at most in

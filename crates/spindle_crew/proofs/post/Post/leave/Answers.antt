@@ -1,15 +1,17 @@
 -- Who exits stands outside, with what else its seat knew.
-use Rattle.std.proofs.Common.{ap, arith, ◌∙◌}
+use Rattle.spindle_crew.proofs.Leaving.{out_at, left_leader, post_at}
 use Rattle.spindle_crew.proofs.post.Post.leave.Goals as goal
 
-pub returns-clause-out : goal.returns-clause-out
-returns-clause-out g c = let e = c.exit-seat.ensures in let o = e.out.seat in let p = c.args.self in
-    let f = ap (λ m. m.0.from) o in let t = ap (λ m. m.0.to) o in let i = p.idle.1 in (
-      e.seat.0 ∙ p.seated,
-      ap (λ m. m.0.threads) o ∙ p.sized,
-      ap (λ m. m.0.standing) o,
-      (ap (λ m. m.0.claim) o ∙ p.idle.0, omega arith),
-    )
+pub returns-then-departure-clause-out : goal.returns-then-departure-clause-out
+returns-then-departure-clause-out g c = let e = c.depart-departure.ensures in
+    out_at c.args.self.tables.now c.args.self.barrier c.depart-departure.result.seat (post_at c.args.self) c.args.self.idle e.seat e.out
 
-pub returns-clause-leader : goal.returns-clause-leader
-returns-clause-leader g c = ap (λ m. m.0.leader) c.exit-seat.ensures.out.seat
+pub returns-else-departure-clause-out : goal.returns-else-departure-clause-out
+returns-else-departure-clause-out g c = let e = c.depart-departure.ensures in
+    out_at c.args.self.tables.now c.args.self.barrier c.depart-departure.result.seat (post_at c.args.self) c.args.self.idle e.seat e.out
+
+pub returns-then-departure-clause-leader : goal.returns-then-departure-clause-leader
+returns-then-departure-clause-leader g c = left_leader c.args.self.barrier c.depart-departure.result.seat c.depart-departure.ensures.out
+
+pub returns-else-departure-clause-leader : goal.returns-else-departure-clause-leader
+returns-else-departure-clause-leader g c = left_leader c.args.self.barrier c.depart-departure.result.seat c.depart-departure.ensures.out
