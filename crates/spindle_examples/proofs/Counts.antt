@@ -38,7 +38,7 @@ rank-permutation xs ys same key = sum_by-IsPermutation (λ x. cond (ltb x key) 1
 
 -- what jobs answer to keys in one table that ascends
 pub ranked : (table keys ranks : List ℕ) → IsNonDecreasing table
-    → AllZip IsRankOf (map (λ key. record { table = table; key = key }) keys) ranks → ranks ≡ map (rank table) keys
+    → AllZip IsRankOf (map (λ key. (key, table)) keys) ranks → ranks ≡ map (rank table) keys
 ranked table [] [] up all = refl
 ranked table [] (r ∷ ranks) up all = absurd all
 ranked table (key ∷ keys) [] up all = absurd all

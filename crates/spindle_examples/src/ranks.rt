@@ -6,18 +6,12 @@ ghost use Rattle.spindle_examples.specs.Ranks.{rank, IsRankOf};
 
 use spindle::lock::{End, Gate, Job, JobCx, Pool};
 use spindle::{Fault, SharedList, with_slots};
-use std::alloc::{AllocError, Global};
+use std::alloc::Global;
 use std::sync::Wait;
 use std::thread::Threads;
 
-/// A key, and the table that it is looked up in.
-#[derive(Clone, Drop, PartialEq, Eq)]
-pub struct Lookup {
-    /// The numbers, in ascending order.
-    pub table: SharedList<u32>,
-    /// The number whose place is asked for.
-    pub key: u32,
-}
+/// A key, and the table that it is looked up in: numbers in ascending order.
+pub type Lookup = (u32, SharedList<u32>);
 
 /// Answers how many numbers of the table are below the key.
 pub struct Rank;
@@ -37,33 +31,11 @@ impl Job for Rank {
         lookup: &Lookup,
         _cx: &mut JobCx<End>,
     ) -> usize {
-        let key = lookup.key;
-        lookup
-            .table
-            .as_slice()
-            .partition_point(|number| *number < key)
+        let (key, table) = lookup;
+        table.as_slice().partition_point(|number| *number < *key)
     }
 
     ghost equal_is_same = { Prim.search rules };
-}
-
-// Each key with the table.
-fn lookups(
-    alloc: Global,
-    table: &SharedList<u32>,
-    keys: Vec<u32>,
-) -> Result<Vec<Lookup>, AllocError>
-    ensures { IfOk result (λ lookups.
-        lookups.items ≡ map (λ key. record { table = table.now; key = key }) keys.items) }
-{
-    let mut lookups = Vec::new(alloc);
-    for key in keys {
-        lookups.push(Lookup {
-            table: table.clone()?,
-            key,
-        })?;
-    }
-    Ok(lookups)
 }
 
 /// Of each key how many of the numbers are below it, by one round of so many jobs.
@@ -80,7 +52,7 @@ pub fn ranks<G: Gate + Sync, H: Threads + Wait + Sync>(
 {
     numbers.sort()?;
     let table = SharedList::from_vec(alloc, numbers)?;
-    let lookups = lookups(alloc, &table, keys)?;
+    let lookups = table.lent_to(alloc, keys)?;
     with_slots::<Rank, _, _, _, _, _>(
         rt,
         alloc,

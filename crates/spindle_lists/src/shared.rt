@@ -3,7 +3,7 @@
 //! A leader compares the inputs of a round afterwards, and a job's inputs have the law that equal inputs are the same
 //! value. A plain `Vec` can't have that law, since contracts see its capacity, and its clone copies each item. A
 //! `SharedList` is seen as the list of its items alone, and its clones share them. A round's own items are such a list.
-ghost use Rattle.std.specs.Prelude.{◌≡◌, List, true, IfOk, IfErr, IsOk, length, IsTrue, ◌↔◌, []};
+ghost use Rattle.std.specs.Prelude.{◌≡◌, List, true, IfOk, IfErr, IsOk, length, map, IsTrue, ◌↔◌, []};
 ghost use Rattle.std.specs.Cmp.Lexicographic.{pointwise, lists_equiv, lists_per};
 ghost use Rattle.spindle_lists.specs.Same.{equal_lists_are_same};
 
@@ -46,6 +46,23 @@ impl<T> SharedList<T> {
             Ok(items) => Ok(items),
             Err(items) => Err(SharedList { items }),
         }
+    }
+
+    /// Each of the items with a clone of this list: so jobs are lent what all of them read, and nothing is copied.
+    pub fn lent_to<X: Drop>(
+        &self,
+        alloc: Global,
+        items: Vec<X>,
+    ) -> Result<Vec<(X, SharedList<T>)>, AllocError>
+    where
+        T: Drop,
+        ensures { IfOk result (λ lent. lent.items ≡ map (λ item. (item, self.now)) items.items) }
+    {
+        let mut lent = Vec::with_capacity(alloc, items.len())?;
+        for item in items {
+            lent.push((item, self.clone()?))?;
+        }
+        Ok(lent)
     }
 
     /// The items.

@@ -76,6 +76,38 @@ fn a_list_comes_out_again_where_no_clone_is_left(rt: HostRuntime) -> Result<(), 
 }
 
 #[test]
+fn a_list_is_lent_to_each_item_in_order(rt: HostRuntime) -> Result<(), Fault> {
+    let alloc = rt.alloc();
+    let list = five(alloc)?;
+    let lent = list.lent_to(alloc, vec![in alloc; 9, 8, 7]?)?;
+    is(&rt, lent.len(), 3);
+    for ((item, clone), wanted) in lent.iter().zip([9, 8, 7]) {
+        is(&rt, *item, wanted);
+        are(&rt, clone.as_slice(), &[1, 2, 3, 4, 5]);
+    }
+    drop(lent);
+    holds(&rt, list.try_into_vec().is_ok());
+    Ok(())
+}
+
+// A list that is lent to three items, or refused for it, is as it was, and no clone of it is left.
+fn lend_once(rt: &impl Abort, alloc: Global) -> Result<(), Fault> {
+    let list = five(alloc)?;
+    let items = vec![in alloc; 9, 8, 7]?;
+    let lent = list.lent_to(alloc, items).map(|pairs| pairs.len());
+    are(rt, list.as_slice(), &[1, 2, 3, 4, 5]);
+    holds(rt, list.try_into_vec().is_ok());
+    is(rt, lent?, 3);
+    Ok(())
+}
+
+#[test]
+fn refused_list_is_lent_when_asked_again(rt: HostRuntime) {
+    let first = lend_once(&rt, rt.alloc());
+    holds(&rt, first.is_ok() || lend_once(&rt, rt.alloc()).is_ok());
+}
+
+#[test]
 fn lists_are_equal_item_by_item(rt: HostRuntime) -> Result<(), Fault> {
     let alloc = rt.alloc();
     let list = five(alloc)?;

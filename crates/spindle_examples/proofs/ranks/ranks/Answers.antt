@@ -4,7 +4,6 @@ use Rattle.std.specs.List.{AllZip}
 use Rattle.std.specs.List.Sorted.{IsNonDecreasing}
 use Rattle.std.proofs.lemmas.List.Sorted.{IsNonDecreasingBy-from_sort}
 use Rattle.std.proofs.lemmas.Result.{IfOk-weaker}
-use Rattle.spindle_examples.specs.declared.ranks.Lookup.{Lookup}
 use Rattle.spindle_examples.specs.Ranks.{rank, IsRankOf}
 use Rattle.spindle_examples.proofs.Counts.{rank-permutation, ranked}
 use Rattle.spindle_examples.proofs.ranks.ranks.Goals as goal
@@ -17,9 +16,9 @@ returns g c =
     let same : table ≡ sorted = c.in_ok-table.ensures.items in
     let ascends : IsNonDecreasing sorted = IsNonDecreasingBy-from_sort (λ number. number) sorted c.in_ok-sort.ensures.sorted in
     let up : IsNonDecreasing table = subst IsNonDecreasing (sym same) ascends in
-    let asked : c.in_ok-lookups.lookups.items ≡ map (λ key. record { table = table; key = key }) keys = c.in_ok-lookups.ensures in
+    let asked : c.in_ok-lookups.lookups.items ≡ map (λ key. (key, table)) keys = c.in_ok-lookups.ensures in
     let all = ap (λ (numbers : List ℕ). map (rank numbers) keys) same
     ∙ (λ i. map (λ key. rank-permutation c.args.numbers.items sorted c.sort.ensures.permutation key i) keys) in
     IfOk-weaker _ (λ (ranks : Vec ℕ Global). AllZip IsRankOf c.in_ok-lookups.lookups.items ranks.items) _
-    (λ ranks answered. ranked table keys ranks.items up (subst (λ (lookups : List Lookup). AllZip IsRankOf lookups ranks.items) asked answered) ∙ all)
+    (λ ranks answered. ranked table keys ranks.items up (subst (λ (lookups : List (ℕ × List ℕ)). AllZip IsRankOf lookups ranks.items) asked answered) ∙ all)
     (search rules)

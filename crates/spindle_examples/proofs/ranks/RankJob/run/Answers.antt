@@ -8,9 +8,9 @@ use Rattle.spindle_examples.proofs.ranks.RankJob.run.Goals as goal
 
 pub returns : goal.returns
 returns g c = λ ascends.
-    let key : ℕ = c.args.lookup.now.key in
+    let key : ℕ = c.args.lookup.now.0 in
     let table : List ℕ = c.as_slice.result.now in
-    let same : table ≡ c.args.lookup.now.table = c.as_slice.ensures in
+    let same : table ≡ c.args.lookup.now.1 = c.as_slice.ensures in
     let below : ℕ → Bool = λ number. ltb number key in
     let parted = IsPartitionedBy-ltb (λ number. number) table key (subst IsNonDecreasing (sym same) ascends) in
     let point = IsPartitionPoint-from_clause below table c.partition_point.result c.partition_point.ensures.partitioned parted (λ a r f k. search rules) in
