@@ -83,8 +83,8 @@ fn run_in_trays<H: Threads + Wait + Sync + Clock + Print + Alloc<A = Global>>(
     }
 }
 
-// Runs a shape in a lock whose rounds are played in place, `nested` in one whose jobs open such locks; `try8` and the products have no
-// such line.
+// Runs a shape in a lock whose rounds are played in place, as those of the locks are that the jobs of `nested` open; `try8` and the
+// products have no such line.
 fn run_in_place<H: Threads + Wait + Sync + Clock + Print + Alloc<A = Global>>(
     rt: &H,
     settings: &Settings,
@@ -95,7 +95,9 @@ fn run_in_place<H: Threads + Wait + Sync + Clock + Print + Alloc<A = Global>>(
             rt, settings, shape,
         ),
         Shape::Tiny8 => in_place::<InPlace<StirInPlace>, TinyPlaceRounds, H>(rt, settings, shape),
-        Shape::Nested => in_trays::<AddInRoundsInPlace, NestedPlaceRounds, H>(rt, settings, shape),
+        Shape::Nested => in_place::<InPlace<AddInRoundsInPlace>, NestedPlaceRounds, H>(
+            rt, settings, shape,
+        ),
         Shape::Map => in_place::<InPlace<SquareInPlace>, MapPlaceRounds, H>(rt, settings, shape),
         Shape::Stencil4k | Shape::Stencil256k => in_place::<
             InPlace<AddOneByLines>,

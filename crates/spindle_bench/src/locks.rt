@@ -70,7 +70,7 @@ where
         settings.threads,
         |leader| -> Result<(), Stop>
             requires { IsSync H.row }
-        { led::<_, S, H>(rt, settings, S::line(), shape, leader) },
+        { led::<_, S, H>(rt, settings, Line::Trays, shape, leader) },
     )?
 }
 

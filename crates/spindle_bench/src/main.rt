@@ -4,7 +4,7 @@
 //! there, runs rounds in it, checks what came out, and prints a line `NAME SHAPE THREADS best median p10 p90`, as
 //! `spindle_timing` says. NAME is `zuflanto` for a lock that `with_slots` opens, with a slot for each job of the round,
 //! `zuflanto-trays` for one that `with_lock` opens, and `zuflanto-place` for one that `with_slots_in_place` opens, whose rounds are
-//! `remake_each`: `empty`, `tiny8`, the stencils and `map` have such a line, and `nested` where jobs open locks in place. `try8` and
+//! `remake_each`: `empty`, `tiny8`, the stencils and `map` have such a line, and `nested`, whose jobs open locks in place too. `try8` and
 //! the products run with trays alone.
 //!
 //! - `empty`: as many numbers as threads; a job does nothing. With trays by `for_each_raw`, with slots by `for_each` over a list
@@ -14,9 +14,8 @@
 //! - `try8`: `tiny8` by `try_for_each_into`: the same list of numbers, no job fails, and what comes out is one report, round after round.
 //! - `nested`: `for_each` over two shared lists of 256 numbers in four parts; a job opens a lock with trays for half of the threads and
 //!   runs sixteen rounds there, each of which adds one to each number, a part a job. An item of an inner round is a part itself, and
-//!   what a round answers is the next round's items. The lists that the jobs answer are the next round's items too. In place a job
-//!   copies its list into four parts, each by itself, opens a lock in place for the sixteen rounds, and copies the numbers into a list
-//!   again.
+//!   what a round answers is the next round's items. The lists that the jobs answer are the next round's items too. In place the
+//!   parts stay where they are, each by itself: a job is given a list of four, and opens a lock in place for the sixteen rounds.
 //! - `stencil4k`, `stencil256k`: `for_each` over 4096 or 262144 numbers, in one shared list a thread; a job answers a list of
 //!   each number and one more, and these lists are the next round's items. In place an item is a list, one a thread, with pages of
 //!   its own, and a job adds one to each of its numbers where they stand, by whole cache lines.

@@ -10,7 +10,6 @@ pub mod smooth;
 pub mod stencils;
 
 use spindle::lock::{Job, Leader, NoGate, PlacePost, Remakes, SlotLeader};
-use spindle_timing::line::Line;
 use spindle_timing::shape::Shape;
 use spindle_timing::stop::Stop;
 use std::alloc::Global;
@@ -41,11 +40,6 @@ pub trait SlotRounds<J: Job>: Rounds {
 
 /// A shape's rounds in a lock with trays over jobs of kind J.
 pub trait TrayRounds<J: Job>: Rounds {
-    /// The line that is printed: that of trays, or where jobs open locks in place and run all but a round there, that of these.
-    fn line() -> Line {
-        Line::Trays
-    }
-
     /// Runs one round.
     fn in_trays<H: Threads + Wait + Sync>(
         &mut self,

@@ -118,26 +118,31 @@ impl Remake for AddOneInPart {
     }
 }
 
+/// A list of numbers in its parts; of no parts where a lock was refused its memory.
+#[derive(Drop)]
+pub struct Parts {
+    /// The parts.
+    pub parts: Vec<Box<Part>>,
+}
+
 /// Opens a lock in place of half as many threads as its own lock has, and there adds one to each number of a list in each of so many
 /// rounds, a part a job.
 pub struct AddInRoundsInPlace;
 
-impl Job for AddInRoundsInPlace {
-    type In = SharedList<u64>;
-
-    type Out = Result<SharedList<u64>, Fault>;
+impl Remake for AddInRoundsInPlace {
+    type Item = Parts;
 
     type Inner = UnderInPlace<AddOneInPart>;
 
-    ghost meets = { λ _ _. Unit {0} };
+    ghost remade = { λ _ _. Unit {0} };
 
     fn run<H: Threads + Wait + Sync>(
         rt: &H,
         alloc: Global,
-        numbers: &SharedList<u64>,
+        item: Parts,
         cx: &mut JobCx<UnderInPlace<AddOneInPart>>,
-    ) -> Result<SharedList<u64>, Fault> {
-        let parts = parts_of(alloc, numbers.as_slice())?;
+    ) -> Parts {
+        let Parts { parts } = item;
         let threads = (cx.max_num_threads() / 2).max(1);
         let sums = with_slots_in_place::<InPlace<AddOneInPart>, _, _, _, _>(
             rt,
@@ -148,31 +153,14 @@ impl Job for AddInRoundsInPlace {
             |leader| -> Result<Vec<Box<Part>>, Fault>
                 requires { IsSync H.row }
             { added_in_place(rt, alloc, leader, parts) },
-        )??;
-        joined(alloc, sums.as_slice())
+        );
+        match sums {
+            Ok(Ok(parts)) => Parts { parts },
+            _ => Parts {
+                parts: Vec::new(alloc),
+            },
+        }
     }
-
-    ghost equal_is_same = { Prim.search rules };
-}
-
-// The numbers in their parts.
-fn parts_of(alloc: Global, numbers: &[u64]) -> Result<Vec<Box<Part>>, Fault> {
-    let mut parts = Vec::with_capacity(alloc, NESTED_PARTS)?;
-    for chunk in numbers.chunks_exact(NESTED_LEN / NESTED_PARTS) {
-        let mut part = [0u64; NESTED_LEN / NESTED_PARTS];
-        part.copy_from_slice(chunk);
-        parts.push(Box::new(alloc, part)?)?;
-    }
-    Ok(parts)
-}
-
-// The parts as one list.
-fn joined(alloc: Global, parts: &[Box<Part>]) -> Result<SharedList<u64>, Fault> {
-    let mut numbers = Vec::with_capacity(alloc, NESTED_LEN)?;
-    for part in parts {
-        numbers.extend_from_slice(&part[..])?;
-    }
-    Ok(SharedList::from_vec(alloc, numbers)?)
 }
 
 // The parts after all rounds of a lock that a job opened.

@@ -2,11 +2,10 @@
 ghost use Rattle.std.specs.Prelude.{◌≡◌};
 ghost use denote.Param.Send.{IsSync};
 
-use crate::jobs::nested::{AddInRounds, AddInRoundsInPlace, Part};
-use crate::rounds::{Rounds, TrayRounds};
-use spindle::lock::{Leader, NoGate};
+use crate::jobs::nested::{AddInRounds, AddInRoundsInPlace, Part, Parts};
+use crate::rounds::{PlaceRounds, Rounds, TrayRounds};
+use spindle::lock::{InPlace, Leader, NoGate, PlaceLeader};
 use spindle::{Fault, SharedList};
-use spindle_timing::line::Line;
 use spindle_timing::shape::{NESTED_LEN, NESTED_PARTS, NESTED_ROUNDS, Shape};
 use spindle_timing::stop::Stop;
 use std::alloc::Global;
@@ -69,61 +68,48 @@ impl TrayRounds<AddInRounds> for NestedRounds {
     }
 }
 
-/// Rounds over a list a job, which the job changes in a lock in place.
+/// Rounds in place over a list a job, in parts, which the job changes in a lock in place.
 #[derive(Drop)]
 pub struct NestedPlaceRounds {
     jobs: usize,
-    lists: Vec<SharedList<u64>>,
+    lists: Vec<Parts>,
 }
 
-impl NestedPlaceRounds {
-    // Takes the lists, in whose place stands room for as many.
-    fn take(&mut self, alloc: Global) -> Result<Vec<SharedList<u64>>, Stop> {
-        let next = Vec::with_capacity(alloc, self.lists.len())?;
-        Ok(mem::replace(&mut self.lists, next))
+// A list of zeros.
+fn zeros_in_parts(alloc: Global) -> Result<Parts, Stop> {
+    let mut parts = Vec::with_capacity(alloc, NESTED_PARTS)?;
+    for _ in 0..NESTED_PARTS {
+        parts.push(Box::new(alloc, [0u64; NESTED_LEN / NESTED_PARTS])?)?;
     }
-
-    // Keeps the lists that a round answered.
-    fn keep(&mut self, answers: Vec<Result<SharedList<u64>, Fault>>) -> Result<(), Stop> {
-        for sums in answers {
-            self.lists.push(sums?)?;
-        }
-        Ok(())
-    }
+    Ok(Parts { parts })
 }
 
 impl Rounds for NestedPlaceRounds {
     fn new(alloc: Global, _shape: Shape, jobs: usize) -> Result<NestedPlaceRounds, Stop> {
         let mut lists = Vec::with_capacity(alloc, jobs)?;
         for _ in 0..jobs {
-            let zeros = vec![in alloc; 0u64; NESTED_LEN]?;
-            lists.push(SharedList::from_vec(alloc, zeros)?)?;
+            lists.push(zeros_in_parts(alloc)?)?;
         }
         Ok(NestedPlaceRounds { jobs, lists })
     }
 
     fn is_right(&self, rounds: u64) -> bool {
         let sum = rounds.saturating_mul(NESTED_ROUNDS);
-        let is_sum = |x: &u64| *x == sum;
-        let is_right = |list: &SharedList<u64>| list.len() == NESTED_LEN
-            && list.as_slice().iter().all(is_sum);
+        let is_sum = |part: &Box<Part>| part.iter().all(|x| *x == sum);
+        let is_right = |list: &Parts| list.parts.len() == NESTED_PARTS
+            && list.parts.iter().all(is_sum);
         self.lists.len() == self.jobs && self.lists.iter().all(is_right)
     }
 }
 
-impl TrayRounds<AddInRoundsInPlace> for NestedPlaceRounds {
-    fn line() -> Line {
-        Line::Place
-    }
-
-    fn in_trays<H: Threads + Wait + Sync>(
+impl PlaceRounds<InPlace<AddInRoundsInPlace>> for NestedPlaceRounds {
+    fn in_place<H: Threads + Wait + Sync>(
         &mut self,
         rt: &H,
         alloc: Global,
-        leader: &mut Leader<AddInRoundsInPlace, NoGate>,
+        leader: &mut PlaceLeader<AddInRoundsInPlace, NoGate>,
     ) -> Result<(), Stop> {
-        let lists = self.take(alloc)?;
-        let answers = leader.for_each(rt, alloc, lists.len(), lists)?;
-        self.keep(answers)
+        leader.remake_each(rt, alloc, self.jobs, &mut self.lists)?;
+        Ok(())
     }
 }
