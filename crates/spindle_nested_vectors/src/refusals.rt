@@ -1,7 +1,7 @@
 //! What a refused allocation leaves in a job that opens locks: its closure wasn't run, and the same call with memory answers.
 //!
-//! Each of these tests ends well whichever one of its allocations is refused, so `rt try --test --fail-alloc N` plays
-//! them for each N from 1 on. With memory for all, they show the full answers. A job can't fail a test, so it answers what it saw.
+//! Each of these tests ends well whichever one of its allocations is refused; `./do refusals` refuses each in turn. With memory for
+//! all, they show the full answers. A job can't fail a test, so it answers what it saw.
 ghost use Rattle.std.specs.Prelude.{◌<◌};
 ghost use Rattle.std.proofs.Common.{rules};
 ghost use denote.Param.Send.{IsSync};
@@ -18,22 +18,11 @@ use spindle_trays::lock::pool::Pool;
 use spindle_trays::lock::workspace::Opens;
 use spindle_trays_vectors::jobs::Square;
 use spindle_trays_vectors::rounds::round_of;
-use spindle_trays_vectors::sevens::{are_seven_squares, seven_items};
+use spindle_trays_vectors::sevens::{Sight, are_seven_squares, seven_items, told};
 use std::alloc::Global;
 use std::process::Abort;
 use std::sync::Wait;
 use std::thread::Threads;
-
-/// What a job saw of calls that may be refused.
-#[derive(Clone, Copy, Debug, PartialEq, Eq)]
-pub enum Sight {
-    /// In the end the answers were right, and what a refusal leaves was as it should be.
-    Right,
-    /// A refused lock had run its closure.
-    RunAnyway,
-    /// Refused twice, though memory is refused once; or a wrong answer.
-    Wrong,
-}
 
 /// What a job calls, in which it may be refused.
 #[derive(Clone, Copy, Debug, PartialEq, Eq)]
@@ -97,11 +86,8 @@ fn opens_twice<H: Threads + Wait + Sync>(
                 squares_seven(rt, alloc, leader, jobs)
             },
         );
-        match answer {
-            Ok(true) => return Sight::Right,
-            Ok(false) => return Sight::Wrong,
-            Err(_) if is_run => return Sight::RunAnyway,
-            Err(_) => {}
+        if let Some(seen) = told(answer, is_run) {
+            return seen;
         }
     }
     Sight::Wrong

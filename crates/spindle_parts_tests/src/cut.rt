@@ -1,7 +1,6 @@
 //! Pieces and hands by worked rows, and what a refused growth leaves.
 //!
-//! The tests named `refused_` hold with any one allocation refused, which
-//! `rt try --test --fail-alloc N` does to the Nth.
+//! The tests named `refused_` hold with any one allocation refused; `./do refusals` refuses each in turn.
 ghost use Rattle.std.specs.Prelude.{◌≡◌, map, IfOk, vec_len};
 ghost use Rattle.spindle_parts.specs.Pieces.{counted};
 

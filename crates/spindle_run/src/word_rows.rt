@@ -1,7 +1,6 @@
 //! Runs of `cut`, `squares` and `slots` by their worked rows, the ends of every range, and a failing output.
 //!
-//! The tests named `refused_` hold with any one allocation refused, which
-//! `rt try --test --fail-alloc N` does to the Nth.
+//! The tests named `refused_` hold with any one allocation refused; `./do refusals` refuses each in turn.
 use crate::checks::{holds, is};
 use crate::trials::{Brief, Row, Torn, as_words, calls_bad, next, outcome, writes};
 use spindle_commands::{Stop, run};

@@ -9,7 +9,7 @@ ghost use denote.Param.Send.{IsSync};
 use crate::checks::are;
 use crate::jobs::Square;
 use crate::place_rows::{Step, have_stepped};
-use crate::sevens::{are_seven_squares, seven_items};
+use crate::sevens::{Sight, are_seven_squares, seven_items, told};
 use spindle::lock::{
     InPlace, Job, JobCx, Limits, Nest, NoGate, PlaceLeader, Pool, SlotLeader, UnderInPlace,
     UnderSlots,
@@ -19,27 +19,6 @@ use std::alloc::Global;
 use std::process::Abort;
 use std::sync::Wait;
 use std::thread::Threads;
-
-/// What a job saw of a lock that may be refused.
-#[derive(Clone, Copy, Debug, PartialEq, Eq)]
-enum Sight {
-    /// In the end the answers were right, and what a refusal leaves was as it should be.
-    Right,
-    /// A refused lock had run its closure.
-    RunAnyway,
-    /// Refused twice, though memory is refused once; or a wrong answer.
-    Wrong,
-}
-
-// What the answers of two such locks say, of which one is asked for where the other one was refused.
-fn told(answer: Result<bool, Fault>, is_run: bool) -> Option<Sight> {
-    match answer {
-        Ok(true) => Some(Sight::Right),
-        Ok(false) => Some(Sight::Wrong),
-        Err(_) if is_run => Some(Sight::RunAnyway),
-        Err(_) => None,
-    }
-}
 
 /// Squares seven items in a lock with slots, in so many jobs.
 struct AsksForSlots;

@@ -1,7 +1,7 @@
 //! What a refused allocation leaves: no job was run, and the same call with memory answers in full.
 //!
-//! Each of these tests ends well whichever one of its allocations is refused, so `rt try --test --fail-alloc N` plays
-//! them for each N from 1 on. With memory for all, they show the full answers.
+//! Each of these tests ends well whichever one of its allocations is refused; `./do refusals` refuses each in turn. With memory for
+//! all, they show the full answers.
 
 ghost use Rattle.std.specs.Prelude.{◌<◌};
 

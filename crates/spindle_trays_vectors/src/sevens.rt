@@ -1,4 +1,4 @@
-//! Rounds of seven items in a test that may be refused memory.
+//! Rounds of seven items in a test that may be refused memory, and what a job saw of a lock that may be refused it.
 
 use spindle_parts::fault::Fault;
 use std::alloc::Global;
@@ -26,5 +26,26 @@ pub fn unopened_or(
         Ok(rounds) => rounds,
         Err(Fault::Memory) if opened.load(Ordering::SeqCst) == 0 => Ok(()),
         Err(fault) => Err(fault),
+    }
+}
+
+/// What a job saw of calls that may be refused. A job can't fail a test, so it answers that.
+#[derive(Clone, Copy, Debug, PartialEq, Eq)]
+pub enum Sight {
+    /// In the end the answers were right, and what a refusal leaves was as it should be.
+    Right,
+    /// A refused lock had run its closure.
+    RunAnyway,
+    /// Refused twice, though memory is refused once; or a wrong answer.
+    Wrong,
+}
+
+/// What the answer of a lock says; none where it was refused and hadn't run its closure, so that it may be asked for again.
+pub fn told(answer: Result<bool, Fault>, is_run: bool) -> Option<Sight> {
+    match answer {
+        Ok(true) => Some(Sight::Right),
+        Ok(false) => Some(Sight::Wrong),
+        Err(_) if is_run => Some(Sight::RunAnyway),
+        Err(_) => None,
     }
 }
