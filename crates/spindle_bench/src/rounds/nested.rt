@@ -109,7 +109,8 @@ impl PlaceRounds<InPlace<AddInRoundsInPlace>> for NestedPlaceRounds {
         alloc: Global,
         leader: &mut PlaceLeader<AddInRoundsInPlace, NoGate>,
     ) -> Result<(), Stop> {
-        leader.remake_each(rt, alloc, self.jobs, &mut self.lists)?;
+        let jobs = self.lists.len();
+        leader.remake_each(rt, alloc, jobs, &mut self.lists)?;
         Ok(())
     }
 }
