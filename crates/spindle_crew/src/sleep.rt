@@ -3,7 +3,8 @@
 //! Who changes a word that idle threads wait for stores it first, then takes their mutex, and wakes all who sleep by then. A thread
 //! that is about to sleep looks once more while it holds the mutex, so no change is missed. Those who wait for news and those who
 //! wait for a round's end have a mutex each: the leader's publish takes one, and whoever ends the round the other.
-ghost use Rattle.std.specs.Prelude.{◌<◌};
+ghost use Rattle.std.specs.Prelude.{◌≡◌, ◌+◌, ◌<◌, ◌≤◌};
+ghost use Rattle.spindle_crew.specs.declared.sleep.TheConstants.{PATIENCE};
 
 use crate::limits::Limits;
 use crossbeam_utils::{Backoff, CachePadded};
@@ -13,6 +14,10 @@ use std::thread;
 
 /// From this turn on a turn also yields the processor.
 const QUIET_TURNS: u32 = 64;
+
+/// So many turns in a row a thread sees requests before it heeds them: a nested lock that closes earlier is done sooner by its
+/// leader alone than with a helper, for whom each of its rounds would have to wait.
+pub const PATIENCE: u32 = 64;
 
 /// Where the idle threads of a lock sleep.
 #[derive(Drop)]
@@ -106,6 +111,7 @@ impl Sleep {
             pauses: self.limits.pause,
             turns: self.limits.spin / self.limits.pause.max(1),
             turn: 0,
+            called: 0,
             backoff: Backoff::new(),
             guard: None,
         }
@@ -119,13 +125,38 @@ pub struct Idle<'a> {
     pauses: u32,
     turns: u32,
     turn: u32,
+    called: u32,
     backoff: Backoff,
     guard: Option<MutexGuard<'a, usize>>,
 }
 
 impl<'a> Idle<'a> {
-    /// Passes the time between two looks. A thread that is told to rest makes no turn.
+    /// The requests that were just read, once they stood for `PATIENCE` turns in a row, and 0 before. This turn counts among them.
+    pub fn heed(&mut self, requests: u64) -> u64
+        ensures none { requests ≡ 0 → (result ≡ 0) × (self.new.called ≡ 0) }
+        ensures early { 0 < requests → self.old.called < PATIENCE
+            → (result ≡ 0) × (self.new.called ≡ self.old.called + 1) }
+        ensures heeded { 0 < requests → PATIENCE ≤ self.old.called
+            → (result ≡ requests) × (self.new.called ≡ self.old.called) }
+    {
+        if requests == 0 {
+            self.called = 0;
+            return 0;
+        }
+        if self.called < PATIENCE {
+            self.called += 1;
+            return 0;
+        }
+        requests
+    }
+
+    /// Passes the time between two looks. A thread that is told to rest makes no turn, and one that sees requests doesn't sleep.
     pub fn pass<H: Wait>(&mut self, rt: &H, rest: bool) {
+        if self.called > 0 {
+            drop(self.guard.take());
+            self.pause();
+            return;
+        }
         match self.guard.take() {
             Some(guard) => self.guard = Some(self.bed.sleep(rt, guard)),
             None => {
@@ -152,11 +183,16 @@ impl<'a> Idle<'a> {
         requires { self.old.turn < self.old.turns }
     {
         self.turn += 1;
-        for _ in 0..self.pauses {
-            spin_loop();
-        }
+        self.pause();
         if self.turn > QUIET_TURNS {
             self.backoff.snooze();
+        }
+    }
+
+    // The pauses of a turn.
+    fn pause(&self) {
+        for _ in 0..self.pauses {
+            spin_loop();
         }
     }
 }
