@@ -3,7 +3,7 @@
 //! Who changes a word that idle threads wait for stores it first, then takes their mutex, and wakes all who sleep by then. A thread
 //! that is about to sleep looks once more while it holds the mutex, so no change is missed. Those who wait for news and those who
 //! wait for a round's end have a mutex each: the leader's publish takes one, and whoever ends the round the other.
-ghost use Rattle.std.specs.Prelude.{◌≡◌, ◌+◌, ◌<◌, ◌≤◌};
+ghost use Rattle.std.specs.Prelude.{◌≡◌, ◌<◌, ◌≤◌};
 ghost use Rattle.spindle_crew.specs.declared.sleep.TheConstants.{PATIENCE};
 
 use crate::limits::Limits;
@@ -15,9 +15,9 @@ use std::thread;
 /// From this turn on a turn also yields the processor.
 const QUIET_TURNS: u32 = 64;
 
-/// So many turns in a row a thread sees requests before it heeds them: a nested lock that closes earlier is done sooner by its
-/// leader alone than with a helper, for whom each of its rounds would have to wait.
-pub const PATIENCE: u32 = 64;
+/// For so many pauses a thread sees requests turn after turn before it heeds them: a nested lock that closes earlier is done sooner
+/// by its leader alone than with a helper, for whom each of its rounds would have to wait.
+pub const PATIENCE: u32 = 512;
 
 /// Where the idle threads of a lock sleep.
 #[derive(Drop)]
@@ -131,11 +131,12 @@ pub struct Idle<'a> {
 }
 
 impl<'a> Idle<'a> {
-    /// The requests that were just read, once they stood for `PATIENCE` turns in a row, and 0 before. This turn counts among them.
+    /// The requests that were just read, once they stood in turns of `PATIENCE` pauses in all, one after another, and 0 before. A turn
+    /// counts for one pause at least.
     pub fn heed(&mut self, requests: u64) -> u64
         ensures none { requests ≡ 0 → (result ≡ 0) × (self.new.called ≡ 0) }
         ensures early { 0 < requests → self.old.called < PATIENCE
-            → (result ≡ 0) × (self.new.called ≡ self.old.called + 1) }
+            → (result ≡ 0) × (self.old.called < self.new.called) }
         ensures heeded { 0 < requests → PATIENCE ≤ self.old.called
             → (result ≡ requests) × (self.new.called ≡ self.old.called) }
     {
@@ -144,7 +145,7 @@ impl<'a> Idle<'a> {
             return 0;
         }
         if self.called < PATIENCE {
-            self.called += 1;
+            self.called = self.called.saturating_add(self.pauses.max(1));
             return 0;
         }
         requests
