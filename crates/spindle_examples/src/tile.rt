@@ -7,7 +7,6 @@ ghost use Rattle.spindle_examples.specs.Product.{product};
 ghost use Rattle.spindle_examples.specs.Blocks.{tile_parts, equal_tiles_are_same};
 
 use crate::entries::filled;
-use spindle::cut::piece_lengths;
 use spindle::lock::{End, Job, JobCx, Under};
 use spindle::{Fault, ListRun, SharedList, gathered};
 use std::alloc::{AllocError, Global};
@@ -62,8 +61,7 @@ pub fn worked<H: Threads + Wait + Sync>(
     requires { IsSync H.row }
     ensures { IfOk result (λ entries. entries.items ≡ product rows.now columns.now) }
 {
-    let lengths = piece_lengths(alloc, rows.len(), TILES)?;
-    let runs = rows.share_out(alloc, lengths.as_slice())?;
+    let runs = rows.share_out_evenly(alloc, TILES)?;
     let tiles = tiles_of(alloc, runs, columns)?;
     let lists = cx.for_each(rt, alloc, TILES, tiles)?;
     Ok(gathered(alloc, lists)??)

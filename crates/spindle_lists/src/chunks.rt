@@ -22,6 +22,19 @@ impl<T: Drop> SharedList<T> {
             map (λ run. length run) runs.items ≡ cut_lengths (length self.now) pieces) }
         ensures memory { OnErr result (IsErrOf result Fault.Memory) }
     {
+        self.run(0, self.len())?.share_out_evenly(alloc, pieces)
+    }
+}
+
+impl<T: Drop> ListRun<T> {
+    /// Cuts the run as `SharedList::share_out_evenly` cuts a list.
+    pub fn share_out_evenly(&self, alloc: Global, pieces: usize) -> Result<Vec<ListRun<T>>, Fault>
+        requires { 0 < length self.now → 0 < pieces }
+        ensures joined { IfOk result (λ runs. joined runs.items ≡ self.now) }
+        ensures lengths { IfOk result (λ runs.
+            map (λ run. length run) runs.items ≡ cut_lengths (length self.now) pieces) }
+        ensures memory { OnErr result (IsErrOf result Fault.Memory) }
+    {
         let lengths = piece_lengths(alloc, self.len(), pieces)?;
         self.share_out(alloc, lengths.as_slice())
     }

@@ -1,22 +1,13 @@
 -- The entries of the tiles, one behind the other, are the product.
-use Rattle.std.proofs.Common.{ℕ, List, ◌∙◌, ap, subst, arith}
+use Rattle.std.proofs.Common.{ℕ, List, ◌∙◌, ap, subst}
 use Rattle.std.specs.declared.alloc.AllocError.{AllocError}
 use Rattle.spindle_lists.specs.Gathered.{IsGathered}
 use Rattle.spindle_lists.proofs.GatheredLists.{gathered_values}
-use Rattle.spindle_lists.proofs.ListChunks.{total-cut_lengths}
-use Rattle.spindle_parts.specs.Pieces.{total}
 use Rattle.spindle_examples.specs.Product.{product}
 use Rattle.spindle_examples.specs.Blocks.{tile_parts}
 use Rattle.spindle_examples.specs.declared.tile.Tile.{Tile}
 use Rattle.spindle_examples.proofs.Products.{product_parts}
 use Rattle.spindle_examples.proofs.tile.worked.Goals as goal
-
-pub share_out-requires : goal.share_out-requires
-share_out-requires g c = record {
-  whole = ap total (c.as_slice.ensures.value ∙ c.in_ok-lengths.ensures.lengths)
-      ∙ total-cut_lengths c.len.result 4 (λ some. omega arith)
-      ∙ c.len.ensures;
-}
 
 pub returns : goal.returns
 returns g c =

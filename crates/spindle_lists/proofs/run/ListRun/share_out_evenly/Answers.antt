@@ -1,7 +1,7 @@
 -- The lengths of the pieces add up to the whole list.
 use Rattle.std.proofs.Common.{◌∙◌, rules}
 use Rattle.spindle_lists.proofs.ListChunks.{total-cut_lengths}
-use Rattle.spindle_lists.proofs.shared.SharedList.share_out_evenly.Goals as goal
+use Rattle.spindle_lists.proofs.run.ListRun.share_out_evenly.Goals as goal
 
 pub share_out-requires : goal.share_out-requires
 share_out-requires g c =
