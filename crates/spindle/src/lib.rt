@@ -10,7 +10,7 @@ pub mod lock;
 
 pub use free::{for_each, for_each_raw};
 pub use lock::{
-    nested, play_in_place, reduce, run_one, with_lock, with_slots, with_slots_in_place,
+    nested, play_in_place, reduce, remake_one, run_one, with_lock, with_slots, with_slots_in_place,
 };
 pub use spindle_crew::{DEFAULT_PAUSE_LIMIT, DEFAULT_SPIN_LIMIT};
 pub use spindle_lists::{Chunk, EqualIsSame, ListRun, SharedList, gathered};

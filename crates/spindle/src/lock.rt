@@ -19,7 +19,7 @@ mod slot_rounds;
 
 pub use self::folds::{Combine, Folds, reduce};
 pub use self::one_round::run_one;
-pub use self::place_once::{RoundsInPlace, play_in_place};
+pub use self::place_once::{RoundsInPlace, play_in_place, remake_one};
 pub use self::place_rounds::PlaceLeader;
 pub use self::slot_leader::SlotLeader;
 pub use self::slot_nest::{NestedSlots, UnderInPlace, UnderPieces, UnderSlots};

@@ -1,13 +1,11 @@
 //! A matrix product in blocks, by one round in place over them, whose jobs run rounds of their own over the tiles of their block. The
 //! rows and the columns are shared lists, so nobody copies them.
-ghost use Rattle.std.specs.Prelude.{◌≡◌, ◌≤◌, IfOk, map};
-ghost use Rattle.std.specs.List.{AllZip};
+ghost use Rattle.std.specs.Prelude.{◌≡◌, ◌<◌, IfOk, map};
 ghost use Rattle.spindle_examples.specs.Product.{product};
-ghost use Rattle.spindle_examples.specs.Blocks.{IsFilled};
 
-use crate::block::{Block, Multiply, blocks_of, entries_of};
-use spindle::lock::{Gate, InPlace, PlaceLeader, Pool, RoundsInPlace};
-use spindle::{Fault, SharedList, gathered, play_in_place};
+use crate::block::{Multiply, blocks_of, entries_of};
+use spindle::lock::{Gate, InPlace, Pool};
+use spindle::{Fault, SharedList, gathered, remake_one};
 use std::alloc::Global;
 use std::sync::Wait;
 use std::thread::Threads;
@@ -22,7 +20,7 @@ pub fn multiplied<G: Gate + Sync, H: Threads + Wait + Sync>(
     rows: Vec<Vec<u64>>,
     columns: Vec<u64>,
 ) -> Result<Vec<u64>, Fault>
-    requires { (1 ≤ blocks) × (blocks ≤ 4294967295) }
+    requires { 0 < blocks }
     ensures { IfOk result (λ entries.
         entries.items ≡ product (map (λ row. row.items) rows.items) columns.items) }
 {
@@ -30,9 +28,8 @@ pub fn multiplied<G: Gate + Sync, H: Threads + Wait + Sync>(
     let rows = SharedList::from_vec(alloc, shared(alloc, rows)?)?;
     let runs = rows.share_out_evenly(alloc, blocks)?;
     let unfilled = blocks_of(alloc, runs, &columns)?;
-    let unfilled = Filling { blocks: unfilled };
-    let filled = play_in_place(rt, alloc, pool, pool.max_num_threads(), blocks, unfilled)?;
-    let lists = entries_of(alloc, filled.blocks)?;
+    let filled = remake_one::<InPlace<Multiply>, _, _>(rt, alloc, pool, blocks, unfilled)?;
+    let lists = entries_of(alloc, filled)?;
     Ok(gathered(alloc, lists)??)
 }
 
@@ -45,26 +42,4 @@ fn shared(alloc: Global, rows: Vec<Vec<u64>>) -> Result<Vec<SharedList<u64>>, Fa
         lists.push(SharedList::from_vec(alloc, row)?)?;
     }
     Ok(lists)
-}
-
-/// The round over the blocks of a product.
-#[derive(Drop)]
-struct Filling {
-    blocks: Vec<Block>,
-}
-
-impl RoundsInPlace for Filling {
-    type Kind = InPlace<Multiply>;
-
-    ghost played = { λ old new. AllZip IsFilled old.blocks.items new.blocks.items };
-
-    fn play<G: Gate, H: Threads + Wait + Sync>(
-        &mut self,
-        rt: &H,
-        alloc: Global,
-        leader: &mut PlaceLeader<Multiply, G>,
-    ) -> Result<(), Fault> {
-        let jobs = self.blocks.len();
-        leader.remake_each(rt, alloc, jobs, &mut self.blocks)
-    }
 }

@@ -8,7 +8,7 @@ use crate::sevens::seven_items;
 use spindle::lock::{
     End, Gate, InPlace, JobCx, Limits, NoGate, PlaceLeader, Pool, Remake, RoundsInPlace,
 };
-use spindle::{Fault, play_in_place, with_slots_in_place};
+use spindle::{Fault, play_in_place, remake_one, with_slots_in_place};
 use std::alloc::Global;
 use std::sync::Wait;
 use std::thread::Threads;
@@ -183,6 +183,43 @@ fn refused_rounds_as_a_value_are_played_when_asked_again(rt: HostRuntime) -> Res
         if let Ok(steps) = play_in_place(&rt, alloc, &pool, 4, 3, Steps { list }) {
             is(&rt, steps.list.len(), 7);
             holds(&rt, have_stepped(steps.list.as_slice(), 1));
+            played = played.wrapping_add(1);
+        }
+    }
+    holds(&rt, 0 < played);
+    Ok(())
+}
+
+// As many jobs as are asked for, or as the pool has threads where none is, and no more than there are items.
+#[test]
+fn one_round_in_place_has_the_jobs_asked_for(rt: HostRuntime) -> Result<(), Fault> {
+    let alloc = rt.alloc();
+    for (threads, jobs, wanted) in [(4, 3, 3), (4, 0, 4), (1, 0, 1), (4, 9, 7)] {
+        let calls = Calls::new();
+        let pool = Pool::new(threads, Limits::new(), Counting { calls: &calls });
+        let items = seven_items(alloc)?;
+        let list = remake_one::<InPlace<Step>, _, _>(&rt, alloc, &pool, jobs, items)?;
+        is(&rt, list.len(), 7);
+        holds(&rt, have_stepped(list.as_slice(), 1));
+        is(&rt, calls.in_all(), (wanted, wanted));
+        let none = Vec::new(alloc);
+        let none = remake_one::<InPlace<Step>, _, _>(&rt, alloc, &pool, jobs, none)?;
+        holds(&rt, none.is_empty());
+        is(&rt, calls.in_all(), (wanted, wanted));
+    }
+    Ok(())
+}
+
+#[test]
+fn refused_round_in_place_is_played_when_asked_again(rt: HostRuntime) -> Result<(), Fault> {
+    let alloc = rt.alloc();
+    let pool = Pool::new(4, Limits::new(), NoGate);
+    let mut played = 0usize;
+    for _ in 0..2 {
+        let items = seven_items(alloc)?;
+        if let Ok(list) = remake_one::<InPlace<Step>, _, _>(&rt, alloc, &pool, 3, items) {
+            is(&rt, list.len(), 7);
+            holds(&rt, have_stepped(list.as_slice(), 1));
             played = played.wrapping_add(1);
         }
     }

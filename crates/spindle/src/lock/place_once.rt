@@ -1,7 +1,10 @@
-//! Rounds in place as a value: a lock is opened for it and plays it, where a closure can't be, since its jobs open locks too.
-ghost use Rattle.std.specs.Prelude.{◌≡◌, ◌<◌, ◌≤◌, IfOk, OnOk, OnErr, IsErrOf};
+//! Rounds in place as a value: a lock is opened for it and plays it, where a closure can't be, since its jobs open locks too. One
+//! round over a list is such a value, which the caller needn't write.
+ghost use Rattle.std.specs.Prelude.{◌≡◌, ◌<◌, ◌≤◌, IfOk, IsOk, OnOk, OnErr, IsErrOf, vec_len};
+ghost use Rattle.std.specs.List.{AllZip};
 ghost use denote.Param.Send.{IsSync};
 
+use crate::lock::place_rounds::remake;
 use crate::lock::slot_leader::SlotLeader;
 use crate::lock::slot_root::with_slots_in_place;
 use spindle_parts::fault::Fault;
@@ -10,6 +13,7 @@ use spindle_slots::posts::place_post::PlacePost;
 use spindle_trays::job::Job;
 use spindle_trays::job::gate::Gate;
 use spindle_trays::job::nest::Nest;
+use spindle_trays::lock::leader::MOST_JOBS;
 use spindle_trays::lock::pool::Pool;
 use std::alloc::Global;
 use std::sync::Wait;
@@ -74,4 +78,61 @@ where
             Ok(rounds)
         },
     )?
+}
+
+// One round over a list, in as many jobs as the list has items or its lock slots.
+#[derive(Drop)]
+struct OneRound<J: Remakes> {
+    items: Vec<J::Item>,
+}
+
+impl<J: Remakes> RoundsInPlace for OneRound<J> {
+    type Kind = J;
+
+    ghost played = { λ old new. AllZip J.remade old.items.items new.items.items };
+
+    fn play<G: Gate, H: Threads + Wait + Sync>(
+        &mut self,
+        rt: &H,
+        alloc: Global,
+        leader: &mut SlotLeader<J, G, PlacePost<J>>,
+    ) -> Result<(), Fault> {
+        let jobs = self.items.len();
+        let (runner, post) = (&mut leader.runner, &mut leader.post);
+        remake::<J, PlacePost<J>, G, H>(rt, alloc, runner, post, jobs, &mut self.items)
+    }
+}
+
+/// Opens a lock over J, which is `InPlace<M>` for a kind M of remaking, remakes the items in one round of `n_jobs` jobs, and closes the
+/// lock. Where `n_jobs` is 0, there are as many jobs as the pool has threads. What becomes of an item stands where the item stood.
+///
+/// The lock has the least of the pool's threads, the jobs and 32767. Its helpers start and end with the call, so rounds that follow
+/// each other belong into one lock. No items are no job: that takes no memory and opens no lock. A refusal, for memory alone, gives
+/// the items up.
+pub fn remake_one<J: Remakes + Send, G: Gate + Sync, H: Threads + Wait + Sync>(
+    rt: &H,
+    alloc: Global,
+    pool: &Pool<G>,
+    n_jobs: usize,
+    items: Vec<J::Item>,
+) -> Result<Vec<J::Item>, Fault>
+where
+    J::In: Send + Sync,
+    J::Out: Send,
+    <J as Remakes>::Item: Send,
+    J::Inner: Send,
+    <J::Inner as Nest>::Slots: Send + Sync,
+    ensures remade { IfOk result (λ new. AllZip J.remade items.items new.items) }
+    ensures memory { OnErr result (IsErrOf result Fault.Memory) }
+    ensures empty { vec_len items ≡ 0 → IsOk result }
+{
+    if items.is_empty() {
+        return Ok(items);
+    }
+    let threads = pool.max_num_threads();
+    let asked = if n_jobs == 0 { threads } else { n_jobs };
+    let jobs = items.len().min(asked.min(MOST_JOBS));
+    let round = OneRound::<J> { items };
+    let round = play_in_place::<OneRound<J>, G, H>(rt, alloc, pool, jobs, jobs, round)?;
+    Ok(round.items)
 }

@@ -1,7 +1,7 @@
 -- There are two jobs or more, and no more than there are items or slots.
 use Rattle.std.proofs.Common.{refl, rules}
 use Rattle.spindle.proofs.Jobs.{some_jobs, two_jobs}
-use Rattle.spindle.proofs.lock.slot_leader.SlotLeader.remake_each.Goals as goal
+use Rattle.spindle.proofs.lock.place_rounds.remake.Goals as goal
 
 pub play_in_place-played-requires-clause-jobs : goal.play_in_place-played-requires-clause-jobs
 play_in_place-played-requires-clause-jobs g c =
