@@ -7,46 +7,13 @@ ghost use Rattle.std.proofs.Common.{rules};
 ghost use Rattle.spindle_examples.specs.Chomp.{replies_to, winning_bites, IsEvaluation};
 
 use crate::chomp::Board;
-use spindle::lock::{End, Gate, Job, JobCx, Nest, Pool, Under};
+pub use crate::recurse::{Evaluates, Recurse};
+use spindle::lock::{Gate, Job, JobCx, Nest, Pool, Under};
 use spindle::{Fault, run_one};
 use std::alloc::Global;
 use std::marker::PhantomData;
 use std::sync::Wait;
 use std::thread::Threads;
-
-/// The kinds of jobs that evaluate a board.
-pub trait Evaluates: Job<In = Board, Out = Result<bool, Fault>> {
-    /// What a job may answer is an evaluation of its board.
-    ghost evaluates: { (board : _) (answer : _) → Self.meets board answer → IsEvaluation board answer };
-}
-
-/// Evaluates a board in plain recursion.
-pub struct Recurse;
-
-impl Job for Recurse {
-    type In = Board;
-
-    type Out = Result<bool, Fault>;
-
-    type Inner = End;
-
-    ghost meets = { IsEvaluation };
-
-    fn run<H: Threads + Wait + Sync>(
-        _rt: &H,
-        _alloc: Global,
-        board: &Board,
-        _cx: &mut JobCx<End>,
-    ) -> Result<bool, Fault> {
-        Ok(board.is_won())
-    }
-
-    ghost equal_is_same = { Prim.search rules };
-}
-
-impl Evaluates for Recurse {
-    ghost evaluates = { λ board answer said. said };
-}
 
 /// Evaluates a board by a round over what bites leave of it, whose jobs are of kind K.
 pub struct Evaluate<K> {

@@ -17,6 +17,7 @@ pub mod evaluator;
 pub mod prefix;
 pub mod product;
 pub mod ranks;
+mod recurse;
 pub mod stencil;
 pub mod stop;
 mod strip;
