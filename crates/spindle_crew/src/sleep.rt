@@ -3,7 +3,7 @@
 //! Who changes a word that idle threads wait for stores it first, then takes their mutex, and wakes all who sleep by then. A thread
 //! that is about to sleep looks once more while it holds the mutex, so no change is missed. Those who wait for news and those who
 //! wait for a round's end have a mutex each: the leader's publish takes one, and whoever ends the round the other.
-ghost use Rattle.std.specs.Prelude.{◌≡◌, ◌<◌, ◌≤◌};
+ghost use Rattle.std.specs.Prelude.{◌≡◌, ◌+◌, ◌<◌, ◌≤◌, max, min};
 ghost use Rattle.spindle_crew.specs.declared.sleep.TheConstants.{PATIENCE};
 
 use crate::limits::Limits;
@@ -136,7 +136,8 @@ impl<'a> Idle<'a> {
     pub fn heed(&mut self, requests: u64) -> u64
         ensures none { requests ≡ 0 → (result ≡ 0) × (self.new.called ≡ 0) }
         ensures early { 0 < requests → self.old.called < PATIENCE
-            → (result ≡ 0) × (self.old.called < self.new.called) }
+            → (result ≡ 0) × (self.new.called
+            ≡ min (self.old.called + max self.old.pauses 1) 4294967295) }
         ensures heeded { 0 < requests → PATIENCE ≤ self.old.called
             → (result ≡ requests) × (self.new.called ≡ self.old.called) }
     {
