@@ -45,7 +45,7 @@ pub enum News {
     Exit,
     /// A round is published.
     Round(Task),
-    /// Nested locks go on asking for helpers.
+    /// Nested locks ask for helpers.
     Requests,
 }
 
@@ -69,7 +69,7 @@ pub fn await_news<'a, D: Slots, H: Wait>(
         if let Some(task) = post.task() {
             return News::Round(task);
         }
-        if idle.heed(notices.requests()) > 0 {
+        if idle.looks_at_requests() && notices.requests() > 0 {
             return News::Requests;
         }
         idle.pass(rt, notices.is_rest_announced());

@@ -1,6 +1,6 @@
 //! What a lock's threads announce to each other: that all rest until the next round, that the helpers end, and how many
 //! helpers nested locks ask for.
-ghost use Rattle.std.specs.Prelude.{◌≡◌, ◌<◌, ◌+◌, []};
+ghost use Rattle.std.specs.Prelude.{◌≡◌, ◌<◌, ◌+◌, [], true, false};
 ghost use Rattle.spindle_parts.specs.LedgerSeats.{IsSeatOf, slot_count};
 ghost use Rattle.spindle_parts.specs.LedgerSteps.{blank};
 ghost use Rattle.spindle_parts.specs.declared.words.TheConstants.{REQUESTS};
@@ -65,6 +65,15 @@ impl<'a> Notices<'a> {
         ensures same { IsSameThread self.old self.new }
     {
         self.ledger.requests(&mut self.seat)
+    }
+
+    /// The same where the thread looks at all; where it doesn't, it sees none.
+    pub fn requests_if(&mut self, looks: bool) -> u64
+        ensures read { looks ≡ true → Read REQUESTS result (account_of self.old) (account_of self.new) }
+        ensures unread { looks ≡ false → (result ≡ 0) × (account_of self.new ≡ account_of self.old) }
+        ensures same { IsSameThread self.old self.new }
+    {
+        if looks { self.requests() } else { 0 }
     }
 
     /// Tries once to take a place of the slot, and lowers requests by it.

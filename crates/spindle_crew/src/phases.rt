@@ -102,7 +102,7 @@ fn await_end<'a, D: Slots, H: Wait>(rt: &H, tables: &Tables<D>, barrier: &mut Ba
     unreachable!()
 }
 
-/// Arrives, and waits until the round has ended, but leaves where nested locks go on asking for helpers. The closer ends the round, and
+/// Arrives, and waits until the round has ended, but leaves where nested locks ask for helpers. The closer ends the round, and
 /// wakes the others.
 pub fn end_or_leave<'a, D: Slots, H: Wait>(
     rt: &H,
@@ -140,7 +140,7 @@ fn await_end_or_leave<'a, D: Slots, H: Wait>(
 {
     let mut idle = tables.sleep.idle_until_end();
     for _ in rt.forever() {
-        let asked = idle.heed(notices.requests());
+        let asked = notices.requests_if(idle.looks_at_requests());
         barrier = match barrier.take_turn(asked) {
             Ok(barrier) => barrier,
             Err(status) => return status,

@@ -3,7 +3,7 @@
 //! Who changes a word that idle threads wait for stores it first, then takes their mutex, and wakes all who sleep by then. A thread
 //! that is about to sleep looks once more while it holds the mutex, so no change is missed. Those who wait for news and those who
 //! wait for a round's end have a mutex each: the leader's publish takes one, and whoever ends the round the other.
-ghost use Rattle.std.specs.Prelude.{◌≡◌, ◌+◌, ◌<◌, ◌≤◌, max, min};
+ghost use Rattle.std.specs.Prelude.{◌≡◌, ◌+◌, ◌<◌, ◌≤◌, max, min, false, true, IsNone, IsSome};
 ghost use Rattle.spindle_crew.specs.declared.sleep.TheConstants.{PATIENCE};
 
 use crate::limits::Limits;
@@ -15,8 +15,8 @@ use std::thread;
 /// From this turn on a turn also yields the processor.
 const QUIET_TURNS: u32 = 64;
 
-/// For so many pauses a thread sees requests turn after turn before it heeds them: a nested lock that closes earlier is done sooner
-/// by its leader alone than with a helper, for whom each of its rounds would have to wait.
+/// In the first so many pauses of a wait a thread doesn't look at requests: a nested lock that closes earlier is done sooner by its
+/// leader alone than with a helper, for whom each of its rounds would have to wait.
 pub const PATIENCE: u32 = 512;
 
 /// Where the idle threads of a lock sleep.
@@ -111,7 +111,7 @@ impl Sleep {
             pauses: self.limits.pause,
             turns: self.limits.spin / self.limits.pause.max(1),
             turn: 0,
-            called: 0,
+            waited: 0,
             backoff: Backoff::new(),
             guard: None,
         }
@@ -125,40 +125,23 @@ pub struct Idle<'a> {
     pauses: u32,
     turns: u32,
     turn: u32,
-    called: u32,
+    waited: u32,
     backoff: Backoff,
     guard: Option<MutexGuard<'a, usize>>,
 }
 
 impl<'a> Idle<'a> {
-    /// The requests that were just read, once they stood in turns of `PATIENCE` pauses in all, one after another, and 0 before. A turn
-    /// counts for one pause at least.
-    pub fn heed(&mut self, requests: u64) -> u64
-        ensures none { requests ≡ 0 → (result ≡ 0) × (self.new.called ≡ 0) }
-        ensures early { 0 < requests → self.old.called < PATIENCE
-            → (result ≡ 0) × (self.new.called
-            ≡ min (self.old.called + max self.old.pauses 1) 4294967295) }
-        ensures heeded { 0 < requests → PATIENCE ≤ self.old.called
-            → (result ≡ requests) × (self.new.called ≡ self.old.called) }
+    /// Whether a look is at requests too: once the thread has waited for `PATIENCE` pauses, and before it sleeps.
+    pub fn looks_at_requests(&self) -> bool
+        ensures late { PATIENCE ≤ self.now.waited → result ≡ true }
+        ensures last { IsSome self.now.guard → result ≡ true }
+        ensures early { self.now.waited < PATIENCE → IsNone self.now.guard → result ≡ false }
     {
-        if requests == 0 {
-            self.called = 0;
-            return 0;
-        }
-        if self.called < PATIENCE {
-            self.called = self.called.saturating_add(self.pauses.max(1));
-            return 0;
-        }
-        requests
+        self.waited >= PATIENCE || self.guard.is_some()
     }
 
-    /// Passes the time between two looks. A thread that is told to rest makes no turn, and one that sees requests doesn't sleep.
+    /// Passes the time between two looks. A thread that is told to rest makes no turn.
     pub fn pass<H: Wait>(&mut self, rt: &H, rest: bool) {
-        if self.called > 0 {
-            drop(self.guard.take());
-            self.pause();
-            return;
-        }
         match self.guard.take() {
             Some(guard) => self.guard = Some(self.bed.sleep(rt, guard)),
             None => {
@@ -175,26 +158,25 @@ impl<'a> Idle<'a> {
     pub fn pass_or_hurry<H: Wait>(&mut self, rt: &H, hurries: bool) {
         if hurries {
             drop(self.guard.take());
+            self.waited = self.waited.max(PATIENCE);
             thread::yield_now();
         } else {
             self.pass(rt, false);
         }
     }
 
+    // A turn counts for one pause at least.
     fn take_turn(&mut self)
         requires { self.old.turn < self.old.turns }
+        ensures { self.new.waited ≡ min (self.old.waited + max self.old.pauses 1) 4294967295 }
     {
         self.turn += 1;
-        self.pause();
-        if self.turn > QUIET_TURNS {
-            self.backoff.snooze();
-        }
-    }
-
-    // The pauses of a turn.
-    fn pause(&self) {
+        self.waited = self.waited.saturating_add(self.pauses.max(1));
         for _ in 0..self.pauses {
             spin_loop();
+        }
+        if self.turn > QUIET_TURNS {
+            self.backoff.snooze();
         }
     }
 }

@@ -16,11 +16,11 @@ pub returns-in-Err : goal.returns-in-Err
 returns-in-Err g c = let i = c.loop.invariant in record {
   status = told_out c.args.barrier c.in-Err.status c.requires.held c.requires.waiting
       (await_on c.args.barrier c.loop.barrier c.in-Err.status c.requires.held c.requires.waiting i.held c.in-Err.ensures.ends);
-  same = same_thread_on c.args.notices.now c.loop.notices c.requests.new.self i.same c.requests.ensures.same;
+  same = same_thread_on c.args.notices.now c.loop.notices c.requests_if-asked.new.self i.same c.requests_if-asked.ensures.same;
 }
 
 pub loop-preserved : goal.loop-preserved
 loop-preserved g c = let i = c.loop.invariant in let e = c.in-Ok.ensures in record {
   held = (keeps_on c.args.barrier c.loop.barrier c.in-Ok.barrier i.held.0 e.stays.0, stayed_on _ _ _ i.held.1 e.stays.1);
-  same = same_thread_on c.args.notices.now c.loop.notices c.requests.new.self i.same c.requests.ensures.same;
+  same = same_thread_on c.args.notices.now c.loop.notices c.requests_if-asked.new.self i.same c.requests_if-asked.ensures.same;
 }
