@@ -13,7 +13,9 @@ pub use lock::{
     nested, play_in_place, reduce, remake_one, run_one, with_lock, with_slots, with_slots_in_place,
 };
 pub use spindle_crew::{DEFAULT_PAUSE_LIMIT, DEFAULT_SPIN_LIMIT};
-pub use spindle_lists::{Chunk, EqualIsSame, ListRun, SharedList, gathered};
+pub use spindle_lists::{
+    Chunk, EqualIsSame, ListRun, SharedList, Strip, gathered, joined_strips, tell_neighbours,
+};
 pub use spindle_parts::fault::Fault;
 pub use spindle_parts::{aarc_imp, cut, numbers, requests, steps};
 pub use spindle_rounds::{barrier, round, round_table};

@@ -1,13 +1,11 @@
 -- A pass strip by strip is a pass over all values.
-use Rattle.std.proofs.Common.{◌≡◌, ℕ, zero, suc, ◌+◌, ◌-◌, ◌*◌, ◌/◌, List, [], ◌∷◌, ◌++◌, length, map, get_or, refl, ap, sym, ◌∙◌, arith}
+use Rattle.std.proofs.Common.{◌≡◌, ℕ, zero, suc, ◌+◌, ◌*◌, ◌/◌, List, [], ◌∷◌, ◌++◌, length, map, get_or, refl, ap, sym, ◌∙◌, arith}
 use Rattle.std.specs.List.{AllZip}
-use Rattle.std.proofs.lemmas.List.{get_or_default}
 use Rattle.spindle_parts.specs.Pieces.{joined, counted}
-use Rattle.spindle_parts.proofs.Lists.{joined_snoc, map_snoc}
 use Rattle.spindle_examples.proofs.Numbers.{same_values}
-use Rattle.spindle_examples.specs.Stencil.{before, smooth_at, smooth}
-use Rattle.spindle_examples.specs.Strips.{smooth_between, first_of, last_of, values_of, told, IsSmoothed}
-use Rattle.spindle_examples.specs.declared.strip.Strip.{Strip}
+use Rattle.spindle_lists.specs.Strips.{first_of, last_of, items_of, told}
+use Rattle.spindle_lists.specs.declared.strips.Strip.{Strip}
+use Rattle.spindle_examples.specs.Stencil.{before, smooth_at, smooth, smooth_between, IsSmoothed}
 
 -- the first value of two lists
 first_append : (xs ys : List ℕ) (d : ℕ) → get_or (xs ++ ys) 0 d ≡ get_or xs 0 (get_or ys 0 d)
@@ -54,41 +52,24 @@ smooth_is values =
     ap (λ n. (n + 2 * get_or values (0 + i) 0 + get_or values (0 + i + 1) 0) / 4) (before_at values (0 + i)))
 
 -- strips that know their neighbours, after one pass
-told_smooth : (b : ℕ) (strips : List Strip)
-    → joined (map (λ strip. smooth_between strip.before strip.values.items strip.behind) (told b strips)) ≡ smooth_between b (values_of strips) 0
+told_smooth : (b : ℕ) (strips : List (Strip ℕ))
+    → joined (map (λ strip. smooth_between strip.before strip.items.items strip.behind) (told b strips 0)) ≡ smooth_between b (items_of strips) 0
 told_smooth b [] = refl
 told_smooth b (strip ∷ strips) =
-    let values : List ℕ = strip.values.items in
-    ap (λ l. smooth_between b values (first_of (values_of strips)) ++ l) (told_smooth (last_of b values) strips)
-    ∙ sym (between_append b values (values_of strips) 0)
+    let values : List ℕ = strip.items.items in
+    ap (λ l. smooth_between b values (first_of (items_of strips) 0) ++ l) (told_smooth (last_of b values) strips)
+    ∙ sym (between_append b values (items_of strips) 0)
 
 -- what strips became
-remade_values : (old new : List Strip) → AllZip IsSmoothed old new
-    → values_of new ≡ joined (map (λ strip. smooth_between strip.before strip.values.items strip.behind) old)
+remade_values : (old new : List (Strip ℕ)) → AllZip IsSmoothed old new
+    → items_of new ≡ joined (map (λ strip. smooth_between strip.before strip.items.items strip.behind) old)
 remade_values [] [] z = refl
 remade_values [] (n ∷ new) z = absurd z
 remade_values (o ∷ old) [] z = absurd z
 remade_values (o ∷ old) (n ∷ new) z =
-    ap (λ l. l ++ values_of new) z.0
-    ∙ ap (λ l. smooth_between o.before o.values.items o.behind ++ l) (remade_values old new z.1)
+    ap (λ l. l ++ items_of new) z.0
+    ∙ ap (λ l. smooth_between o.before o.items.items o.behind ++ l) (remade_values old new z.1)
 
 -- a round over strips that were told their neighbours is a pass
-pub pass_of : (old new : List Strip) → AllZip IsSmoothed (told 0 old) new → values_of new ≡ smooth (values_of old)
-pass_of old new z = remade_values (told 0 old) new z ∙ told_smooth 0 old ∙ smooth_is (values_of old)
-
--- the last value, as a read
-pub last_is : (b : ℕ) (values : List ℕ) → get_or values (length values - 1) b ≡ last_of b values
-last_is b [] = refl
-last_is b (x ∷ []) = refl
-last_is b (x ∷ y ∷ values) =
-    let last : ℕ = length (y ∷ values) - 1 in
-    let next : length (x ∷ y ∷ values) - 1 ≡ suc last = omega arith in
-    ap (λ k. get_or (x ∷ y ∷ values) k b) next
-    ∙ get_or_default (y ∷ values) last b x (omega arith)
-    ∙ last_is x (y ∷ values)
-
--- one strip more
-pub values_snoc : (strips : List Strip) (strip : Strip) → values_of (strips ++ strip ∷ []) ≡ values_of strips ++ strip.values.items
-values_snoc strips strip =
-    let values : Strip → List ℕ = λ strip. strip.values.items in
-    ap joined (map_snoc values strips strip) ∙ joined_snoc (map values strips) (values strip)
+pub pass_of : (old new : List (Strip ℕ)) → AllZip IsSmoothed (told 0 old 0) new → items_of new ≡ smooth (items_of old)
+pass_of old new z = remade_values (told 0 old 0) new z ∙ told_smooth 0 old ∙ smooth_is (items_of old)

@@ -6,6 +6,5 @@ pub mod Blocks
 pub mod Batch
 pub mod Checked
 pub mod Stencil
-pub mod Strips
 pub mod Chomp
 pub mod Ranks

@@ -1,6 +1,7 @@
 -- A three-point stencil: each value becomes the mean of itself, twice, and of its two neighbours.
-use Rattle.std.specs.Prelude.{ℕ, zero, suc, ◌+◌, ◌*◌, ◌/◌, List, length, map, get_or}
+use Rattle.std.specs.Prelude.{◌≡◌, ℕ, zero, suc, ◌+◌, ◌*◌, ◌/◌, List, [], ◌∷◌, length, map, get_or}
 use Rattle.spindle_parts.specs.Pieces.{counted}
+use Rattle.spindle_lists.specs.declared.strips.Strip.{Strip}
 
 -- the value before a place, 0 before the first
 abbrev pub before : List ℕ → ℕ → ℕ
@@ -19,3 +20,12 @@ smooth values = map (smooth_at values) (counted 0 (length values))
 abbrev pub smooth_times : ℕ → List ℕ → List ℕ
 smooth_times zero values = values
 smooth_times (suc n) values = smooth (smooth_times n values)
+
+-- values that stand between two others, after one pass
+abbrev pub smooth_between : (before : ℕ) → List ℕ → (behind : ℕ) → List ℕ
+smooth_between before [] behind = []
+smooth_between before (here ∷ values) behind = (before + 2 * here + get_or values 0 behind) / 4 ∷ smooth_between here values behind
+
+-- what a pass makes of a strip
+abbrev pub IsSmoothed : (old new : Strip ℕ) → Type 0
+IsSmoothed old new = new.items.items ≡ smooth_between old.before old.items.items old.behind

@@ -20,7 +20,6 @@ pub mod ranks;
 mod recurse;
 pub mod stencil;
 pub mod stop;
-mod strip;
 mod sums;
 mod tile;
 pub mod trace;

@@ -1,13 +1,12 @@
 //! A three-point stencil of many passes, in place. The values stand in strips, whose lists stay for all passes: a pass is one
 //! round, whose jobs change them where they stand. A job reads its own strip alone, since between two passes the leader tells
 //! each strip the value before it and the one behind it.
-ghost use Rattle.std.specs.Prelude.{◌≡◌, ◌<◌, IfOk, OnOk};
-ghost use Rattle.spindle_examples.specs.Stencil.{smooth, smooth_times};
-ghost use Rattle.spindle_examples.specs.Strips.{values_of, IsSmoothed};
+ghost use Rattle.std.specs.Prelude.{◌≡◌, ◌<◌, ◌+◌, ◌*◌, ◌/◌, get_or, IfOk, OnOk};
+ghost use Rattle.spindle_lists.specs.Strips.{items_of};
+ghost use Rattle.spindle_examples.specs.Stencil.{smooth, smooth_times, smooth_between, IsSmoothed};
 
-use crate::strip::{Strip, joined_values, strips_of, tell};
 use spindle::lock::{End, Gate, InPlace, JobCx, PlaceLeader, Pool, Remake};
-use spindle::{Fault, with_slots_in_place};
+use spindle::{Fault, SharedList, Strip, joined_strips, tell_neighbours, with_slots_in_place};
 use std::alloc::Global;
 use std::sync::Wait;
 use std::thread::Threads;
@@ -16,7 +15,7 @@ use std::thread::Threads;
 pub struct Smooth;
 
 impl Remake for Smooth {
-    type Item = Strip;
+    type Item = Strip<u32>;
 
     type Inner = End;
 
@@ -25,11 +24,39 @@ impl Remake for Smooth {
     fn run<H: Threads + Wait + Sync>(
         _rt: &H,
         _alloc: Global,
-        strip: Strip,
+        mut strip: Strip<u32>,
         _cx: &mut JobCx<End>,
-    ) -> Strip {
-        strip.smoothed()
+    ) -> Strip<u32> {
+        smooth_values(strip.items.as_mut_slice(), strip.before, strip.behind);
+        strip
     }
+}
+
+// One pass over values that stand between two others.
+fn smooth_values(values: &mut [u32], mut before: u32, behind: u32)
+    ensures { values.new ≡ smooth_between before values.old behind }
+{
+    for at in 0..values.len() {
+        let here = values[at];
+        let next = value_at(values, at + 1, behind);
+        values[at] = mean(before, here, next);
+        before = here;
+    }
+}
+
+// The value at a place, or what stands behind all where there is none.
+fn value_at(values: &[u32], at: usize, behind: u32) -> u32
+    ensures { result ≡ get_or values.now at behind }
+{
+    values.get(at).copied().unwrap_or(behind)
+}
+
+// The mean of a value, twice, and of its two neighbours.
+fn mean(before: u32, here: u32, behind: u32) -> u32
+    ensures { result ≡ (before + 2 * here + behind) / 4 }
+{
+    let sum = u64::from(before) + 2 * u64::from(here) + u64::from(behind);
+    (sum / 4) as u32
 }
 
 // One pass over all strips.
@@ -37,11 +64,11 @@ fn pass<G: Gate, H: Threads + Wait + Sync>(
     rt: &H,
     alloc: Global,
     leader: &mut PlaceLeader<Smooth, G>,
-    strips: &mut Vec<Strip>,
+    strips: &mut Vec<Strip<u32>>,
 ) -> Result<(), Fault>
-    ensures { OnOk result (values_of strips.new.items ≡ smooth (values_of strips.old.items)) }
+    ensures { OnOk result (items_of strips.new.items ≡ smooth (items_of strips.old.items)) }
 {
-    tell(strips.as_mut_slice());
+    tell_neighbours(strips.as_mut_slice(), 0);
     leader.remake_each(rt, alloc, strips.len(), strips)
 }
 
@@ -50,11 +77,11 @@ fn passes<G: Gate, H: Threads + Wait + Sync>(
     rt: &H,
     alloc: Global,
     leader: &mut PlaceLeader<Smooth, G>,
-    mut strips: Vec<Strip>,
+    mut strips: Vec<Strip<u32>>,
     count: usize,
-) -> Result<Vec<Strip>, Fault>
+) -> Result<Vec<Strip<u32>>, Fault>
     ensures { IfOk result (λ new.
-        values_of new.items ≡ smooth_times count (values_of strips.items)) }
+        items_of new.items ≡ smooth_times count (items_of strips.items)) }
 {
     for _pass in 0..count {
         pass(rt, alloc, leader, &mut strips)?;
@@ -62,19 +89,19 @@ fn passes<G: Gate, H: Threads + Wait + Sync>(
     Ok(strips)
 }
 
-/// The values after so many passes, each a round in place over strips of `size` values.
+/// The values after so many passes, each a round in place over so many strips.
 pub fn smoothed<G: Gate + Sync, H: Threads + Wait + Sync>(
     rt: &H,
     alloc: Global,
     pool: &Pool<G>,
-    size: usize,
+    pieces: usize,
     values: Vec<u32>,
     count: usize,
 ) -> Result<Vec<u32>, Fault>
-    requires { 0 < size }
+    requires { 0 < pieces }
     ensures { IfOk result (λ new. new.items ≡ smooth_times count values.items) }
 {
-    let strips = strips_of(alloc, values.as_slice(), size)?;
+    let strips = SharedList::from_vec(alloc, values)?.strips(alloc, pieces, 0)?;
     let strips = with_slots_in_place::<InPlace<Smooth>, _, _, _, _, _>(
         rt,
         alloc,
@@ -83,5 +110,5 @@ pub fn smoothed<G: Gate + Sync, H: Threads + Wait + Sync>(
         strips.len().max(1).min(4294967295),
         |leader| { passes(rt, alloc, leader, strips, count) },
     )??;
-    Ok(joined_values(alloc, strips.as_slice())?)
+    Ok(joined_strips(alloc, strips)?)
 }

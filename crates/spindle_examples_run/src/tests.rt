@@ -61,12 +61,12 @@ fn a_stencil_in_place_is_one_over_all_values(rt: HostRuntime) -> Result<(), Faul
     let mut state = 13;
     for count in [0, 1, 2, 3, 10, 257] {
         let values = numbers(alloc, &mut state, count)?;
-        for (threads, size) in [(1, 1), (4, 2), (4, 64), (4, 1000)] {
+        for (threads, pieces) in [(1, 1), (4, 2), (4, 64), (4, 1000)] {
             let pool = Pool::new(threads, Limits::new(), NoGate);
             let mut plain = values.clone()?;
             for passes in 0..4 {
-                let smooth = stencil::smoothed(&rt, alloc, &pool, size, values.clone()?, passes)?;
-                assert_eq!(rt; smooth, plain.clone()?, "{count} values, strips of {size}");
+                let smooth = stencil::smoothed(&rt, alloc, &pool, pieces, values.clone()?, passes)?;
+                assert_eq!(rt; smooth, plain.clone()?, "{count} values, {pieces} strips");
                 plain = plain_pass(alloc, plain.as_slice())?;
             }
         }

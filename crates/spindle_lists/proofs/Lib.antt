@@ -2,3 +2,4 @@
 pub mod ListRuns
 pub mod GatheredLists
 pub mod ListChunks
+pub mod StripLists

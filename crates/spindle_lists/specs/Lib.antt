@@ -2,3 +2,4 @@
 pub mod Same
 pub mod Gathered
 pub mod Chunks
+pub mod Strips

@@ -5,3 +5,5 @@
 mod checks;
 #[cfg(test)]
 mod list_rows;
+#[cfg(test)]
+mod strip_rows;

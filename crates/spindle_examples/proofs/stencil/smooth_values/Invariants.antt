@@ -1,7 +1,7 @@
 -- The values so far are those after the pass; the others are between what stood before them and what stands behind all.
 use Rattle.std.proofs.Common.{◌≡◌, ◌++◌, take, drop}
-use Rattle.spindle_examples.specs.Strips.{smooth_between}
-use Rattle.spindle_examples.proofs.strip.smooth_values.Given as goal
+use Rattle.spindle_examples.specs.Stencil.{smooth_between}
+use Rattle.spindle_examples.proofs.stencil.smooth_values.Given as goal
 
 abbrev pub invariant-loop-at : goal.invariant-loop-at
 invariant-loop-at l =
