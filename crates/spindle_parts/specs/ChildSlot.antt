@@ -1,6 +1,6 @@
--- What a guard of a child slot shows, and what a clear does at a word.
+-- What a guard of a child slot shows, what a clear does at a word, and who gets to write.
 use Rattle.std.specs.Prelude.{◌≡◌, ◌≢◌, ◌⊎◌, ℕ, ◌%◌, ◌<◌, Option, Some, None, refl}
-use Rattle.counted_slot.specs.Counting.{readers}
+use Rattle.counted_slot.specs.Counting.{readers, IsTurn, Gains}
 use Rattle.counted_slot.specs.declared.TheConstants.{FREE, PRESENT, TAKEN}
 use Rattle.spindle_parts.specs.declared.aarc_imp.word.Clearing.{Clearing}
 use Rattle.spindle_parts.specs.declared.aarc_imp.word.Clearing.TheVariants.{Empty, Take, Mark, Wait}
@@ -29,3 +29,16 @@ IsClearing word Empty = word ≡ FREE
 IsClearing word Take = (word ≢ FREE) × (word % 4 < TAKEN) × (readers word ≡ 0)
 IsClearing word Mark = (word % 4 ≡ PRESENT) × (0 < readers word)
 IsClearing word Wait = (word % 4 ≡ TAKEN) ⊎ ((word % 4 ≢ PRESENT) × (0 < readers word))
+
+-- The change of a word from old to new gains the right to write, and so to hand out, a value
+abbrev pub GainsWriting : ℕ → ℕ → Type 0
+GainsWriting old new = IsTurn old new × Gains old new 2
+
+-- a value is written or handed out only while no guard is out, and by one thread at a time
+pub record WrittenAlone : Type 0 where
+  -- no guard is out of the value that stands where a thread gains the right to write
+  pub unguarded : (old new : ℕ) → GainsWriting old new → 0 < old % 4 → readers old ≡ 0
+  -- the word says that one thread writes
+  pub taken : (old new : ℕ) → GainsWriting old new → new % 4 ≡ TAKEN
+  -- and while it says so nobody else gains anything
+  pub alone : (old new : ℕ) → IsTurn old new → old % 4 ≢ TAKEN

@@ -153,7 +153,7 @@ module _ (m : Configuration) where
   abbrev pub with_seen : ℕ → ℕ → Seat
   with_seen p = put m.seat p (record (m.seat p) { seen = true })
 
-  -- the last job that a claim of counter t can get: its thread's own end, less the counter
+  -- the next job that a claim of counter t gets: its thread's own end, less the counter
   abbrev pub claimed : ℕ → ℕ
   claimed t = let n = unwrap_or m.published 0 in own n * t + own n - counter t
 

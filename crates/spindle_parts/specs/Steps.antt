@@ -4,7 +4,7 @@ use Rattle.std.specs.Prelude.{[], ◌∷◌, ◌++◌, Option, Some, None, if◌
 use Rattle.spindle_parts.specs.Words.{most_parties, most_jobs}
 use Rattle.spindle_parts.specs.State.{Status, Out, In, Arrived, Party, State, no_set, put}
 use Rattle.spindle_parts.specs.State.{put_party, inside, members, wake, now, party, change}
-use Rattle.spindle_parts.specs.State.{change_round, Free}
+use Rattle.spindle_parts.specs.State.{change_round, Free, IsUsed}
 
 -- an event, with its party first: a publish has its number of jobs (a round published
 -- by the second kind may be stopped), a take a set of numbers, a begin its number
@@ -67,7 +67,7 @@ Allowed s (See p) = ((party s p).status ≡ In) × ((now s).stopped ≡ true)
 Allowed s (PutBack p) = ((party s p).status ≡ In) × ((now s).seen p ≡ true)
     × ((party s p).running ≡ None)
 Allowed s (Arrive p) = ((party s p).status ≡ In) × IsIdle s p
-    × (s.published ≢ None → ((k : ℕ) → Free s k → ⊥) ⊎ ((now s).stopped ≡ true))
+    × (s.published ≢ None → IsUsed s)
 Allowed s (Leave p) = ((party s p).status ≡ Arrived) × (s.closer ≡ None)
     × (p ≡ 0 → s.published ≡ None)
 Allowed s (Exit p) = ((party s p).status ≡ In) × IsIdle s p × (p ≡ 0 → s.published ≡ None)

@@ -4,7 +4,8 @@
 //! that value is being cleared, so that no new guard comes, each with `ONE_READER` more for each guard that is out, and
 //! `TAKEN` while one thread writes the value or takes it. The slot has cache lines of its own.
 ghost use Rattle.std.specs.Prelude.{◌≡◌, ◌%◌, ◌<◌, ◌+◌, Option, Some, IsSomeAnd, IsSome, IfSome, IfOk, IfErr};
-ghost use Rattle.counted_slot.specs.Counting.{readers, IsTurn};
+ghost use Rattle.counted_slot.specs.Counting.{readers};
+ghost use Rattle.spindle_parts.specs.ChildSlot.{WrittenAlone};
 
 mod word;
 
@@ -177,3 +178,11 @@ impl<'a, T: Fits> Drop for Guard<'a, T> {
         claim.leave();
     }
 }
+
+/// A value is written or handed out only while no guard is out, by one thread at a time.
+///
+/// It is told of each change of a slot's word that these calls can make: of `turn` of `counted_slot`, by which a call gains
+/// the right to look or to write, and without which it has none.
+pub fn written_alone()
+    ensures { WrittenAlone }
+{}

@@ -1,4 +1,8 @@
-//! The worked row of a child slot, and what its values meet.
+//! Child slots.
+//!
+//! Clauses say that what a slot shows or hands out meets its tag. These rows show what no clause says: what an empty slot and a full
+//! one answer, that each value is handed out once and dropped once, that a clear waits for each guard, and that it answers once the
+//! slot is empty.
 ghost use Rattle.std.specs.Prelude.{◌≡◌, ◌≤◌, IfSome};
 
 mod guards;
@@ -6,6 +10,7 @@ mod turns;
 
 use crate::checks::{holds, is};
 use spindle_parts::aarc_imp::{AtomicArc, Fits};
+use std::alloc::{AllocError, Global};
 use std::process::Abort;
 use std::sync::Wait;
 use std::sync::atomic::{AtomicU64, Ordering};
@@ -55,10 +60,24 @@ impl<'a> Child<'a> {
     }
 
     fn was_dropped(&self) -> bool {
-        match self.drops.get(self.number) {
-            Some(count) => count.load(Ordering::SeqCst) > 0,
-            None => true,
-        }
+        drops_of(self.drops, self.number) > 0
+    }
+}
+
+/// So many counts, each zero.
+fn zeros(alloc: Global, count: usize) -> Result<Vec<AtomicU64>, AllocError> {
+    let mut counts = Vec::with_capacity(alloc, count)?;
+    for _ in 0..count {
+        counts.push(AtomicU64::new(0))?;
+    }
+    Ok(counts)
+}
+
+/// How often the number was dropped.
+fn drops_of(drops: &[AtomicU64], number: usize) -> u64 {
+    match drops.get(number) {
+        Some(count) => count.load(Ordering::SeqCst),
+        None => 0,
     }
 }
 
@@ -78,14 +97,6 @@ fn cleared<R: Wait>(rt: &R, slot: &AtomicArc<Child<'_>>) -> Option<usize>
 {
     let child = slot.clear(rt)?;
     Some(child.number)
-}
-
-/// How often the first two numbers were dropped.
-fn drops_of(drops: &[AtomicU64; 2]) -> (u64, u64) {
-    (
-        drops[0].load(Ordering::SeqCst),
-        drops[1].load(Ordering::SeqCst),
-    )
 }
 
 /// Waits until the count is there, or gives up.
@@ -108,7 +119,7 @@ fn takes<'a>(slot: &AtomicArc<Child<'a>>, drops: &'a [AtomicU64]) -> bool {
     slot.compare_exchange_null(Child::new(0, drops)).is_ok()
 }
 
-/// Whether the slot refuses a child of number 1.
+/// Whether the slot refuses a child of number 1, and hands it back.
 fn takes_none<'a>(slot: &AtomicArc<Child<'a>>, drops: &'a [AtomicU64]) -> bool
     requires { slot.now ≡ 1 }
 {
@@ -116,34 +127,31 @@ fn takes_none<'a>(slot: &AtomicArc<Child<'a>>, drops: &'a [AtomicU64]) -> bool
         .is_err_and(|back| back.number == 1)
 }
 
-/// Puts a child into the empty slot, which refuses another then.
-fn put_in<'a>(rt: &impl Abort, slot: &AtomicArc<Child<'a>>, drops: &'a [AtomicU64; 2])
-    requires { slot.now ≡ 1 }
-{
+/// The slot is empty, and answers so.
+fn is_empty<R: Wait + Abort>(rt: &R, slot: &AtomicArc<Child<'_>>) {
     is(rt, state(slot), (true, true));
-    is(rt, seen(slot), None);
-    holds(rt, takes(slot, drops));
-    is(rt, state(slot), (false, false));
-    holds(rt, takes_none(slot, drops));
+    is(rt, (seen(slot), cleared(rt, slot)), (None, None));
 }
 
-/// Takes the child out of the slot, which is empty then.
-fn take_out<R: Wait + Abort>(rt: &R, slot: &AtomicArc<Child<'_>>, drops: &[AtomicU64; 2]) {
-    is(rt, seen(slot), Some(0));
-    is(rt, cleared(rt, slot), Some(0));
-    is(rt, drops_of(drops), (1, 1));
-    is(rt, state(slot), (true, true));
-    is(rt, seen(slot), None);
-    is(rt, cleared(rt, slot), None);
+/// The slot has child 0, and takes no other.
+fn is_full<'a>(rt: &impl Abort, slot: &AtomicArc<Child<'a>>, drops: &'a [AtomicU64])
+    requires { slot.now ≡ 1 }
+{
+    is(rt, (state(slot), seen(slot)), ((false, false), Some(0)));
+    holds(rt, takes_none(slot, drops));
+    is(rt, (drops_of(drops, 0), drops_of(drops, 1)), (0, 1));
 }
 
 #[test]
 fn a_slot_shows_and_hands_out_what_was_put_in(rt: HostRuntime) {
     let drops = [AtomicU64::new(0), AtomicU64::new(0)];
     let slot = AtomicArc::null(&1);
-    put_in(&rt, &slot, &drops);
-    is(&rt, drops_of(&drops), (0, 1));
-    take_out(&rt, &slot, &drops);
+    is_empty(&rt, &slot);
+    holds(&rt, takes(&slot, &drops));
+    is_full(&rt, &slot, &drops);
+    is(&rt, cleared(&rt, &slot), Some(0));
+    is(&rt, drops_of(&drops, 0), 1);
+    is_empty(&rt, &slot);
 }
 
 #[test]
@@ -151,7 +159,7 @@ fn a_slot_that_is_dropped_drops_its_value(rt: HostRuntime) {
     let drops = [AtomicU64::new(0)];
     let slot = AtomicArc::null(&0);
     holds(&rt, takes(&slot, &drops));
-    is(&rt, drops[0].load(Ordering::SeqCst), 0);
+    is(&rt, drops_of(&drops, 0), 0);
     drop(slot);
-    is(&rt, drops[0].load(Ordering::SeqCst), 1);
+    is(&rt, drops_of(&drops, 0), 1);
 }

@@ -1,4 +1,4 @@
-//! What faults say.
+//! What faults say, which no clause tells.
 
 use crate::checks::is;
 use spindle_parts::fault::Fault;
@@ -6,17 +6,11 @@ use std::test::Fail;
 
 #[test]
 fn texts(rt: HostRuntime) -> Result<(), Fail> {
-    let memory = Fault::Memory;
-    let lost = Fault::Lost(7);
-    is(
-        &rt,
-        format!(in rt.alloc(); "{memory}")?.as_str(),
-        "no memory",
-    );
-    is(
-        &rt,
-        format!(in rt.alloc(); "{lost}")?.as_str(),
-        "lost piece 7",
-    );
+    for (fault, text) in [
+        (Fault::Memory, "no memory"),
+        (Fault::Lost(7), "lost piece 7"),
+    ] {
+        is(&rt, format!(in rt.alloc(); "{fault}")?.as_str(), text);
+    }
     Ok(())
 }

@@ -1,12 +1,12 @@
 //! The tests of `spindle_parts`. They stand in a crate of their own, since a proof of tests proves their whole crate.
+//!
+//! The tests named `refused_` hold with any one allocation refused; `./do refusals` refuses each in turn.
 #![tactic(auto)]
 
 #[cfg(test)]
 mod aarc_imp;
 #[cfg(test)]
 mod checks;
-#[cfg(test)]
-mod counts;
 #[cfg(test)]
 mod cut;
 #[cfg(test)]

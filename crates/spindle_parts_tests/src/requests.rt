@@ -1,17 +1,14 @@
-//! The worked rows of the ledger, its flags, the ends of its words and of its slots, and no memory.
-ghost use Rattle.std.specs.Prelude.{◌≡◌, ◌≤◌, ◌<◌};
+//! The ledger of helper requests.
+//!
+//! Each call says which step it made, and the rule of the ledger that its books balance. These rows show what no clause says: what
+//! the calls find where one thread steps, which flags a fresh ledger has, and that memory is refused only where it was.
+ghost use Rattle.std.specs.Prelude.{◌≡◌, ◌<◌};
 ghost use Rattle.spindle_parts.specs.LedgerSeats.{slot_count, IsSeatOf};
 
-mod clerks;
-
 use crate::checks::{holds, is};
-use clerks::Clerk;
 use spindle_parts::fault::Fault;
 use spindle_parts::requests::{Requests, Seat, TakePlace};
-use std::alloc::Global;
 use std::process::Abort;
-
-const SLOTS: usize = 3;
 
 /// Asks for three requests, which are places of slot 0 then.
 fn open_three(rt: &impl Abort, books: &Requests, seat: &mut Seat)
@@ -24,16 +21,17 @@ fn open_three(rt: &impl Abort, books: &Requests, seat: &mut Seat)
     is(rt, books.requests(seat), 3);
 }
 
-/// Takes a place of slot 0, and its request back: two are left.
-fn take_one(rt: &impl Abort, books: &Requests, seat: &mut Seat)
-    requires { IsSeatOf books.now seat.old × (0 < slot_count books.now) }
+/// Takes a place of the slot, and its request back: so many are left.
+fn take_one(rt: &impl Abort, books: &Requests, seat: &mut Seat, slot: usize, left: u64)
+    requires { IsSeatOf books.now seat.old × (slot < slot_count books.now) }
+    ensures { IsSeatOf books.now seat.new }
 {
-    let answer = books.try_take_place(seat, 0);
+    let answer = books.try_take_place(seat, slot);
     is(rt, answer, TakePlace::Taken);
     if answer == TakePlace::Taken {
         books.subtract(seat, 1);
     }
-    is(rt, books.requests(seat), 2);
+    is(rt, books.requests(seat), left);
 }
 
 /// Closes slot 0, which has all requests that are left, so many, and takes them back.
@@ -52,22 +50,9 @@ fn one_of_three_places_is_taken(rt: HostRuntime) -> Result<(), Fault> {
     let (books, mut leader) = Requests::new(rt.alloc(), 1)?;
     let mut helper = books.new_seat(&mut leader);
     open_three(&rt, &books, &mut leader);
-    take_one(&rt, &books, &mut helper);
+    take_one(&rt, &books, &mut helper, 0, 2);
     close_last(&rt, &books, &mut leader, 2);
     Ok(())
-}
-
-/// Takes the only place of slot 1, and its request back.
-fn take_the_only_one(rt: &impl Abort, books: &Requests, seat: &mut Seat)
-    requires { IsSeatOf books.now seat.old × (1 < slot_count books.now) }
-    ensures { IsSeatOf books.now seat.new }
-{
-    let answer = books.try_take_place(seat, 1);
-    is(rt, answer, TakePlace::Taken);
-    is(rt, books.try_take_place(seat, 1), TakePlace::None);
-    if answer == TakePlace::Taken {
-        books.subtract(seat, 1);
-    }
 }
 
 #[test]
@@ -77,8 +62,8 @@ fn one_seat_serves_two_slots(rt: HostRuntime) -> Result<(), Fault> {
     books.ask(&mut seat, 1);
     books.install(&mut seat, 1, 1);
     is(&rt, books.requests(&mut seat), 4);
-    take_the_only_one(&rt, &books, &mut seat);
-    is(&rt, books.requests(&mut seat), 3);
+    take_one(&rt, &books, &mut seat, 1, 3);
+    is(&rt, books.try_take_place(&mut seat, 1), TakePlace::None);
     is(&rt, books.close(&mut seat, 1), 0);
     close_last(&rt, &books, &mut seat, 3);
     Ok(())
@@ -94,55 +79,33 @@ fn who_finds_no_slot_takes_its_requests_back(rt: HostRuntime) -> Result<(), Faul
     Ok(())
 }
 
+/// The flags must be these: whether exit is announced, and whether rest is.
+fn has_flags(rt: &impl Abort, books: &Requests, seat: &mut Seat, exit: bool, rest: bool)
+    requires { IsSeatOf books.now seat.old }
+    ensures { IsSeatOf books.now seat.new }
+{
+    is(rt, books.exit_announced(seat), exit);
+    is(rt, books.rest_announced(seat), rest);
+}
+
+/// Stores the flags, which must be as stored then.
+fn announce(rt: &impl Abort, books: &Requests, seat: &mut Seat, exit: bool, rest: bool)
+    requires { IsSeatOf books.now seat.old }
+    ensures { IsSeatOf books.now seat.new }
+{
+    books.announce_exit(seat, exit);
+    books.announce_rest(seat, rest);
+    has_flags(rt, books, seat, exit, rest);
+}
+
 #[test]
 fn flags_are_as_last_stored(rt: HostRuntime) -> Result<(), Fault> {
-    let (books, seat) = Requests::new(rt.alloc(), SLOTS)?;
-    let mut leader = Clerk::new(&books, seat, 0);
-    is(&rt, leader.flags(), (false, true));
-    for (exit, rest) in [(true, true), (true, false), (false, false), (false, true)] {
-        leader.announce(exit, rest);
-        is(&rt, leader.flags(), (exit, rest));
-    }
-    is(&rt, leader.requests(), 0);
-    Ok(())
-}
-
-#[test]
-fn counts_wrap_at_the_end_of_a_word(rt: HostRuntime) -> Result<(), Fault> {
-    let (books, mut seat) = Requests::new(rt.alloc(), 1)?;
-    books.ask(&mut seat, usize::MAX);
-    books.install(&mut seat, 0, usize::MAX);
-    is(&rt, books.requests(&mut seat), u64::MAX);
-    books.ask(&mut seat, 3);
-    is(&rt, books.requests(&mut seat), 2);
-    books.install(&mut seat, 0, 1);
-    is(&rt, books.try_take_place(&mut seat, 0), TakePlace::None);
-    books.install(&mut seat, 0, 2);
-    close_last(&rt, &books, &mut seat, 2);
-    Ok(())
-}
-
-/// Fails where a ledger of so many slots takes the last slot's places at another one, or not at all.
-fn has_slots(rt: &impl Abort, alloc: Global, slots: usize) -> Result<(), Fault>
-    requires { 2 ≤ slots }
-{
-    let (books, mut seat) = Requests::new(alloc, slots)?;
-    books.ask(&mut seat, 2);
-    books.install(&mut seat, slots - 1, 2);
-    let before = books.try_take_place(&mut seat, slots - 2);
-    let last = books.try_take_place(&mut seat, slots - 1);
-    is(rt, (before, last), (TakePlace::None, TakePlace::Taken));
-    is(rt, books.close(&mut seat, slots - 1), 1);
-    is(rt, books.requests(&mut seat), 2);
-    Ok(())
-}
-
-/// Each slot has places of its own, however many slots there are.
-#[test]
-fn a_ledger_has_as_many_slots_as_asked_for(rt: HostRuntime) -> Result<(), Fault> {
-    for slots in [2, 63, 64, 65, 1000, 32767] {
-        has_slots(&rt, rt.alloc(), slots)?;
-    }
+    let (books, mut seat) = Requests::new(rt.alloc(), 3)?;
+    has_flags(&rt, &books, &mut seat, false, true);
+    announce(&rt, &books, &mut seat, true, true);
+    announce(&rt, &books, &mut seat, true, false);
+    announce(&rt, &books, &mut seat, false, true);
+    is(&rt, books.requests(&mut seat), 0);
     Ok(())
 }
 
@@ -162,9 +125,9 @@ fn refused_ledgers_are_answered(rt: HostRuntime) {
 #[test]
 fn refused_slots_beyond_all_memory(rt: HostRuntime) {
     for slots in [usize::MAX, usize::MAX / 8, 1 << 60, 1 << 57] {
-        match Requests::new(rt.alloc(), slots) {
-            Err(Fault::Memory) => {}
-            _ => panic!(rt; "{slots} slots were made"),
-        }
+        holds(
+            &rt,
+            matches!(Requests::new(rt.alloc(), slots), Err(Fault::Memory)),
+        );
     }
 }

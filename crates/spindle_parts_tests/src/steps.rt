@@ -1,30 +1,120 @@
-//! Schedules played on the machine.
-
-mod memory;
-mod refusals;
-mod rounds;
+//! Steps of the machine.
+//!
+//! `Machine::step` says what each step answers by the definitions of the step table. These rows show what no clause says: that the
+//! definitions give the words and the reasons of the table, the first where several tests are true, and that no join but one whose
+//! growth was refused is refused for memory.
 
 use crate::checks::is;
 use spindle_parts::fault::Fault;
+use spindle_parts::steps::Reply::{Job, Refused, Word};
+use spindle_parts::steps::Step::{
+    Arrive, Claim, Clear, End, Exit, Finish, Join, Leave, Publish, PublishTry, Rest, See, Stop,
+};
 use spindle_parts::steps::{Machine, Reply, Step, Why};
 use std::alloc::Global;
 use std::process::Abort;
-use std::test::Fail;
 
 type Script<'a> = &'a [(Step, Reply)];
 
-type Rows<'a> = &'a [(Step, Option<Why>)];
+/// Nobody has joined.
+const OUTSIDE: Script = &[
+    (Publish(1, 0), Refused(Why::NotLeader)),
+    (PublishTry(1, 0), Refused(Why::NotLeader)),
+    (Publish(0, 0), Refused(Why::NotIn)),
+    (PublishTry(0, 0), Refused(Why::NotIn)),
+    (Claim(0, 4), Refused(Why::NotIn)),
+    (Rest(0), Refused(Why::NotIn)),
+    (Finish(0), Refused(Why::Idle)),
+    (Stop(0), Refused(Why::Idle)),
+    (See(0), Refused(Why::NotIn)),
+    (Arrive(0), Refused(Why::NotIn)),
+    (Leave(0), Refused(Why::NotWaiting)),
+    (Exit(0), Refused(Why::NotIn)),
+    (Clear(0), Refused(Why::NotCloser)),
+    (End(0), Refused(Why::NotCloser)),
+];
 
-/// A fresh machine of four counters.
-fn fresh(alloc: Global) -> Result<Machine, Fault> {
-    Machine::new(alloc, 4)
-}
+/// A round of five jobs on four counters, by two parties.
+const WHOLE_ROUND: Script = &[
+    (Join(0), Word(0x0001_0001)),
+    (Join(1), Word(0x0002_0002)),
+    (Join(0), Refused(Why::Member)),
+    (Publish(0, 1), Refused(Why::Count)),
+    (PublishTry(0, 1), Refused(Why::Count)),
+    (Claim(0, 4), Refused(Why::NotPublished)),
+    (Rest(0), Refused(Why::NotPublished)),
+    (See(0), Refused(Why::NotPublished)),
+    (Publish(0, 5), Word(0x0002_0002)),
+    (Publish(0, 1), Refused(Why::Published)),
+    (PublishTry(0, 1), Refused(Why::Published)),
+    (Claim(1, 4), Refused(Why::Range)),
+    (Claim(1, 1), Job(0x0002_0002, 1)),
+    (Claim(1, 4), Refused(Why::Holding)),
+    (Rest(1), Refused(Why::Holding)),
+    (Stop(1), Refused(Why::Fixed)),
+    (See(1), Refused(Why::Going)),
+    (Arrive(1), Refused(Why::Holding)),
+    (Leave(1), Refused(Why::NotWaiting)),
+    (Exit(1), Refused(Why::Holding)),
+    (Finish(1), Word(0x0002_0002)),
+    (Claim(1, 1), Refused(Why::Empty)),
+    (Arrive(1), Refused(Why::Left)),
+    (Rest(0), Job(0x0002_0002, 4)),
+    (Finish(0), Word(0x0002_0002)),
+    (Rest(0), Refused(Why::Empty)),
+    (Claim(0, 0), Job(0x0002_0002, 0)),
+    (Finish(0), Word(0x0002_0002)),
+    (Exit(0), Refused(Why::Leader)),
+    (Claim(0, 2), Job(0x0002_0002, 2)),
+    (Finish(0), Word(0x0002_0002)),
+    (Claim(0, 3), Job(0x0002_0002, 3)),
+    (Arrive(1), Word(0x0002_0001)),
+    (Arrive(1), Refused(Why::NotIn)),
+    (Finish(0), Word(0x0002_0001)),
+    (Arrive(0), Word(0x0002_0000)),
+    (Leave(0), Refused(Why::Closing)),
+    (Exit(0), Refused(Why::NotIn)),
+    (Join(2), Refused(Why::Closing)),
+    (Clear(1), Refused(Why::NotCloser)),
+    (End(1), Refused(Why::NotCloser)),
+    (End(0), Refused(Why::Published)),
+    (Clear(0), Word(0x0002_0000)),
+    (End(0), Word(0x8002_0002)),
+];
 
-/// Plays the script on a fresh machine, and compares each answer.
-fn play_afresh(rt: &impl Abort, alloc: Global, script: Script) -> Result<(), Fault> {
-    play(rt, &mut fresh(alloc)?, script);
-    Ok(())
-}
+/// A round that the leader stops: a helper sees it, goes, and sees it when it comes again; a third party closes by its exit.
+const STOPPED_ROUND: Script = &[
+    (Join(2), Word(0x8003_0003)),
+    (PublishTry(0, 9), Word(0x8003_0003)),
+    (Rest(0), Job(0x8003_0003, 8)),
+    (See(1), Refused(Why::Going)),
+    (Stop(0), Word(0x8003_0003)),
+    (Claim(0, 4), Refused(Why::Holding)),
+    (See(1), Word(0x8003_0003)),
+    (Claim(1, 4), Refused(Why::Stopped)),
+    (Rest(1), Refused(Why::Stopped)),
+    (Claim(2, 0), Job(0x8003_0003, 0)),
+    (Finish(2), Word(0x8003_0003)),
+    (Arrive(1), Word(0x8003_0002)),
+    (Leave(1), Word(0x8002_0002)),
+    (Join(1), Word(0x8003_0003)),
+    (Claim(1, 1), Refused(Why::Stopped)),
+    (Exit(1), Word(0x8002_0002)),
+    (Finish(0), Word(0x8002_0002)),
+    (Arrive(0), Word(0x8002_0001)),
+    (Leave(0), Refused(Why::Leader)),
+    (Exit(2), Word(0x8001_0000)),
+    (Clear(2), Word(0x8001_0000)),
+    (End(2), Word(0x0001_0001)),
+];
+
+/// In the next round the helper claims again; then both go.
+const NEXT_ROUND: Script = &[
+    (Join(1), Word(0x0002_0002)),
+    (PublishTry(0, 9), Word(0x0002_0002)),
+    (Claim(1, 1), Job(0x0002_0002, 2)),
+    (See(1), Refused(Why::Going)),
+];
 
 /// Makes the step, which must have this answer.
 fn answers(rt: &impl Abort, machine: &mut Machine, step: Step, reply: Reply) {
@@ -38,48 +128,54 @@ fn play(rt: &impl Abort, machine: &mut Machine, script: Script) {
     }
 }
 
-/// Makes the step, which must be accepted.
-fn accept_one(rt: &impl Abort, machine: &mut Machine, step: Step) {
-    let reply = machine.step(step);
-    assert!(rt;
-        !matches!(reply, Reply::Refused(_)),
-        "{step:?} answers {reply:?}"
-    );
-}
-
-/// Plays the steps, each of which must be accepted.
-fn accept(rt: &impl Abort, machine: &mut Machine, steps: &[Step]) {
-    for step in steps {
-        accept_one(rt, machine, *step);
+#[test]
+fn each_step_is_answered_as_in_the_step_table(rt: HostRuntime) -> Result<(), Fault> {
+    let mut machine = Machine::new(rt.alloc(), 4)?;
+    for script in [OUTSIDE, WHOLE_ROUND, STOPPED_ROUND, NEXT_ROUND] {
+        play(&rt, &mut machine, script);
     }
-}
-
-/// Makes the step, which must be refused for that reason.
-fn refuse(rt: &impl Abort, machine: &mut Machine, step: Step, why: Why) {
-    answers(rt, machine, step, Reply::Refused(why));
-}
-
-/// Makes the step, which must be accepted, or refused for that reason.
-fn follow_one(rt: &impl Abort, machine: &mut Machine, step: Step, why: Option<Why>) {
-    match why {
-        Some(why) => refuse(rt, machine, step, why),
-        None => accept_one(rt, machine, step),
-    }
-}
-
-/// Makes the steps: each is accepted, or refused for the reason beside it.
-fn follow(rt: &impl Abort, machine: &mut Machine, rows: Rows) {
-    for (step, why) in rows {
-        follow_one(rt, machine, *step, *why);
-    }
-}
-
-/// Makes them on a fresh machine.
-fn follow_afresh(rt: &impl Abort, alloc: Global, rows: Rows) -> Result<(), Fault> {
-    follow(rt, &mut fresh(alloc)?, rows);
     Ok(())
 }
 
-fn word(word: u32) -> Reply {
-    Reply::Word(word)
+/// A hundred thousand parties, one after another, each with a number far from the last one's.
+#[test]
+fn no_join_is_refused_for_memory_where_there_is_some(rt: HostRuntime) -> Result<(), Fault> {
+    let mut machine = Machine::new(rt.alloc(), 4)?;
+    answers(&rt, &mut machine, Join(0), Word(0x0001_0001));
+    for count in 1..100_000u32 {
+        let party = count.wrapping_mul(0x9E37_79B1);
+        answers(&rt, &mut machine, Join(party), Word(0x0002_0002));
+        answers(&rt, &mut machine, Exit(party), Word(0x0001_0001));
+    }
+    for bit in 0..32u32 {
+        let word = (bit + 2).wrapping_mul(0x0001_0001);
+        answers(&rt, &mut machine, Join(u32::MAX >> bit), Word(word));
+    }
+    Ok(())
+}
+
+/// A machine, which is asked for again where its growth was refused.
+fn machine_at_last(alloc: Global) -> Result<Machine, Fault> {
+    match Machine::new(alloc, 4) {
+        Ok(machine) => Ok(machine),
+        Err(_) => Machine::new(alloc, 4),
+    }
+}
+
+/// A refused growth changes nothing: the same join with memory is answered. Who came once comes again without memory.
+#[test]
+fn refused_growth_changes_nothing(rt: HostRuntime) -> Result<(), Fault> {
+    let mut machine = machine_at_last(rt.alloc())?;
+    for party in 0..200u32 {
+        let word = Word(party.wrapping_add(1).wrapping_mul(0x0001_0001));
+        match machine.step(Join(party)) {
+            Refused(Why::Memory) => answers(&rt, &mut machine, Join(party), word),
+            reply => is(&rt, reply, word),
+        }
+    }
+    for party in 1..200u32 {
+        answers(&rt, &mut machine, Exit(party), Word(0x00c7_00c7));
+        answers(&rt, &mut machine, Join(party), Word(0x00c8_00c8));
+    }
+    Ok(())
 }

@@ -27,52 +27,6 @@ fn guards_of<'s, 'a>(
     Ok(guards)
 }
 
-/// Whether each of the guards shows a child that stands.
-fn all_stand(guards: &[Guard<'_, Child<'_>>]) -> bool {
-    guards.iter().all(|guard| !guard.get().was_dropped())
-}
-
-/// So many guards at once. Answers whether each load gave one and each showed the child, and the slot took no other
-/// child beside them. The guards are dropped, and so they have left.
-fn guards_at_once<'a>(
-    alloc: Global,
-    slot: &AtomicArc<Child<'a>>,
-    drops: &'a [AtomicU64],
-    count: usize,
-) -> Result<bool, AllocError>
-    requires { slot.now ≡ 1 }
-{
-    let guards = guards_of(alloc, slot, count)?;
-    let taken = state(slot) == (false, false) && takes_none(slot, drops);
-    Ok(guards.len() == count && all_stand(&guards) && taken)
-}
-
-/// Fails where one of these counts of guards is not had at once.
-fn have_guards<'a>(
-    rt: &impl Abort,
-    alloc: Global,
-    slot: &AtomicArc<Child<'a>>,
-    drops: &'a [AtomicU64],
-    counts: &[usize],
-) -> Result<(), AllocError>
-    requires { slot.now ≡ 1 }
-{
-    for count in counts {
-        holds(rt, guards_at_once(alloc, slot, drops, *count)?);
-    }
-    Ok(())
-}
-
-#[test]
-fn a_hundred_guards_show_one_child(rt: HostRuntime) -> Result<(), Fail> {
-    let drops = [AtomicU64::new(0), AtomicU64::new(0)];
-    let slot = AtomicArc::null(&1);
-    holds(&rt, takes(&slot, &drops));
-    have_guards(&rt, rt.alloc(), &slot, &drops, &[1, 2, 3, 100, 100])?;
-    is(&rt, cleared(&rt, &slot), Some(0));
-    Ok(())
-}
-
 /// Waits until the slot is being cleared, or gives up. Answers whether it lets no guard and no other child in then.
 fn is_closed<'a>(slot: &AtomicArc<Child<'a>>, drops: &'a [AtomicU64]) -> bool
     requires { slot.now ≡ 1 }
@@ -96,8 +50,8 @@ fn stood<'a>(slot: &AtomicArc<Child<'a>>, guard: Guard<'_, Child<'a>>) -> bool {
     stood
 }
 
-/// Holds so many guards until the slot is being cleared, and then one of them for a while. Answers whether the child
-/// stood all the time, and the slot let no guard and no other child in.
+/// Has so many guards at once, holds them until the slot is being cleared, and then one of them for a while. Answers whether the
+/// child stood all the time, and the slot let no other child in, and no guard once it is being cleared.
 fn hold<'a>(
     alloc: Global,
     slot: &AtomicArc<Child<'a>>,
@@ -108,8 +62,9 @@ fn hold<'a>(
     requires { slot.now ≡ 1 }
 {
     let mut guards = guards_of(alloc, slot, count)?;
+    let full = state(slot) == (false, false) && takes_none(slot, drops);
     held.store(1, Ordering::SeqCst);
-    let held = guards.len() == count && is_closed(slot, drops);
+    let held = full && guards.len() == count && is_closed(slot, drops);
     let Some(last) = guards.pop() else {
         return Ok(false);
     };
@@ -123,25 +78,6 @@ fn clear_held<R: Wait>(rt: &R, slot: &AtomicArc<Child<'_>>, held: &AtomicU64) ->
     cleared(rt, slot)
 }
 
-/// Clears the slot while so many guards are held. Answers whether its child stood meanwhile, and what came out.
-fn clear_beside<'a, R: Threads + Wait + Sync>(
-    rt: &R,
-    alloc: Global,
-    slot: &AtomicArc<Child<'a>>,
-    drops: &'a [AtomicU64],
-    guards: usize,
-) -> Result<(bool, Option<usize>), AllocError>
-    requires { slot.now ≡ 1 }
-{
-    let held = AtomicU64::new(0);
-    let (stood, out) = join(
-        rt,
-        || hold(alloc, slot, drops, &held, guards),
-        || clear_held(rt, slot, &held),
-    );
-    Ok((stood?, out))
-}
-
 /// Fails where a clear doesn't wait for so many guards.
 fn waits_for<R: Threads + Wait + Abort + Sync>(
     rt: &R,
@@ -151,9 +87,14 @@ fn waits_for<R: Threads + Wait + Abort + Sync>(
     let drops = [AtomicU64::new(0), AtomicU64::new(0)];
     let slot = AtomicArc::null(&1);
     holds(rt, takes(&slot, &drops));
-    let answer = clear_beside(rt, alloc, &slot, &drops, guards)?;
-    is(rt, answer, (true, Some(0)));
-    is(rt, (slot.is_free(), drops_of(&drops).0), (true, 1));
+    let held = AtomicU64::new(0);
+    let (stood, out) = join(
+        rt,
+        || hold(alloc, &slot, &drops, &held, guards),
+        || clear_held(rt, &slot, &held),
+    );
+    is(rt, (stood?, out), (true, Some(0)));
+    is(rt, (slot.is_free(), drops_of(&drops, 0)), (true, 1));
     Ok(())
 }
 
