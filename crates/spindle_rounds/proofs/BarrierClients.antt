@@ -1,4 +1,14 @@
--- What the answers of a barrier's calls tell the party that asked.
+-- What the answers of a barrier's calls tell the party that asked: from an answer to Moved (the standing changed, and no deed was done),
+-- or to its cases Stayed, InNext (the round has ended), WentOut.
+--   arrive        arrived_waits, arrived_closes
+--   look          look_ended: InNext; look_running, look_closing, and look_on for both: Stayed
+--   try_leave     leave_left: WentOut; look_ended: InNext; look_closing, leave_again: Stayed
+--   try_exit      exit_gone: WentOut; exit_closer; exit_again: Stayed
+--   clear, end    closed_next of a member, closed_out of one that had exited
+--   join          join_joined; join_full, join_closing, join_again: Stayed
+-- The invariant of a loop that waits is `Keeps l.initial.b l.b × Stayed l.initial.b.seat.me l.b.seat.me`: keeps_first begins it, keeps_on,
+-- look_on and stayed_on keep it, passed_on ends it. Give barriers and `me`s explicitly. Where two arms of a match hand the barrier on,
+-- put the match into a function that answers `Result<Barrier, Done>`: the join of two arms loses their facts.
 use Rattle.std.proofs.Common.{◌≡◌, ◌≢◌, ◌⊎◌, inl, inr, ⊎_elim, ℕ, ◌+◌, ◌-◌, ◌/◌, ◌%◌, ◌<◌, ◌≤◌, Bool, true, false, eq-eqb, ne_eqb, le-ltb, lt-ltb, List, []}
 use Rattle.std.proofs.Common.{◌∷◌, ◌++◌, append_assoc, sym, refl, ap, ◌∙◌, subst, arith, Option, None, if◌then◌else◌, ◌==◌, ◌&&◌, nat_lt}
 use Rattle.atomic_table.specs.Table.{Me}
@@ -13,7 +23,7 @@ use Rattle.spindle_rounds.specs.declared.round_table.view.Standing.TheVariants.{
 use Rattle.spindle_rounds.specs.declared.round_table.view.Kind.{Kind}
 use Rattle.spindle_rounds.specs.declared.round_table.view.Known.{Known}
 use Rattle.spindle_rounds.specs.declared.round_table.view.View.{View}
-use Rattle.spindle_rounds.specs.RoundRule.{Deed, deed_of, deeds_of}
+use Rattle.spindle_rounds.specs.RoundShown.{Deed, deed_of, deeds_of}
 use Rattle.spindle_parts.specs.Trail.{trace}
 use Rattle.spindle_rounds.specs.declared.round_table.view.Kind.TheVariants as kind
 use Rattle.spindle_rounds.specs.Seating.{IsSameSeat}

@@ -14,7 +14,7 @@ use Rattle.spindle_parts.proofs.Soundness.{sound}
 use Rattle.spindle_rounds.specs.declared.round_table.view.Standing.TheVariants.{Inside}
 use Rattle.spindle_rounds.specs.declared.round_table.view.View.{View}
 use Rattle.spindle_rounds.specs.RoundSlots.{Discipline, Lawful}
-use Rattle.spindle_rounds.specs.RoundRule.{Began, deeds, Stands, Counters, IsWithin, home_of}
+use Rattle.spindle_rounds.specs.RoundShown.{Began, deeds, Stands, Counters, IsWithin, home_of}
 use Rattle.spindle_rounds.specs.Words.{remainder_at, range_at, words_of, high_half, start_of}
 use Rattle.spindle_rounds.specs.RoundSteps.{round_of, beginning, claiming}
 use Rattle.spindle_rounds.specs.RoundTells.{ClaimTells}

@@ -23,7 +23,8 @@ use Rattle.spindle_rounds.specs.declared.round_table.view.Kind.{Kind}
 use Rattle.spindle_rounds.specs.declared.round_table.view.View.{View}
 use Rattle.spindle_rounds.specs.RoundSlots.{Discipline, Lawful}
 use Rattle.spindle_rounds.specs.declared.round_table.view.Kind.TheVariants as kind
-use Rattle.spindle_rounds.specs.RoundRule.{deeds, Stands, Shows, Words, Laid, InRange, InRemainder, IsLeft, StandsFor, number_of}
+use Rattle.spindle_rounds.specs.RoundRule.{Laid, StandsFor}
+use Rattle.spindle_rounds.specs.RoundShown.{deeds, Stands, Shows, Words, InRange, InRemainder, IsLeft, number_of}
 use Rattle.spindle_rounds.specs.Words.{barrier_at, published_at, one_party, sense_bit, count_of, most_of, sense_of}
 use Rattle.spindle_rounds.specs.RoundSteps.{round_of, noted, standing, outside, exit_word, exiting, with_clear, clearing, turned_word, after_end, ending}
 use Rattle.spindle_rounds.specs.RoundTells.{ExitTells, ClearTells, EndTells}

@@ -14,7 +14,7 @@ use Rattle.spindle_parts.proofs.Parties.{put_here, put_all, look_here, look_else
 use Rattle.spindle_parts.proofs.Soundness.{Sound, sound}
 use Rattle.spindle_rounds.specs.declared.round_table.view.View.{View}
 use Rattle.spindle_rounds.specs.RoundSlots.{Discipline, Lawful, Finishes}
-use Rattle.spindle_rounds.specs.RoundRule.{Ended, ended_in, deeds, Stands, Words, home_of, IsListed, IsEmptied}
+use Rattle.spindle_rounds.specs.RoundShown.{Ended, ended_in, deeds, Stands, Words, home_of, IsListed, IsEmptied}
 use Rattle.spindle_rounds.specs.Words.{finished_at, stopped_at, remainder_at, range_at, most_jobs}
 use Rattle.spindle_rounds.specs.RoundSteps.{round_of, number_or, list_all, list_finished, finishing}
 use Rattle.spindle_rounds.specs.RoundTells.{FinishTells}

@@ -11,7 +11,7 @@ use Rattle.spindle_parts.proofs.Soundness.{Sound, sound}
 use Rattle.spindle_rounds.specs.declared.round_table.view.Standing.TheVariants.{Waiting}
 use Rattle.spindle_rounds.specs.declared.round_table.view.View.{View}
 use Rattle.spindle_rounds.specs.RoundSlots.{Discipline, Lawful}
-use Rattle.spindle_rounds.specs.RoundRule.{deeds, Stands}
+use Rattle.spindle_rounds.specs.RoundShown.{deeds, Stands}
 use Rattle.spindle_rounds.specs.Words.{barrier_at, field_size, one_member, sense_bit}
 use Rattle.spindle_rounds.specs.RoundSteps.{leaving}
 use Rattle.spindle_rounds.specs.RoundTells.{LeaveTells}

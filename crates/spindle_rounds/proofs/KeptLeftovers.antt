@@ -14,7 +14,8 @@ use Rattle.spindle_rounds.specs.declared.round_table.view.Standing.{Standing}
 use Rattle.spindle_rounds.specs.declared.round_table.view.Standing.TheVariants.{Away, Inside, Waiting, Closing}
 use Rattle.spindle_rounds.specs.declared.round_table.view.View.{View}
 use Rattle.spindle_rounds.specs.RoundSlots.{Discipline, Lawful}
-use Rattle.spindle_rounds.specs.RoundRule.{Shows, Words, Laid, stored_at}
+use Rattle.spindle_rounds.specs.RoundRule.{Laid, stored_at}
+use Rattle.spindle_rounds.specs.RoundShown.{Shows, Words}
 use Rattle.spindle_rounds.specs.Words.{finished_at, remainder_at, range_at, start_of, end_of}
 use Rattle.spindle_rounds.specs.RoundSteps.{reading, searching, reading_remainder}
 use Rattle.spindle_rounds.specs.Leftovers.{is_between, finding, FindTells, FindRestTells}

@@ -14,7 +14,7 @@ use Rattle.spindle_parts.specs.Runs.{state}
 use Rattle.spindle_parts.proofs.Soundness.{Sound, sound, no_closer}
 use Rattle.spindle_rounds.specs.declared.round_table.view.View.{View}
 use Rattle.spindle_rounds.specs.RoundSlots.{Discipline, Lawful}
-use Rattle.spindle_rounds.specs.RoundRule.{number_of, Stands, Knows, Shows, Counters, InRange, InRemainder, home_of, IsListed, IsEmptied}
+use Rattle.spindle_rounds.specs.RoundShown.{number_of, Stands, Knows, Shows, Counters, InRange, InRemainder, home_of, IsListed, IsEmptied}
 use Rattle.spindle_rounds.specs.Words.{barrier_at, published_at, remainder_at, range_at, high_half, most_jobs}
 use Rattle.spindle_rounds.specs.RoundSteps.{loading, learning, list_empty, reading, searching, reading_remainder}
 use Rattle.spindle_rounds.specs.RoundTells.{LoadTells, LearnTells, SearchTells, RemainderReadTells, RecallTells}

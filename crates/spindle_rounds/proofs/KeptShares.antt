@@ -11,7 +11,7 @@ use Rattle.spindle_parts.proofs.Parties.{put_here, put_else, put_all, look_here,
 use Rattle.spindle_parts.proofs.Soundness.{Sound, sound}
 use Rattle.spindle_rounds.specs.declared.round_table.view.View.{View}
 use Rattle.spindle_rounds.specs.RoundSlots.{Discipline, Lawful, Begins}
-use Rattle.spindle_rounds.specs.RoundRule.{Began, deeds, Stands, Words, home_of}
+use Rattle.spindle_rounds.specs.RoundShown.{Began, deeds, Stands, Words, home_of}
 use Rattle.spindle_rounds.specs.Words.{finished_at, stopped_at, remainder_at, range_at}
 use Rattle.spindle_rounds.specs.RoundSteps.{round_of, sharing}
 use Rattle.spindle_rounds.specs.RoundTells.{ShareTells}

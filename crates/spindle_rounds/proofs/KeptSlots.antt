@@ -20,7 +20,7 @@ use Rattle.spindle_rounds.specs.declared.round_table.view.Kind.{Kind}
 use Rattle.spindle_rounds.specs.declared.round_table.view.Kind.TheVariants as kind
 use Rattle.spindle_rounds.specs.declared.round_table.view.Standing.TheVariants.{Inside}
 use Rattle.spindle_rounds.specs.RoundSlots.{Discipline, Lawful, AtRest, HasFinished, spot_at}
-use Rattle.spindle_rounds.specs.RoundRule.{deed_of, Showed, deeds_of, Stands, Words}
+use Rattle.spindle_rounds.specs.RoundShown.{deed_of, Showed, deeds_of, Stands, Words}
 use Rattle.spindle_rounds.specs.RoundSteps.{noted, round_of}
 use Rattle.spindle_rounds.specs.SlotSteps.{numbered, board_out, board_back, IsDeed, IsSure, TakeOutTells, taking_out, GiveBackTells, giving_back}
 use Rattle.spindle_rounds.specs.RoundConditions.{MayTakeOut, MayPutAll, MayGiveBack}

@@ -3,7 +3,7 @@ use Rattle.std.proofs.Common.{◌≡◌, ◌⊎◌, inl, inr, ⊎_elim, ℕ, ◌
 use Rattle.std.proofs.Common.{get_or-set_same, get_or-set_other, sym, refl, ap, subst, arith, if◌then◌else◌, nat_lt}
 use Rattle.spindle_parts.specs.EverySchedule.{only}
 use Rattle.spindle_rounds.specs.RoundSlots.{Discipline, Lawful}
-use Rattle.spindle_rounds.specs.RoundRule.{InRange, InRemainder, IsWithin}
+use Rattle.spindle_rounds.specs.RoundShown.{InRange, InRemainder, IsWithin}
 use Rattle.spindle_rounds.specs.Words.{remainder_at, range_at, high_half, start_of, end_of, length_of, range_word}
 use Rattle.spindle_rounds.specs.RoundSteps.{half_of, stolen_from, stealing, claiming_remainder, number_or}
 use Rattle.spindle_rounds.specs.RoundTells.{StealTells, RemainderClaimTells}

@@ -16,7 +16,7 @@ use Rattle.spindle_rounds.specs.declared.round_table.view.Kind.{Kind}
 use Rattle.spindle_rounds.specs.declared.round_table.view.Standing.TheVariants.{Inside}
 use Rattle.spindle_rounds.specs.declared.round_table.view.View.{View}
 use Rattle.spindle_rounds.specs.RoundSlots.{Discipline, Lawful}
-use Rattle.spindle_rounds.specs.RoundRule.{deeds, Stands, Shows, IsShare, Words, Counters, InRange, InRemainder, IsWithin}
+use Rattle.spindle_rounds.specs.RoundShown.{deeds, Stands, Shows, IsShare, Words, Counters, InRange, InRemainder, IsWithin}
 use Rattle.spindle_rounds.specs.Words.{finished_at, stopped_at, remainder_at, range_at, start_of, end_of}
 use Rattle.spindle_rounds.specs.RoundSteps.{stopping, seeing, putting_back}
 use Rattle.spindle_rounds.specs.RoundTells.{StopTells, SeeTells, PutBackTells}

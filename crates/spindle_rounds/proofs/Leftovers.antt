@@ -13,7 +13,8 @@ use Rattle.spindle_parts.specs.declared.trail.Trace.{Trace}
 use Rattle.spindle_parts.specs.Trail.{trace}
 use Rattle.spindle_rounds.specs.RoundSteps.{searching, reading_remainder}
 use Rattle.spindle_rounds.specs.RoundSlots.{Discipline}
-use Rattle.spindle_rounds.specs.RoundRule.{Showed, deeds_of, stored_at, IsLeft, InRange, InRemainder, IsWithin}
+use Rattle.spindle_rounds.specs.RoundRule.{stored_at}
+use Rattle.spindle_rounds.specs.RoundShown.{Showed, deeds_of, IsLeft, InRange, InRemainder, IsWithin}
 use Rattle.spindle_rounds.specs.Words.{remainder_at, range_at, start_of, end_of}
 use Rattle.spindle_rounds.specs.RoundConditions.{MayFill}
 use Rattle.spindle_rounds.specs.SlotSteps.{IsDeed}

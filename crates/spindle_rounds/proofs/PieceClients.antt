@@ -1,4 +1,6 @@
 -- What the leader's loops over its slots need: what stands where once all are out, and once they are back.
+-- After `take_slots` all_out says of the board that every slot is out, and numbered_at finds a slot in the hand. published_last makes
+-- HasPublished of the last publish in the trail.
 use Rattle.std.proofs.Common.{◌≡◌, inl, inr, ⊎_elim, ℕ, zero, suc, ◌+◌, ◌<◌, ◌≤◌, false, List, [], ◌∷◌, ◌++◌, length, sym, refl, ap, ◌∙◌, subst, arith}
 use mathlib.Core.Logic.{dite}
 use mathlib.Core.Option.{some, some-injective, some-ne-none}
@@ -11,7 +13,7 @@ use Rattle.spindle_rounds.specs.declared.round_table.view.Spot.TheVariants.{Out,
 use Rattle.spindle_rounds.specs.declared.round_table.pieces.Stand.{Stand}
 use Rattle.spindle_rounds.specs.declared.round_table.pieces.Stand.TheVariants.{Waits}
 use Rattle.spindle_rounds.specs.RoundSlots.{spot_at}
-use Rattle.spindle_rounds.specs.RoundRule.{Deed, Began, Ended, Showed, deeds_of}
+use Rattle.spindle_rounds.specs.RoundShown.{Deed, Began, Ended, Showed, deeds_of}
 use Rattle.spindle_rounds.specs.RoundViews.{shown_of, published_of}
 use Rattle.spindle_rounds.specs.RoundConditions.{MayPutAll}
 use Rattle.spindle_rounds.specs.SlotSteps.{numbered, board_out, board_back, IsDeed, HasPublished, IsSure, TakenOut}

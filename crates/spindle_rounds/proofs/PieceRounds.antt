@@ -8,7 +8,7 @@ use Rattle.spindle_rounds.specs.declared.round_table.view.Spot.TheVariants.{Out}
 use Rattle.spindle_rounds.specs.declared.round_table.view.View.{View}
 use Rattle.spindle_rounds.specs.declared.round_table.pieces.Stand.{Stand}
 use Rattle.spindle_rounds.specs.RoundSlots.{spot_at}
-use Rattle.spindle_rounds.specs.RoundRule.{Deed, Showed}
+use Rattle.spindle_rounds.specs.RoundShown.{Deed, Showed}
 use Rattle.spindle_rounds.specs.RoundSteps.{round_of, unknown, publishing}
 use Rattle.spindle_rounds.specs.RoundConditions.{MayFill, MayPublish, MayTakeOut}
 use Rattle.spindle_rounds.specs.RoundViews.{published_of}

@@ -11,7 +11,7 @@ use Rattle.spindle_parts.proofs.Parties.{put_here, put_else, put_all}
 use Rattle.spindle_parts.proofs.Fates.{started, over, none_begun}
 use Rattle.spindle_parts.proofs.Soundness.{Sound, sound, no_closer}
 use Rattle.spindle_rounds.specs.RoundSlots.{AtRest}
-use Rattle.spindle_rounds.specs.RoundRule.{Deed, Began, Ended, Showed, ended_in, deed, deeds}
+use Rattle.spindle_rounds.specs.RoundShown.{Deed, Began, Ended, Showed, ended_in, deed, deeds}
 use Rattle.spindle_rounds.specs.SlotSteps.{IsDeed}
 use Rattle.spindle_rounds.proofs.RoundMoves.{untrue}
 

@@ -3,7 +3,7 @@ use Rattle.std.proofs.Common.{◌≡◌, ◌≢◌, ℕ, ◌<◌, ◌≤◌, tru
 use Rattle.spindle_parts.specs.State.{State, In, now, party}
 use Rattle.spindle_parts.specs.BarrierWord.{word}
 use Rattle.spindle_parts.proofs.Soundness.{Sound, no_closer}
-use Rattle.spindle_rounds.specs.RoundRule.{Counters, Words, number_of}
+use Rattle.spindle_rounds.specs.RoundShown.{Counters, Words, number_of}
 use Rattle.spindle_rounds.specs.Words.{barrier_at, published_at, finished_at, stopped_at}
 
 -- the word i becomes x, while the number published and the barrier word stay

@@ -1,4 +1,16 @@
--- What the calls of a round leave a party, for the loops of those who call them.
+-- What the calls of a round leave a party, for the loops of those who call them: from a call's clause to what the next call asks,
+-- in the words of `specs/RoundViews.antt` and `specs/RoundConditions.antt`.
+--   published                        number_learned: AtWork; where the word is plain, no stop was seen
+--   fill                             filled_round: MayPublish
+--   publish, publish_try             round_published: AtWork, and one Showed more in the trail
+--   try_claim_own, try_claim_rest    own_claimed, remainder_claimed: AfterClaim; remainder_nothing
+--   try_steal                        stolen: AfterSteal, a number and a share, or every range listed as empty
+--   next_of_share                    share_next, at Some: MayFinish, IsItsShare; at None no step was made
+--   stop, stopped, put_back, left    stop_done, stop_seen, share_put, left_seen
+--   before arrive                    all_empty: IsDone; after a stop `inr (inl seen)`
+-- The invariant of a loop: the seat's `table_id` and `id` are as at the function's entry, Onward from there (`onward_then` of
+-- RoundOnward chains it), and MayClaim, which claims_again gives after a finish, or no claim and IsItsShare. With slots the lemmas are
+-- the same; what a begin did to them is `D.took c m.1 x w.1` in the call's answer.
 use Rattle.std.proofs.Common.{◌≡◌, ◌≢◌, inr, ℕ, ◌+◌, ◌-◌, ◌%◌, ◌<◌, ◌≤◌, Bool, true, false, ◌∷◌, get_or, sym, refl, ap, ◌∙◌, subst, arith, Some, None}
 use Rattle.std.proofs.Common.{if◌then◌else◌, nat_lt}
 use mathlib.Core.Logic.{dite}
@@ -14,7 +26,7 @@ use Rattle.spindle_rounds.specs.declared.round.stopping.PutBack.{PutBack}
 use Rattle.spindle_rounds.specs.declared.round.stopping.PutBack.TheVariants as back
 use Rattle.spindle_rounds.specs.Spans.{Span}
 use Rattle.spindle_rounds.specs.RoundSlots.{Discipline}
-use Rattle.spindle_rounds.specs.RoundRule.{Showed, IsListed}
+use Rattle.spindle_rounds.specs.RoundShown.{Showed, IsListed}
 use Rattle.spindle_rounds.specs.Words.{remainder_at, range_at, high_half, most_jobs, start_of, range_word}
 use Rattle.spindle_rounds.specs.RoundSteps.{round_of, missing, learning, publishing, searching, reading_remainder, recalling, claiming, stealing}
 use Rattle.spindle_rounds.specs.RoundSteps.{claiming_remainder, finishing, stopping, putting_back}

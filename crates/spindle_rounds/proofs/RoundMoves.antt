@@ -25,7 +25,8 @@ use Rattle.spindle_rounds.specs.Words.{barrier_at, finished_at, remainder_at, ra
 use Rattle.spindle_rounds.specs.RoundSteps.{noted, missing}
 use Rattle.spindle_rounds.specs.RoundTells.{Turns, Exchanges, Begun}
 use Rattle.spindle_rounds.specs.RoundSlots.{Discipline, Lawful, SameSlots}
-use Rattle.spindle_rounds.specs.RoundRule.{deed, deeds, deeds_of, Stands, Knows, Shows, InRange, InRemainder, IsLeft, Words, ShownBy, Shown, home_of}
+use Rattle.spindle_rounds.specs.RoundRule.{ShownBy, Shown}
+use Rattle.spindle_rounds.specs.RoundShown.{deed, deeds, deeds_of, Stands, Knows, Shows, InRange, InRemainder, IsLeft, Words, home_of}
 use Rattle.spindle_rounds.specs.RoundRule.{Laid, StandsFor, stored_at}
 use Rattle.spindle_rounds.specs.RoundRuns.{Adds, Exchange}
 use Rattle.spindle_rounds.proofs.RoundQuiet.{AllQuiet, quiet_run}

@@ -10,7 +10,7 @@ use Rattle.spindle_parts.specs.BarrierWord.{word}
 use Rattle.spindle_parts.proofs.Parties.{put_here, put_else, put_all, look_here, look_else, times_same, times_else}
 use Rattle.spindle_parts.proofs.Soundness.{Sound, sound, run_once}
 use Rattle.spindle_rounds.specs.RoundSlots.{Begins}
-use Rattle.spindle_rounds.specs.RoundRule.{Counters, InRange, InRemainder, IsWithin, Words, number_of}
+use Rattle.spindle_rounds.specs.RoundShown.{Counters, InRange, InRemainder, IsWithin, Words, number_of}
 use Rattle.spindle_rounds.proofs.RoundWords.{counts_stay, word_stays}
 use Rattle.spindle_rounds.specs.Words.{barrier_at, published_at, finished_at, stopped_at, remainder_at, range_at, start_of, end_of}
 

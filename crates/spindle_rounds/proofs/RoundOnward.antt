@@ -4,7 +4,7 @@ use Rattle.std.proofs.Common.{arith, Option, Some, None, if◌then◌else◌, na
 use mathlib.Core.Logic.{dite}
 use native.Mathlib.Decide.{ℕ_discrete}
 use Rattle.spindle_rounds.specs.declared.round_table.view.View.{View}
-use Rattle.spindle_rounds.specs.RoundRule.{IsListed}
+use Rattle.spindle_rounds.specs.RoundShown.{IsListed}
 use Rattle.spindle_rounds.specs.Words.{start_of, end_of}
 use Rattle.spindle_rounds.specs.Leftovers.{finding}
 use Rattle.spindle_rounds.specs.RoundSteps.{missing, list_empty, searching, reading_remainder, recalling, beginning, stealing, sharing, finishing, stopping}

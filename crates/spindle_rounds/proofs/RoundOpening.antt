@@ -10,7 +10,8 @@ use Rattle.spindle_parts.specs.Steps.{Event}
 use Rattle.spindle_parts.specs.Runs.{state}
 use Rattle.spindle_rounds.specs.declared.round_table.view.View.{View}
 use Rattle.spindle_rounds.specs.RoundSlots.{Discipline, Lawful}
-use Rattle.spindle_rounds.specs.RoundRule.{Shows, Laid, deeds, deeds_of}
+use Rattle.spindle_rounds.specs.RoundRule.{Laid}
+use Rattle.spindle_rounds.specs.RoundShown.{Shows, deeds, deeds_of}
 use Rattle.spindle_rounds.specs.Words.{barrier_at, published_at, words_of}
 use Rattle.spindle_rounds.specs.RoundSteps.{outsider}
 use Rattle.spindle_rounds.proofs.RoundMoves.{Rule}

@@ -12,7 +12,7 @@ use Rattle.spindle_parts.specs.Runs.{state, IsRun}
 use Rattle.spindle_parts.proofs.Parties.{put_all}
 use Rattle.spindle_parts.proofs.Soundness.{Sound, sound}
 use Rattle.spindle_rounds.specs.declared.round_table.view.View.{View}
-use Rattle.spindle_rounds.specs.RoundRule.{Deed, deed, deeds, deeds_of, ended_in}
+use Rattle.spindle_rounds.specs.RoundShown.{Deed, deed, deeds, deeds_of, ended_in}
 use Rattle.spindle_rounds.specs.RoundTrails.{begun_by, finished_by, told, told_by_all}
 use Rattle.spindle_rounds.proofs.RoundQuiet.{IsQuiet, quiet}
 

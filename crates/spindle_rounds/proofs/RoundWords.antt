@@ -8,7 +8,7 @@ use Rattle.spindle_parts.specs.Steps.{with_status}
 use Rattle.spindle_parts.specs.BarrierWord.{word}
 use Rattle.spindle_parts.proofs.Parties.{look_here, look_else, total_put, inside_le_members}
 use Rattle.spindle_parts.proofs.Soundness.{Sound}
-use Rattle.spindle_rounds.specs.RoundRule.{Counters, InRange, InRemainder, Words, number_of}
+use Rattle.spindle_rounds.specs.RoundShown.{Counters, InRange, InRemainder, Words, number_of}
 use Rattle.spindle_rounds.specs.Words.{barrier_at, published_at, finished_at, stopped_at, remainder_at, range_at, field_size, one_member, sense_bit, high_half}
 use Rattle.spindle_rounds.specs.Words.{start_of, end_of}
 

@@ -1,4 +1,7 @@
 -- A loop over the slots at a leader's hand: its first turn, each turn, its end, and what may be published after it.
+-- Its invariant is `Turning P Q n i` of the hand: P holds of what is left from slot i on, Q of what was put before it. turning_first
+-- begins it, turning_head gives what `swap_slot` and `put_piece` ask, turning_next goes on with their clause `behind`, and turning_last
+-- ends it. After a part of the slots pieces_held gives what `publish_pieces` asks.
 use Rattle.std.proofs.Common.{◌≡◌, ◌⊎◌, inl, inr, ⊎_elim, ℕ, zero, suc, ◌+◌, ◌<◌, ◌≤◌, List, [], ◌∷◌, ◌++◌, length, length-append, sym, refl, ap, ◌∙◌}
 use Rattle.std.proofs.Common.{subst, arith}
 use mathlib.Core.Option.{some, some-injective, some-ne-none}

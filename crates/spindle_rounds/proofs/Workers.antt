@@ -5,7 +5,7 @@ use Rattle.spindle_rounds.specs.declared.round_table.view.Known.{Known}
 use Rattle.spindle_rounds.specs.declared.round_table.view.Standing.{Standing}
 use Rattle.spindle_rounds.specs.declared.round_table.view.Standing.TheVariants.{Inside}
 use Rattle.spindle_rounds.specs.declared.round_table.view.View.{View}
-use Rattle.spindle_rounds.specs.RoundRule.{Showed}
+use Rattle.spindle_rounds.specs.RoundShown.{Showed}
 use Rattle.spindle_rounds.specs.RoundSteps.{unknown, round_of}
 use Rattle.spindle_rounds.specs.RoundViews.{Onward, shown_of, published_of}
 use Rattle.spindle_rounds.specs.Passing.{InNext}

@@ -14,7 +14,8 @@ use Rattle.spindle_rounds.specs.declared.round_table.view.Kind.{Kind}
 use Rattle.spindle_rounds.specs.declared.round_table.view.View.{View}
 use Rattle.spindle_rounds.specs.Words.{remainder_at, range_at}
 use Rattle.spindle_rounds.specs.RoundSlots.{Discipline}
-use Rattle.spindle_rounds.specs.RoundRule.{Showed, deeds_of, IsWithin, stored_at, Shown}
+use Rattle.spindle_rounds.specs.RoundRule.{stored_at, Shown}
+use Rattle.spindle_rounds.specs.RoundShown.{Showed, deeds_of, IsWithin}
 use Rattle.spindle_rounds.specs.RoundSteps.{searching, reading_remainder}
 use Rattle.spindle_rounds.specs.RoundConditions.{MayFill}
 use Rattle.spindle_rounds.specs.RoundTrails.{begun_by, told_by_all}

@@ -1,8 +1,10 @@
--- The definitions that contracts of this crate cite.
+-- The definitions that contracts of this crate cite. SpotPlaces, PiecesStill and PiecesKept are
+-- proofs: they stand here because the law of `Slots` for pieces must cite them.
 pub mod Spans
 pub mod Seating
 pub mod Words
 pub mod RoundSlots
+pub mod RoundShown
 pub mod RoundRule
 pub mod RoundSteps
 pub mod RoundTells
@@ -14,6 +16,7 @@ pub mod PiecesKept
 pub mod RoundConditions
 pub mod RoundRuns
 pub mod RoundTrails
+pub mod Headline
 pub mod RoundAnswers
 pub mod RoundViews
 pub mod Seats

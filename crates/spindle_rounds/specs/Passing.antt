@@ -12,7 +12,7 @@ use Rattle.spindle_rounds.specs.declared.round_table.view.Standing.TheVariants.{
 use Rattle.spindle_rounds.specs.declared.round_table.view.Kind.{Kind}
 use Rattle.spindle_rounds.specs.declared.round_table.view.Known.{Known}
 use Rattle.spindle_rounds.specs.declared.round_table.view.View.{View}
-use Rattle.spindle_rounds.specs.RoundRule.{deeds_of}
+use Rattle.spindle_rounds.specs.RoundShown.{deeds_of}
 use Rattle.spindle_rounds.specs.RoundSteps.{round_of, unknown}
 use Rattle.spindle_rounds.specs.RoundAnswers.{JoinedBy, ArrivedBy, LookedBy, LeftBy, ExitedBy}
 

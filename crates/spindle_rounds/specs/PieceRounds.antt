@@ -7,7 +7,7 @@ use Rattle.spindle_rounds.specs.declared.round_table.view.Spot.TheVariants.{Out}
 use Rattle.spindle_rounds.specs.declared.round_table.view.View.{View}
 use Rattle.spindle_rounds.specs.declared.round_table.pieces.Stand.{Stand}
 use Rattle.spindle_rounds.specs.RoundSlots.{spot_at}
-use Rattle.spindle_rounds.specs.RoundRule.{Showed}
+use Rattle.spindle_rounds.specs.RoundShown.{Showed}
 use Rattle.spindle_rounds.specs.RoundSteps.{round_of}
 use Rattle.spindle_rounds.specs.RoundConditions.{MayPutAll, IsFreeInside, IsDone}
 use Rattle.spindle_rounds.specs.RoundViews.{SharesAsBefore, published_of}

@@ -9,7 +9,8 @@ use Rattle.spindle_rounds.specs.declared.round_table.view.View.{View}
 use Rattle.spindle_rounds.specs.declared.round_table.view.Spot.{Spot}
 use Rattle.spindle_rounds.specs.Spans.{Span}
 use Rattle.spindle_rounds.specs.RoundSlots.{Discipline, spot_at}
-use Rattle.spindle_rounds.specs.RoundRule.{IsListed, IsFilled}
+use Rattle.spindle_rounds.specs.RoundRule.{IsFilled}
+use Rattle.spindle_rounds.specs.RoundShown.{IsListed}
 
 -- a member that hasn't arrived, has nothing to finish and no number left in its share
 abbrev pub IsFreeInside : {N : Type 0} → View N → Type 0

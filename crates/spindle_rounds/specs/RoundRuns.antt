@@ -103,7 +103,7 @@ module _ {S N : Type 0} (D : Discipline S N) (t slots id : ℕ) (me : Me S (View
         → start_of range < end_of range → MayClaim me.0 → let k : ℕ = stolen_from range in
         Exchange (range_at i) range (range_word (start_of range) k)
         (claim_of id k (last_half range)) (tells.StealTells D)
-    -- the last number of the remainder
+    -- the first number left of the remainder
     pub claim_remainder : (left : ℕ) → 0 < left → MayClaim me.0
         → let k : ℕ = number_or me.0.known.number - left in
         Exchange remainder_at left (left - 1) (claim_of id k (only k)) (tells.RemainderClaimTells D)

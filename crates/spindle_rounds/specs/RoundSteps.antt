@@ -16,7 +16,7 @@ use Rattle.spindle_rounds.specs.Words.{barrier_at, published_at, finished_at, st
 use Rattle.spindle_rounds.specs.Words.{remainder_at, range_at, one_member, one_party, sense_bit}
 use Rattle.spindle_rounds.specs.Words.{high_half, most_jobs, count_of, most_of, sense_of, start_of}
 use Rattle.spindle_rounds.specs.Words.{end_of, length_of, range_word}
-use Rattle.spindle_rounds.specs.RoundRule.{number_of}
+use Rattle.spindle_rounds.specs.RoundShown.{number_of}
 
 -- the round in which a party stands
 abbrev pub round_of : Standing → ℕ
@@ -246,7 +246,7 @@ stealing i found x v =
       to = end_of found;
     }
 
--- after the last number of the remainder was claimed, of n jobs
+-- after the first number left of the remainder was claimed, of n jobs
 abbrev pub claiming_remainder : {N : Type 0} → ℕ → ℕ → Option N → View N → View N
 claiming_remainder n found x v = beginning remainder_at (n - found) found (found - 1) x v
 

@@ -9,7 +9,8 @@ use Rattle.spindle_parts.specs.Runs.{state}
 use Rattle.spindle_parts.specs.EveryRun.{RunLaws}
 use Rattle.spindle_rounds.specs.declared.round_table.view.View.{View}
 use Rattle.spindle_rounds.specs.RoundSlots.{Discipline}
-use Rattle.spindle_rounds.specs.RoundRule.{Deed, Began, Ended, deeds, deeds_of, Shows, Words, Shown}
+use Rattle.spindle_rounds.specs.RoundRule.{Shown}
+use Rattle.spindle_rounds.specs.RoundShown.{Deed, Began, Ended, deeds, deeds_of, Shows, Words}
 
 -- the number that began in round r by this deed, if it is such a deed
 abbrev pub begun_by : ℕ → Deed → List ℕ

@@ -9,7 +9,7 @@ use Rattle.spindle_rounds.specs.declared.round.claim.Claim.{Claim}
 use Rattle.spindle_rounds.specs.declared.round.claim.Claim.TheVariants as claim
 use Rattle.spindle_rounds.specs.declared.round.claim.Steal.{Steal}
 use Rattle.spindle_rounds.specs.declared.round.claim.Steal.TheVariants as steal
-use Rattle.spindle_rounds.specs.RoundRule.{Deed, Showed, deeds_of, IsListed}
+use Rattle.spindle_rounds.specs.RoundShown.{Deed, Showed, deeds_of, IsListed}
 use Rattle.spindle_rounds.specs.RoundConditions.{MayClaim, MayFinish, IsItsShare}
 
 -- the publishes among deeds

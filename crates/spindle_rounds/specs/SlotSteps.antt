@@ -9,7 +9,7 @@ use Rattle.spindle_rounds.specs.declared.round_table.view.View.{View}
 use Rattle.spindle_rounds.specs.declared.round_table.view.Spot.{Spot}
 use Rattle.spindle_rounds.specs.declared.round_table.view.Spot.TheVariants.{Out, Filled}
 use Rattle.spindle_rounds.specs.RoundSlots.{Discipline, spot_at}
-use Rattle.spindle_rounds.specs.RoundRule.{Deed, Showed, deeds_of}
+use Rattle.spindle_rounds.specs.RoundShown.{Deed, Showed, deeds_of}
 use Rattle.spindle_rounds.specs.Words.{published_at}
 use Rattle.spindle_rounds.specs.RoundSteps.{noted, round_of}
 
@@ -69,6 +69,5 @@ module _ {S N : Type 0} (D : Discipline S N) where
       (record v { board = board_back (round_of v.standing) c v.board })
 
   -- the leader gives back every slot that it holds
-  -- giving back what it holds
   abbrev pub GiveBackTells : Step S → Me S (View N) → ℕ → Me S (View N) → Type 0
   GiveBackTells st m found m' = m' ≡ (giving_back found m.1 m.0, [])

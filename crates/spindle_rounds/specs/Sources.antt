@@ -11,7 +11,7 @@ use Rattle.spindle_rounds.specs.declared.round.source.Taken.{Taken}
 use Rattle.spindle_rounds.specs.declared.round.source.Taken.TheVariants.{Job, Nothing, Again}
 use Rattle.spindle_rounds.specs.declared.round_table.view.View.{View}
 use Rattle.spindle_rounds.specs.RoundConditions.{MayClaim, MayFinish, IsItsShare}
-use Rattle.spindle_rounds.specs.RoundRule.{IsListed}
+use Rattle.spindle_rounds.specs.RoundShown.{IsListed}
 use Rattle.spindle_rounds.specs.RoundSlots.{Discipline}
 use Rattle.spindle_rounds.specs.RoundViews.{Onward, SeesAsBefore}
 use Rattle.spindle_rounds.specs.Spans.{Span}

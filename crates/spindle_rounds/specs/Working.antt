@@ -2,7 +2,7 @@
 use Rattle.std.specs.Prelude.{◌≡◌, ℕ, ◌+◌, ◌≤◌, ◌∷◌, Bool, false, None}
 use Rattle.spindle_rounds.specs.declared.round_table.view.View.{View}
 use Rattle.spindle_rounds.specs.declared.round_table.view.Standing.TheVariants.{Inside}
-use Rattle.spindle_rounds.specs.RoundRule.{Showed}
+use Rattle.spindle_rounds.specs.RoundShown.{Showed}
 use Rattle.spindle_rounds.specs.RoundSteps.{round_of}
 use Rattle.spindle_rounds.specs.RoundViews.{AtWork, published_of}
 

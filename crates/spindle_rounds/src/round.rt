@@ -1,5 +1,5 @@
 //! The round of a lock: the leader publishes numbered jobs, and every party claims numbers and finishes them.
-ghost use Rattle.std.specs.Prelude.{◌≡◌, ◌≤◌, [], true, IfOk, OnErr, IsErrOf};
+ghost use Rattle.std.specs.Prelude.{◌≡◌, ◌<◌, ◌≤◌, [], true, IfOk, OnErr, IsErrOf};
 ghost use Rattle.spindle_rounds.specs.RoundSteps.{outsider};
 ghost use Rattle.spindle_rounds.specs.Seating.{IsSeatAt};
 
@@ -24,11 +24,11 @@ pub mod stealing;
 pub mod stopping;
 pub mod task;
 
-/// The rounds of a table, with the barrier that ends them.
+/// The rounds of a table with a range for each thread, and the barrier that ends them.
 #[derive(Drop)]
 pub struct Round<D: Slots> {
-    /// The barrier that parties join.
-    pub init: BarrierInit<D>,
+    init: BarrierInit<D>,
+    ghost ranges: { 0 < init.threads },
 }
 
 impl Round<Bare> {

@@ -1,4 +1,7 @@
 //! Rounds played by one thread, with the words of the table beside them.
+//!
+//! Each call of `Round` says which step it made of the words that it found. These rows show what no clause says: what the calls find
+//! where nobody else steps, and that the machine answers alike.
 ghost use Rattle.std.specs.Prelude.{◌≤◌};
 ghost use Rattle.spindle_rounds.specs.RoundConditions.{MayClaim};
 ghost use Rattle.spindle_rounds.specs.Seating.{IsSeatAt, IsSameSeat};
@@ -8,33 +11,16 @@ use crate::checks::{holds, is};
 use spindle_parts::fault::Fault;
 use spindle_rounds::round::Round;
 use spindle_rounds::round::stopping::PutBack;
+use spindle_rounds::round_table::pieces::{Answers, Pieces};
 use spindle_rounds::round_table::slots::Bare;
 use spindle_rounds::round_table::{APART, PUBLISHED, RANGES, REMAINDER, STOPPED, Seat};
 use std::test::Fail;
 
 mod coming_and_going;
-mod counts;
-mod helping;
-mod leading;
 mod lines;
 mod play;
 mod scripts;
-mod slot_threads;
-mod slots;
 mod stages;
-mod threads;
-mod turns;
-
-#[test]
-fn a_published_round_is_claimed_from_the_front_of_a_range(rt: HostRuntime) -> Result<(), Fail> {
-    let (round, seat) = Round::new(rt.alloc(), 4)?;
-    let mut leader = enter(&rt, &round, seat, 0);
-    let seat = leader.seat();
-    lead(&round, seat, 10);
-    is(&rt, word(&round, PUBLISHED), 10);
-    is(&rt, own(&round, seat, 1), Some(2));
-    Ok(())
-}
 
 /// The ranges of ten jobs on four threads, of two jobs each.
 const RANGES_OF_TEN: (u64, u64, u64, u64) = (
@@ -72,6 +58,7 @@ fn a_round_of_ten_jobs_on_four_threads(rt: HostRuntime) -> Result<(), Fail> {
     let mut leader = enter(&rt, &round, seat, 0);
     let seat = leader.seat();
     lead(&round, seat, 10);
+    is(&rt, word(&round, PUBLISHED), 10);
     is(&rt, ranges_of_four(&round), RANGES_OF_TEN);
     is(&rt, word(&round, REMAINDER), 2);
     let owned = (
@@ -168,11 +155,33 @@ fn a_share_goes_back_into_an_empty_range(rt: HostRuntime) -> Result<(), Fail> {
     Ok(())
 }
 
-/// It ends well whichever allocation is refused.
 #[test]
 fn refused_round_is_no_table(rt: HostRuntime) {
     for threads in [1, 4, 32767] {
         match Round::new(rt.alloc(), threads) {
+            Ok((round, _seat)) => is(&rt, round.init().current_num_threads(), 0),
+            Err(fault) => holds(&rt, matches!(fault, Fault::Memory)),
+        }
+    }
+}
+
+/// Pieces that are numbers, each answered by twice the number.
+struct Twice;
+
+impl Answers for Twice {
+    ghost use Rattle.std.specs.Prelude.{◌≡◌, ◌*◌};
+
+    type Piece = u32;
+
+    type Answer = u64;
+
+    ghost answers = { λ x y. y ≡ x * 2 };
+}
+
+#[test]
+fn refused_slots_are_no_table(rt: HostRuntime) {
+    for slots in [1, 11, 1000] {
+        match Round::<Pieces<Twice>>::with_slots(rt.alloc(), 3, slots) {
             Ok((round, _seat)) => is(&rt, round.init().current_num_threads(), 0),
             Err(fault) => holds(&rt, matches!(fault, Fault::Memory)),
         }

@@ -34,7 +34,7 @@ impl<D: Slots> Round<D> {
         }
     }
 
-    /// Claims the last number of the remainder.
+    /// Claims the first number left of the remainder.
     pub fn try_claim_rest(&self, seat: &mut Seat<D>) -> Claim
         requires seated { IsSeatAt self.now.init seat.old }
         requires free { MayClaim seat.old.me.0 }
@@ -47,6 +47,7 @@ impl<D: Slots> Round<D> {
         if rest == 0 {
             return Claim::Nothing;
         }
+        // A seat has no bytes to keep the number of jobs in, so it is read again.
         let jobs = words.load::<Recalls>(seat, PUBLISHED) % HIGH;
         let found = words.compare_exchange::<ClaimsRemainder<D>>(seat, REMAINDER, rest, rest - 1);
         if found == rest {

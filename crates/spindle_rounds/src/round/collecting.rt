@@ -60,7 +60,6 @@ impl<A: Answers> Round<Pieces<A>> {
         requires seated { IsSeatAt self.now.init seat.old }
         requires pieces { HoldsPieces A.answers jobs seat.old.me }
         requires counted { (2 ≤ jobs) × (jobs ≤ 4294967295) }
-        requires ranges { 0 < self.now.init.threads }
         ensures seat { IsSameSeat seat.old seat.new }
         ensures published { PublishedPieces A.answers jobs seat.old.me seat.new.me }
     {
@@ -78,7 +77,6 @@ impl<A: Answers> Round<Pieces<A>> {
             seat.old.me.1 }
         requires out { (k : ℕ) → k < slots_of self.now.init → spot_at seat.old.me.0.board k ≡ Out }
         requires counted { (2 ≤ jobs) × (jobs ≤ 4294967295) }
-        requires ranges { 0 < self.now.init.threads }
         ensures seat { IsSameSeat seat.old seat.new }
         ensures published { PublishedPieces A.answers jobs seat.old.me seat.new.me }
     {

@@ -12,10 +12,17 @@ use crate::round_table::plays::Finishes;
 use crate::round_table::slots::{Bare, Slots};
 use crate::round_table::{FINISHED, Seat};
 
-/// A piece of a round, of which the round knows its number alone.
+/// A piece of a round that was run. The round knows its number, and that its outputs answer its inputs.
 pub trait Numbered {
     /// The number of the piece.
     ghost number: { Self → ℕ };
+
+    /// Its outputs answer its inputs, as its kind of job asks.
+    ghost answered: { Self → Type 0 };
+
+    /// Tells this of a piece: each one of the type is answered.
+    fn tell_answered(&self)
+        ensures { answered self.now };
 }
 
 impl<D: Slots> Round<D> {
@@ -37,8 +44,8 @@ impl<D: Slots> Round<D> {
 }
 
 impl Round<Bare> {
-    /// Finishes the job that the seat has claimed, whose piece was run, and answers how many jobs of the round were finished
-    /// before. Who finishes the last one knows that nothing is left.
+    /// Finishes the job that the seat has claimed, whose piece was run: its outputs answer its inputs. Answers how many jobs of
+    /// the round were finished before. Who finishes the last one knows that nothing is left.
     pub fn finish<P: Numbered>(&self, seat: &mut Seat<Bare>, claimed: Claimed, piece: &P) -> u64
         requires seated { IsSeatAt self.now.init seat.old }
         requires own { MayFinish claimed seat.old.me.0 }
@@ -46,8 +53,9 @@ impl Round<Bare> {
         ensures seat { IsSameSeat seat.old seat.new }
         ensures step { seat.new.me ≡ (finishing result seat.old.me.0, seat.old.me.1) }
         ensures finished { HasFinished result seat.old.me.0 seat.new.me.0 }
+        ensures answered { P.answered piece.now }
     {
-        let _piece = piece;
+        piece.tell_answered();
         self.count_finished(seat, claimed)
     }
 }

@@ -2,7 +2,7 @@
 ghost use Rattle.std.specs.Prelude.{◌≡◌, ◌⊎◌, ◌↔◌, ℕ, Bool, ◌<◌, ◌≤◌, length, Some};
 ghost use Rattle.spindle_rounds.specs.Leftovers.{EveryLeftover, AreUnbegun, IsFoundLeft, IsMarked};
 ghost use Rattle.spindle_rounds.specs.RoundConditions.{MayFill};
-ghost use Rattle.spindle_rounds.specs.RoundRule.{Showed, deeds_of};
+ghost use Rattle.spindle_rounds.specs.RoundShown.{Showed, deeds_of};
 ghost use Rattle.spindle_rounds.specs.RoundViews.{Onward, SharesAsBefore};
 ghost use Rattle.spindle_rounds.specs.SlotSteps.{IsDeed};
 ghost use Rattle.spindle_rounds.specs.Seating.{IsSeatAt, IsSameSeat};

@@ -7,7 +7,8 @@
 //! What is done with a number is a `Work`. Its `holds` is what is true between two numbers, of the work and of the slots
 //! in the seat's hands; `keeps` is what stays the same from one number to the next. A work may stop the round in which it
 //! runs (`party.task.may_stop`), and what its claim took from the slots stands in the clause `taken`. A table without
-//! slots takes nothing, and a work that has nothing to say writes `Unit {0}` for both.
+//! slots takes nothing, and a work that has nothing to say writes `Unit {0}` for both. A work goes to `Party::work` by value
+//! and comes back; nothing is known afterwards of what it borrowed, so a ghost field keeps what is needed of that.
 //!
 //! Who calls `Party::work` has a seat that is on the round's task (`IsAtTask`), with nothing claimed and no share, and
 //! afterwards one that may arrive: the clauses `idle` and `done` are what `Barrier::arrive` asks.

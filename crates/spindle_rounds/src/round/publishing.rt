@@ -1,5 +1,5 @@
 //! The leader's part of a round, and the published word.
-ghost use Rattle.std.specs.Prelude.{◌≡◌, ◌<◌, ◌≤◌, true, false};
+ghost use Rattle.std.specs.Prelude.{◌≡◌, ◌≤◌, true, false};
 ghost use Rattle.spindle_rounds.specs.RoundAnswers.{FilledBy};
 ghost use Rattle.spindle_rounds.specs.RoundSteps.{learning, publishing};
 ghost use Rattle.spindle_rounds.specs.RoundConditions.{MayFill, MayPublish};
@@ -25,7 +25,6 @@ impl<D: Slots> Round<D> {
         requires seated { IsSeatAt self.now.init seat.old }
         requires leads { MayFill seat.old.me.0 }
         requires counted { (2 ≤ jobs) × (jobs ≤ 4294967295) }
-        requires ranges { 0 < self.now.init.threads }
         ensures seat { IsSameSeat seat.old seat.new
             × (seat.new.me.1 ≡ seat.old.me.1) }
         ensures filled { FilledBy self.now.init.threads jobs seat.old.me.0 seat.new.me.0 }
@@ -47,7 +46,6 @@ impl<D: Slots> Round<D> {
         requires seated { IsSeatAt self.now.init seat.old }
         requires leads { MayPublish D.discipline self.now.init.threads jobs seat.old.me.0 }
         requires counted { (2 ≤ jobs) × (jobs ≤ 4294967295) }
-        requires ranges { 0 < self.now.init.threads }
         ensures seat { IsSameSeat seat.old seat.new }
         ensures step { seat.new.me ≡ (publishing false jobs seat.old.me.0, seat.old.me.1) }
     {
@@ -62,7 +60,6 @@ impl<D: Slots> Round<D> {
         requires seated { IsSeatAt self.now.init seat.old }
         requires leads { MayPublish D.discipline self.now.init.threads jobs seat.old.me.0 }
         requires counted { (2 ≤ jobs) × (jobs ≤ 4294967295) }
-        requires ranges { 0 < self.now.init.threads }
         ensures seat { IsSameSeat seat.old seat.new }
         ensures step { seat.new.me ≡ (publishing true jobs seat.old.me.0, seat.old.me.1) }
     {

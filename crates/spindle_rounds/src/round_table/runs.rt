@@ -5,15 +5,32 @@
 //! shows a run of the model, and the laws of every run hold of it.
 ghost use Rattle.spindle_rounds.specs.RoundRuns.{EveryStep};
 ghost use Rattle.spindle_rounds.specs.RoundTrails.{EveryMoment};
+ghost use Rattle.spindle_rounds.specs.Headline.{Headline};
 
 use crate::round_table::slots::Slots;
+use spindle_parts::numbers::numbers_differ;
+use spindle_parts::requests::books_balance;
 use spindle_parts::steps::every_run;
+
+/// The headline: what runs, steps, moments, thread numbers and the books of a lock promise, in one record.
+pub fn headline<D: Slots>()
+    ensures { Headline D.discipline }
+{
+    every_run();
+    every_step::<D>();
+    every_moment::<D>();
+    numbers_differ();
+    books_balance();
+}
 
 /// What each kind of step adds to the run that a table shows, whatever run that is.
 ///
 /// A store to fill, a load that sees no stop, the leader's taking out and giving back of slots, and
 /// an exchange that finds another value add nothing; a claim adds a take and a begin; the share
 /// store adds a begin, and every other step the one event of its name.
+///
+/// There is no other kind: outside this crate nobody reaches the words of a table, since the field `table` of
+/// `BarrierInit` and the kinds in `plays` are the crate's own.
 pub fn every_step<D: Slots>()
     ensures { EveryStep D.discipline }
 {}

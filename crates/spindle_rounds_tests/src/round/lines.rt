@@ -12,7 +12,7 @@ use spindle_rounds::barrier::Barrier;
 use spindle_rounds::barrier::leaving::Exit;
 use spindle_rounds::round::Round;
 use spindle_rounds::round_table::slots::Bare;
-use spindle_rounds::round_table::{BARRIER, Seat};
+use spindle_rounds::round_table::{BARRIER, PUBLISHED, Seat};
 use std::alloc::Global;
 use std::process::Abort;
 
@@ -95,18 +95,32 @@ fn visit(
     guest
 }
 
+/// Where a guest visits, it does so between two lines.
+pub fn receive(rt: &impl Abort, beside: &mut Beside, round: &Round<Bare>, expected: u64)
+    requires guest { IfSome beside.old.guest (λ s. IsOut round.now false s) }
+    ensures guest { IfSome beside.new.guest (λ s. IsOut round.now false s) }
+{
+    let Some(guest) = beside.guest.take() else {
+        return;
+    };
+    let guest = visit(rt, &mut beside.machine, round, guest, expected);
+    beside.guest = Some(guest);
+}
+
 /// A line of a script, and then a guest where one visits.
 pub fn line(rt: &impl Abort, beside: &mut Beside, round: &Round<Bare>, said: Said)
     requires guest { IfSome beside.old.guest (λ s. IsOut round.now false s) }
     ensures guest { IfSome beside.new.guest (λ s. IsOut round.now false s) }
 {
     show(rt, &mut beside.machine, round, said);
-    let Some(guest) = beside.guest.take() else {
-        return;
-    };
     let (_step, expected, _job) = said;
-    let guest = visit(rt, &mut beside.machine, round, guest, expected);
-    beside.guest = Some(guest);
+    receive(rt, beside, round, expected);
+}
+
+/// The closer has cleared, which leaves the barrier word, and no number published.
+pub fn show_cleared(rt: &impl Abort, machine: &mut Machine, round: &Round<Bare>, said: Said) {
+    show(rt, machine, round, said);
+    is(rt, word(round, PUBLISHED), 0);
 }
 
 /// A party that is out joins.

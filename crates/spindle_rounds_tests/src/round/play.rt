@@ -27,6 +27,10 @@ pub struct Empty {
 
 impl Numbered for Empty {
     ghost number = { λ piece. piece.number };
+
+    ghost answered = { λ piece. Unit {0} };
+
+    fn tell_answered(&self) {}
 }
 
 /// A party that is out joins.

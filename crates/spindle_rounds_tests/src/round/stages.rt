@@ -4,7 +4,7 @@ ghost use Rattle.spindle_rounds.specs.Holding.{IsHeld};
 ghost use Rattle.spindle_rounds.specs.Parties.{IsOut, IsIn};
 ghost use Rattle.spindle_rounds.specs.RoundConditions.{MayFill, MayClaim, MayArrive, MayExit};
 
-use super::lines::{Beside, ONE, TWO, join, line, show};
+use super::lines::{Beside, ONE, TWO, join, line, receive, show, show_cleared};
 use super::scripts::{begin, find_nothing_left, finish, learn, publish_two};
 use crate::checks::{holds, is};
 use spindle_parts::steps::Step::{
@@ -72,9 +72,18 @@ pub fn help(rt: &impl Abort, beside: &mut Beside, round: &Round<Bare>, one: &mut
     assert!(rt; learn(round, one));
     let claimed = begin(rt, round, one);
     line(rt, beside, round, (Rest(1), TWO, Some(0)));
-    let machine = &mut beside.machine;
-    is(rt, machine.step(Leaves(1)), Reply::Refused(Why::NotWaiting));
-    is(rt, machine.step(Exits(1)), Reply::Refused(Why::Holding));
+    is(
+        rt,
+        beside.machine.step(Leaves(1)),
+        Reply::Refused(Why::NotWaiting),
+    );
+    receive(rt, beside, round, TWO);
+    is(
+        rt,
+        beside.machine.step(Exits(1)),
+        Reply::Refused(Why::Holding),
+    );
+    receive(rt, beside, round, TWO);
     is(rt, finish(round, one, claimed), 0);
     line(rt, beside, round, (Finish(1), TWO, None));
 }
@@ -174,7 +183,7 @@ pub fn arrive_and_close(
     );
     is(rt, machine.step(Join(1)), Reply::Refused(Why::Closing));
     zero.clear();
-    show(rt, machine, round, (Clear(0), 0x0001_0000, None));
+    show_cleared(rt, machine, round, (Clear(0), 0x0001_0000, None));
     holds(rt, matches!(zero.end(), AfterEnd::Next(_)));
     show(rt, machine, round, (End(0), 0x8001_0001, None));
 }
@@ -192,7 +201,7 @@ pub fn exit_and_close(rt: &impl Abort, beside: &mut Beside, round: &Round<Bare>,
     is(rt, machine.step(Leaves(0)), Reply::Refused(Why::Closing));
     is(rt, machine.step(Exits(1)), Reply::Refused(Why::NotIn));
     one.clear();
-    show(rt, machine, round, (Clear(1), 0x0001_0000, None));
+    show_cleared(rt, machine, round, (Clear(1), 0x0001_0000, None));
     holds(rt, matches!(one.end(), AfterEnd::Gone(_)));
     show(rt, machine, round, (End(1), 0x8001_0001, None));
 }

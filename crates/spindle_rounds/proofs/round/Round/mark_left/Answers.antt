@@ -1,6 +1,7 @@
 -- Each word is read once, and what stands there is marked.
 use Rattle.std.proofs.Common.{rules, arith, ◌≡◌, ◌↔◌, ⊎_elim, inl, inr, ◌∙◌, ℕ, ◌+◌, ◌<◌, ◌≤◌, ap, sym, subst, refl, length}
-use Rattle.spindle_rounds.specs.RoundRule.{Showed, deeds_of, stored_at}
+use Rattle.spindle_rounds.specs.RoundRule.{stored_at}
+use Rattle.spindle_rounds.specs.RoundShown.{Showed, deeds_of}
 use Rattle.spindle_rounds.specs.RoundConditions.{MayFill}
 use Rattle.spindle_rounds.specs.SlotSteps.{IsDeed}
 use Rattle.spindle_rounds.specs.Leftovers.{AreKnown, IsLeftBy, IsMarked, last_left}

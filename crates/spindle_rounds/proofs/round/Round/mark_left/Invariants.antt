@@ -1,6 +1,7 @@
 -- The ranges of the first threads are known, and their numbers marked.
 use Rattle.std.proofs.Common.{◌≡◌, length}
-use Rattle.spindle_rounds.specs.RoundRule.{stored_at, deeds_of}
+use Rattle.spindle_rounds.specs.RoundRule.{stored_at}
+use Rattle.spindle_rounds.specs.RoundShown.{deeds_of}
 use Rattle.spindle_rounds.specs.RoundViews.{Onward, SharesAsBefore}
 use Rattle.spindle_rounds.specs.Leftovers.{last_left}
 use Rattle.spindle_rounds.proofs.Leftovers.{Found}
