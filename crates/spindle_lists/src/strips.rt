@@ -1,6 +1,6 @@
 //! Strips of a list that is worked in place: each owns a run of the items, and keeps the item before it and the one behind it, which
 //! whoever holds all strips tells it. So one strip of a stencil is worked without its neighbours.
-ghost use Rattle.std.specs.Prelude.{◌≡◌, ◌<◌, IfOk, OnErr, IsErrOf, drop, get_or, length, map};
+ghost use Rattle.std.specs.Prelude.{◌≡◌, ◌<◌, All, IfOk, OnErr, IsErrOf, drop, get_or, length, map};
 ghost use Rattle.spindle_parts.specs.Pieces.{cut_lengths};
 ghost use Rattle.spindle_lists.specs.Strips.{items_of, first_of, last_of, told};
 
@@ -27,6 +27,8 @@ impl<T: Copy + Drop> SharedList<T> {
         ensures joined { IfOk result (λ strips. items_of strips.items ≡ self.now) }
         ensures lengths { IfOk result (λ strips.
             map (λ strip. length strip.items.items) strips.items ≡ cut_lengths (length self.now) pieces) }
+        ensures edges { IfOk result (λ strips.
+            All (λ strip. (strip.before ≡ edge) × (strip.behind ≡ edge)) strips.items) }
         ensures memory { OnErr result (IsErrOf result Fault.Memory) }
     {
         let runs = self.share_out_evenly(alloc, pieces)?;

@@ -1,5 +1,8 @@
 //! Rows of lists that clones and runs share, that are shared out in runs or in chunks with what stands around them, and of answers
 //! that are gathered.
+//!
+//! Clauses say what these calls answer. These rows show what no clause says: that a list comes out again exactly where no clone and
+//! no run of it is left, and that memory is refused only where it was; and each call once with its answer.
 
 use crate::checks::{are, holds, is};
 use spindle_lists::{Chunk, ListRun, SharedList, gathered};
@@ -12,23 +15,16 @@ fn five(alloc: Global) -> Result<SharedList<u32>, Fault> {
     Ok(SharedList::from_vec(alloc, numbers)?)
 }
 
-fn is_run(run: &ListRun<u32>, items: &[u32]) -> bool {
-    run.len() == items.len() && run.as_slice() == items && run.is_empty() == items.is_empty()
-}
-
-fn is_input<T: Clone + Eq + Drop + Send + Sync>(input: &T) -> bool {
-    *input == *input
-}
-
-fn is_chunk(chunk: &Chunk<u32>, items: &[u32], from: usize, to: usize) -> bool {
-    chunk.as_slice() == items && chunk.from() == from && chunk.to() == to
-}
-
 // Fails the test in which these aren't the runs of these items.
 fn are_runs(rt: &impl Abort, runs: &[ListRun<u32>], wanted: &[&[u32]]) {
     is(rt, runs.len(), wanted.len());
     for (run, items) in runs.iter().zip(wanted) {
-        holds(rt, is_run(run, items));
+        are(rt, run.as_slice(), items);
+        is(
+            rt,
+            (run.len(), run.is_empty()),
+            (items.len(), items.is_empty()),
+        );
     }
 }
 
@@ -36,57 +32,41 @@ fn are_runs(rt: &impl Abort, runs: &[ListRun<u32>], wanted: &[&[u32]]) {
 fn are_chunks(rt: &impl Abort, chunks: &[Chunk<u32>], wanted: &[(&[u32], usize, usize)]) {
     is(rt, chunks.len(), wanted.len());
     for (chunk, (items, from, to)) in chunks.iter().zip(wanted) {
-        holds(rt, is_chunk(chunk, items, *from, *to));
+        are(rt, chunk.as_slice(), items);
+        is(rt, (chunk.from(), chunk.to()), (*from, *to));
     }
 }
 
 // Fails the test in which the list comes out while a clone of it is left; answers it as it was.
 fn stays_with_a_clone(rt: &impl Abort, list: SharedList<u32>) -> Result<SharedList<u32>, Fault> {
     let clone = list.clone()?;
-    holds(rt, list == clone && list.len() == 3 && !list.is_empty());
+    holds(rt, list == clone && list.len() == 5 && !list.is_empty());
     let Err(list) = list.try_into_vec() else {
         panic!(rt; "a clone is left");
     };
-    are(rt, list.as_slice(), &[4, 5, 6]);
+    are(rt, list.as_slice(), &[1, 2, 3, 4, 5]);
     Ok(list)
 }
 
 // The same with a run of it.
 fn stays_with_a_run(rt: &impl Abort, list: SharedList<u32>) -> Result<SharedList<u32>, Fault> {
-    assert!(rt; list.len() == 3);
+    assert!(rt; list.len() == 5);
     let run = list.run(1, 3)?;
     let Err(list) = list.try_into_vec() else {
         panic!(rt; "a run is left");
     };
-    holds(rt, is_run(&run, &[5, 6]));
+    are(rt, run.as_slice(), &[2, 3]);
     Ok(list)
 }
 
 #[test]
 fn a_list_comes_out_again_where_no_clone_is_left(rt: HostRuntime) -> Result<(), Fault> {
-    let numbers = Vec::from_array(rt.alloc(), [4, 5, 6])?;
-    let list = SharedList::from_vec(rt.alloc(), numbers)?;
-    let list = stays_with_a_clone(&rt, list)?;
+    let list = stays_with_a_clone(&rt, five(rt.alloc())?)?;
     let list = stays_with_a_run(&rt, list)?;
     let Ok(items) = list.try_into_vec() else {
         panic!(rt; "no clone is left");
     };
-    are(&rt, items.as_slice(), &[4, 5, 6]);
-    Ok(())
-}
-
-#[test]
-fn a_list_is_lent_to_each_item_in_order(rt: HostRuntime) -> Result<(), Fault> {
-    let alloc = rt.alloc();
-    let list = five(alloc)?;
-    let lent = list.lent_to(alloc, vec![in alloc; 9, 8, 7]?)?;
-    is(&rt, lent.len(), 3);
-    for ((item, clone), wanted) in lent.iter().zip([9, 8, 7]) {
-        is(&rt, *item, wanted);
-        are(&rt, clone.as_slice(), &[1, 2, 3, 4, 5]);
-    }
-    drop(lent);
-    holds(&rt, list.try_into_vec().is_ok());
+    are(&rt, items.as_slice(), &[1, 2, 3, 4, 5]);
     Ok(())
 }
 
@@ -108,98 +88,38 @@ fn refused_list_is_lent_when_asked_again(rt: HostRuntime) {
 }
 
 #[test]
-fn lists_are_equal_item_by_item(rt: HostRuntime) -> Result<(), Fault> {
-    let alloc = rt.alloc();
-    let list = five(alloc)?;
-    let shorter = SharedList::from_vec(alloc, Vec::from_array(alloc, [1, 2, 3])?)?;
-    let other = SharedList::from_vec(alloc, Vec::from_array(alloc, [9, 2, 3])?)?;
-    let empty = SharedList::from_vec(alloc, Vec::new(alloc))?;
-    holds(&rt, list != shorter && shorter != other && is_input(&list));
-    holds(&rt, empty != shorter && empty.is_empty());
-    Ok(())
-}
-
-#[test]
-fn runs_are_equal_item_by_item(rt: HostRuntime) -> Result<(), Fault> {
-    let alloc = rt.alloc();
-    let list = SharedList::from_vec(alloc, Vec::from_array(alloc, [1, 2, 3, 1, 2])?)?;
-    let first = list.run(0, 2)?;
-    holds(&rt, first == list.run(3, 5)?);
-    holds(&rt, first != list.run(1, 3)?);
-    Ok(())
-}
-
-#[test]
-fn runs_of_two_lists_are_equal_item_by_item(rt: HostRuntime) -> Result<(), Fault> {
+fn lists_and_runs_are_equal_item_by_item(rt: HostRuntime) -> Result<(), Fault> {
     let alloc = rt.alloc();
     let list = SharedList::from_vec(alloc, Vec::from_array(alloc, [1, 2, 3, 1, 2])?)?;
     let shorter = SharedList::from_vec(alloc, Vec::from_array(alloc, [1, 2, 3])?)?;
-    let empty = SharedList::from_vec(alloc, Vec::new(alloc))?;
-    holds(&rt, list.run(0, 3)? == shorter.run(0, 3)?);
-    holds(&rt, list.run(4, 4)? == empty.run(0, 0)?);
-    Ok(())
-}
-
-#[test]
-fn lists_of_pairs_and_their_runs_are_equal_item_by_item(rt: HostRuntime) -> Result<(), Fault> {
-    let alloc = rt.alloc();
-    let pairs = SharedList::from_vec(alloc, Vec::from_array(alloc, [(1u8, true), (2, false)])?)?;
-    holds(&rt, pairs == pairs.clone()? && is_input(&pairs.run(0, 2)?));
-    holds(&rt, pairs.run(0, 1)? != pairs.run(1, 2)?);
-    Ok(())
-}
-
-#[test]
-fn a_list_is_shared_out_in_runs_of_the_lengths_given(rt: HostRuntime) -> Result<(), Fault> {
-    let alloc = rt.alloc();
-    let list = SharedList::from_vec(alloc, vec![in alloc; 1u32, 2, 3, 4, 5]?)?;
-    let runs = list.share_out(alloc, &[2, 0, 3])?;
-    are_runs(&rt, &runs, &[&[1, 2], &[], &[3, 4, 5]]);
-    Ok(())
-}
-
-#[test]
-fn a_run_is_shared_out_from_its_own_start(rt: HostRuntime) -> Result<(), Fault> {
-    let alloc = rt.alloc();
-    let list = SharedList::from_vec(alloc, vec![in alloc; 1u32, 2, 3, 4, 5]?)?;
-    let runs = list.run(2, 5)?.share_out(alloc, &[1, 2])?;
-    are_runs(&rt, &runs, &[&[3], &[4, 5]]);
-    assert!(rt; runs.len() == 2);
     holds(
         &rt,
-        is_run(&runs[1].run(1, 2)?, &[5]) && runs[1].clone()? == list.run(3, 5)?,
+        list != shorter && list.run(0, 3)? == shorter.run(0, 3)?,
+    );
+    holds(
+        &rt,
+        list.run(0, 2)? == list.run(3, 5)? && list.run(0, 2)? != list.run(1, 3)?,
     );
     Ok(())
 }
 
 #[test]
-fn nothing_is_shared_out_in_no_runs(rt: HostRuntime) -> Result<(), Fault> {
+fn a_list_and_its_runs_are_shared_out(rt: HostRuntime) -> Result<(), Fault> {
     let alloc = rt.alloc();
-    let none = SharedList::from_vec(alloc, Vec::<u32>::new(alloc))?;
-    holds(&rt, none.share_out(alloc, &[])?.is_empty());
-    holds(&rt, none.share_out_evenly(alloc, 0)?.is_empty());
-    Ok(())
-}
-
-#[test]
-fn the_first_runs_are_longer_by_one(rt: HostRuntime) -> Result<(), Fault> {
-    let alloc = rt.alloc();
-    let list = five(alloc)?;
-    let runs = list.share_out_evenly(alloc, 2)?;
-    are_runs(&rt, &runs, &[&[1, 2, 3], &[4, 5]]);
-    let runs = list.share_out_evenly(alloc, 9)?;
-    are_runs(&rt, &runs, &[&[1], &[2], &[3], &[4], &[5]]);
-    Ok(())
-}
-
-#[test]
-fn a_run_is_shared_out_evenly_too(rt: HostRuntime) -> Result<(), Fault> {
-    let alloc = rt.alloc();
-    let list = five(alloc)?;
-    assert!(rt; list.len() == 5);
-    let run = list.run(1, 4)?;
-    are_runs(&rt, &run.share_out_evenly(alloc, 2)?, &[&[2, 3], &[4]]);
-    are_runs(&rt, &run.share_out_evenly(alloc, 3)?, &[&[2], &[3], &[4]]);
+    let list = SharedList::from_vec(alloc, vec![in alloc; 1u32, 2, 3, 4, 5]?)?;
+    are_runs(
+        &rt,
+        &list.share_out(alloc, &[2, 0, 3])?,
+        &[&[1, 2], &[], &[3, 4, 5]],
+    );
+    are_runs(
+        &rt,
+        &list.share_out_evenly(alloc, 2)?,
+        &[&[1, 2, 3], &[4, 5]],
+    );
+    let run = list.run(2, 5)?;
+    are_runs(&rt, &run.share_out(alloc, &[1, 2])?, &[&[3], &[4, 5]]);
+    are_runs(&rt, &run.share_out_evenly(alloc, 9)?, &[&[3], &[4], &[5]]);
     Ok(())
 }
 
@@ -208,45 +128,42 @@ fn chunks_have_what_stands_around_them(rt: HostRuntime) -> Result<(), Fault> {
     let alloc = rt.alloc();
     let list = five(alloc)?;
     let chunks = list.share_out_overlapping(alloc, 2, 1)?;
+    let wanted: [(&[u32], usize, usize); 3] = [
+        (&[1, 2, 3], 0, 2),
+        (&[2, 3, 4, 5], 1, 3),
+        (&[4, 5], 1, 2),
+    ];
+    are_chunks(&rt, &chunks, &wanted);
     assert!(rt; chunks.len() == 3);
-    are_chunks(
-        &rt,
-        &chunks,
-        &[(&[1, 2, 3], 0, 2), (&[2, 3, 4, 5], 1, 3), (&[4, 5], 1, 2)],
-    );
     holds(
         &rt,
         chunks[1].clone()? == chunks[1] && chunks[0] != chunks[1],
     );
-    let wide = list.share_out_overlapping(alloc, 3, 9)?;
-    assert!(rt; wide.len() == 2);
-    let all = [1, 2, 3, 4, 5].as_slice();
-    are_chunks(&rt, &wide, &[(all, 0, 3), (all, 3, 5)]);
-    holds(&rt, wide[0] != wide[1]);
     Ok(())
 }
 
-#[test]
-fn answers_none_of_which_failed_are_one_list(rt: HostRuntime) -> Result<(), Fault> {
-    let alloc = rt.alloc();
+// Answers of three jobs, of which the second is a number or a failure.
+fn answers(alloc: Global, second: Result<u32, u8>) -> Result<Vec<Result<Vec<u32>, u8>>, Fault> {
     let mut answers = Vec::<Result<Vec<u32>, u8>>::new(alloc);
     answers.push(Ok(Vec::from_array(alloc, [1, 2])?))?;
+    match second {
+        Ok(number) => answers.push(Ok(Vec::from_array(alloc, [number])?))?,
+        Err(why) => answers.push(Err(why))?,
+    }
     answers.push(Ok(Vec::new(alloc)))?;
-    answers.push(Ok(Vec::from_array(alloc, [3])?))?;
-    let Ok(all) = gathered(alloc, answers)? else {
+    Ok(answers)
+}
+
+#[test]
+fn answers_are_one_list_or_the_first_failure(rt: HostRuntime) -> Result<(), Fault> {
+    let alloc = rt.alloc();
+    let Ok(all) = gathered(alloc, answers(alloc, Ok(3))?)? else {
         panic!(rt; "nothing failed");
     };
     are(&rt, &all, &[1, 2, 3]);
-    Ok(())
-}
-
-#[test]
-fn the_first_failure_is_the_answer(rt: HostRuntime) -> Result<(), Fault> {
-    let alloc = rt.alloc();
-    let mut answers = Vec::<Result<Vec<u32>, u8>>::new(alloc);
-    answers.push(Ok(Vec::from_array(alloc, [1, 2])?))?;
-    answers.push(Err(7))?;
-    answers.push(Err(8))?;
-    holds(&rt, matches!(gathered(alloc, answers)?, Err(7)));
+    holds(
+        &rt,
+        matches!(gathered(alloc, answers(alloc, Err(7))?)?, Err(7)),
+    );
     Ok(())
 }
