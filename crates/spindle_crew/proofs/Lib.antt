@@ -2,3 +2,4 @@
 mod Benches
 mod Helpers
 pub mod Leaving
+mod Waits

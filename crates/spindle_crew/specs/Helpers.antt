@@ -1,15 +1,12 @@
 -- What a helper that waits is told, and where it is after a round.
-use Rattle.std.specs.Prelude.{◌≡◌, ◌<◌, ℕ, true, false}
+use Rattle.std.specs.Prelude.{◌≡◌, ℕ, false}
 use Rattle.atomic_table.specs.declared.shared.Seat.{Seat}
 use Rattle.spindle_crew.specs.declared.post.Whereabouts.{Whereabouts}
 use Rattle.spindle_crew.specs.declared.post.Whereabouts.TheVariants.{In, Out}
 use Rattle.spindle_crew.specs.declared.tables.Tables.{Tables}
 use Rattle.spindle_crew.specs.declared.helping.News.{News}
 use Rattle.spindle_crew.specs.declared.helping.News.TheVariants.{Exit, Round, Requests}
-use Rattle.spindle_crew.specs.Notices.{Read, ReadExit}
 use Rattle.spindle_crew.specs.Posts.{IsOut, party_view}
-use Rattle.spindle_parts.specs.declared.requests.plays.Account.{Account}
-use Rattle.spindle_parts.specs.declared.words.TheConstants.{REQUESTS}
 use Rattle.spindle_rounds.specs.declared.round_table.view.View.{View}
 use Rattle.spindle_rounds.specs.declared.barrier.Barrier.{Barrier}
 use Rattle.spindle_rounds.specs.declared.barrier.waiting.ExitStatus.{ExitStatus}
@@ -24,12 +21,6 @@ abbrev pub IsNews : {N : Type 0} → View N → News → Type 0
 IsNews v Exit = Unit {0}
 IsNews v (Round task) = OnTask task.jobs task.may_stop v
 IsNews v Requests = Unit {0}
-
--- what it is told of the ledger it has just read there: that exit is announced, or that some helpers are asked for
-abbrev pub HasRead : News → Account → Type 0
-HasRead Exit account = (before : Account) × ReadExit true before account
-HasRead (Round task) account = Unit {0}
-HasRead Requests account = (before : Account) × (asked : ℕ) × (0 < asked) × Read REQUESTS asked before account
 
 -- a helper after a round: at its post, under its number, or out of the barrier
 abbrev pub IsHelperAt : {T S N : Type 0} → Tables T S N → (thread : ℕ) → Whereabouts T S N → Type 0

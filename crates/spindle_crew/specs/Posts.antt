@@ -1,5 +1,5 @@
 -- Where a thread of a lock stands between two of its calls.
-use Rattle.std.specs.Prelude.{◌≡◌, ◌<◌, ℕ, Option, Some, None, false}
+use Rattle.std.specs.Prelude.{◌≡◌, ◌<◌, ℕ, Bool, Option, Some, None, false}
 use Rattle.atomic_table.specs.declared.shared.Seat.{Seat}
 use Rattle.spindle_crew.specs.declared.tables.Tables.{Tables}
 use Rattle.spindle_crew.specs.declared.seats.Seats.{Seats}
@@ -11,8 +11,11 @@ use Rattle.spindle_rounds.specs.declared.round.task.Task.{Task}
 use Rattle.spindle_rounds.specs.declared.round_table.view.View.{View}
 use Rattle.spindle_rounds.specs.declared.round_table.view.Standing.TheVariants.{Away}
 use Rattle.spindle_rounds.specs.Holding.{IsHeld}
+use Rattle.spindle_rounds.specs.RoundShown.{Showed}
 use Rattle.spindle_rounds.specs.RoundSteps.{learning}
+use Rattle.spindle_rounds.specs.RoundViews.{published_of}
 use Rattle.spindle_rounds.specs.Seating.{IsSeatAt, IsSameSeat}
+use Rattle.spindle_rounds.specs.SlotSteps.{IsDeed}
 use Rattle.spindle_rounds.specs.Working.{IsIdle}
 
 -- what the party at a barrier knows, with the trail of its own steps
@@ -31,6 +34,11 @@ IsAt tables b = IsHeld b × IsSeatAt tables.round.init b.seat × IsSized tables 
 abbrev pub IsOut : {T S N : Type 0} → Tables T S N → Seat S (View N) → Type 0
 IsOut tables seat = IsSeatAt tables.round.init seat × IsSized tables seat.me.0
     × (seat.me.0.standing ≡ Away) × IsIdle seat.me.0
+
+-- it has published n jobs in the round q, and stored no word for another since
+abbrev pub LastPublished : {N : Type 0} → (q n : ℕ) → Bool → View N → Type 0
+LastPublished q n may_stop v = (v.laid ≡ Some q)
+    × IsDeed (Showed q n may_stop) (published_of v.trail)
 
 -- one load of the published word: there is no task exactly where it was 0
 abbrev pub LookedForTask : {N : Type 0} → Option Task → (old new : View N) → Type 0

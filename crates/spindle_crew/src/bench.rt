@@ -20,7 +20,7 @@ const EMPTY: u64 = 0;
 /// What it is where one does.
 const SEATED: u64 = 2;
 
-/// A perch for a seat of each table.
+/// A perch for a seat of each table. Its words need no rule: where no seat rests, a helper leaves at once.
 #[derive(Drop)]
 pub struct Bench<D: Slots> {
     round: Perch<D::Slot, View<D::Note>>,

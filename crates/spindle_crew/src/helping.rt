@@ -5,7 +5,8 @@ ghost use Rattle.spindle_parts.specs.ThreadNumbers.{IsSeatOf, IsSameSeat as IsSa
 ghost use Rattle.spindle_parts.specs.declared.numbers.plays.Holding.TheVariants.{Nothing, Has};
 ghost use Rattle.spindle_crew.specs.Posts.{party_view};
 ghost use Rattle.spindle_crew.specs.Accounts.{account_of};
-ghost use Rattle.spindle_crew.specs.Helpers.{HasRead, IsHelperAt, IsNews, seat_of};
+ghost use Rattle.spindle_crew.specs.Helpers.{IsHelperAt, IsNews, seat_of};
+ghost use Rattle.spindle_crew.specs.Waits.{WaitedForNews, patience_of};
 ghost use Rattle.spindle_rounds.specs.RoundConditions.{IsDone};
 ghost use Rattle.spindle_rounds.specs.Seating.{IsSameSeat};
 
@@ -56,7 +57,9 @@ pub fn await_news<'a, D: Slots, H: Wait>(
     notices: &mut Notices<'a>,
 ) -> News
     ensures news { IsNews (party_view post.new.barrier) result }
-    ensures read { HasRead result (account_of notices.new) }
+    ensures turns { WaitedForNews (patience_of post.old.tables.now) result
+        (account_of notices.old) (account_of notices.new)
+        (party_view post.old.barrier) (party_view post.new.barrier) }
     ensures post { (post.new.tables ≡ post.old.tables) × (post.new.thread ≡ post.old.thread) }
     ensures leader { (party_view post.new.barrier).leader ≡ (party_view post.old.barrier).leader }
     ensures seat { IsSameSeat post.old.barrier.seat post.new.barrier.seat }
@@ -69,7 +72,7 @@ pub fn await_news<'a, D: Slots, H: Wait>(
         if let Some(task) = post.task() {
             return News::Round(task);
         }
-        if idle.looks_at_requests() && notices.requests() > 0 {
+        if notices.requests_if(idle.looks_at_requests()) > 0 {
             return News::Requests;
         }
         idle.pass(rt, notices.is_rest_announced());

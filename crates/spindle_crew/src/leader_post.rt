@@ -1,8 +1,9 @@
 //! The leader's post: it publishes rounds, and works in them.
-ghost use Rattle.std.specs.Prelude.{◌≡◌, ◌↔◌, ℕ, true, length};
-ghost use Rattle.spindle_crew.specs.Posts.{party_view};
+ghost use Rattle.std.specs.Prelude.{◌≡◌, ◌↔◌, ℕ, Bool, true, length};
+ghost use Rattle.spindle_crew.specs.Posts.{LastPublished, party_view};
 ghost use Rattle.spindle_crew.specs.SlotPosts.{StandsAt};
-ghost use Rattle.spindle_rounds.specs.Leftovers.{IsMarked, IsFoundLeft};
+ghost use Rattle.spindle_rounds.specs.Leftovers.{AreUnbegun, IsMarked, IsFoundLeft};
+ghost use Rattle.spindle_rounds.specs.RoundSlots.{bare};
 ghost use Rattle.spindle_rounds.specs.RoundViews.{published_of};
 
 use crate::post::Post;
@@ -44,13 +45,17 @@ impl<'a, D: Slots> LeaderPost<'a, D> {
 }
 
 impl<'a> LeaderPost<'a, Bare> {
-    /// After a round marks the numbers that it has left, of as many as there are marks.
+    /// After a round marks the numbers that it has left, of as many as there are marks: where the leader has published so many jobs
+    /// last, those that nobody has begun.
     pub fn mark_left(&mut self, marks: &mut Vec<bool>)
         requires unmarked { (k : ℕ) → IsMarked marks.old.items k → ⊥ }
         ensures count { length marks.new.items ≡ length marks.old.items }
         ensures left { let tables = self.old.post.tables.now in (k : ℕ) → IsMarked marks.new.items k
             ↔ IsFoundLeft (party_view self.new.post.barrier) tables.crew.threads
             (length marks.old.items) k }
+        ensures unbegun { let n = length marks.old.items in (q : ℕ) (may_stop : Bool)
+            → LastPublished q n may_stop (party_view self.old.post.barrier)
+            → AreUnbegun bare q n (party_view self.new.post.barrier) (IsMarked marks.new.items) }
         ensures standing { (party_view self.new.post.barrier).standing
             ≡ (party_view self.old.post.barrier).standing }
         ensures published { published_of (party_view self.new.post.barrier).trail

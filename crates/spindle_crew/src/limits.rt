@@ -1,4 +1,4 @@
-//! How long an idle party pauses before it sleeps.
+//! How idle threads of a lock wait: how long they pause before they sleep, and when a helper looks whether nested locks ask for it.
 ghost use Rattle.std.specs.Prelude.{◌≡◌};
 
 use crate::{DEFAULT_PAUSE_LIMIT, DEFAULT_SPIN_LIMIT};
@@ -10,7 +10,7 @@ pub struct Limits {
     /// So many pauses in all, then it sleeps; 0 to sleep at once. Where other processes use the same cores, 512 serves
     /// better than the default.
     pub spin: u32,
-    /// So many pauses a turn, between two looks; 0 counts as 1.
+    /// So many pauses a turn, between two looks; for the number of turns 0 counts as 1.
     pub pause: u32,
 }
 
@@ -25,4 +25,13 @@ impl Limits {
             pause: DEFAULT_PAUSE_LIMIT,
         }
     }
+}
+
+/// How the threads of a lock idle.
+#[derive(Clone, Copy)]
+pub struct Idling {
+    /// How long they pause.
+    pub limits: Limits,
+    /// So many pauses of a wait pass before a helper's first look at requests, but that before sleep. With 0 each look is at them.
+    pub patience: u32,
 }

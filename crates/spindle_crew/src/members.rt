@@ -1,5 +1,5 @@
 //! Where the number of a lock's threads is read, in a form that names no slots of the lock's round table.
-ghost use Rattle.std.specs.Prelude.{◌<◌, ◌≤◌};
+ghost use Rattle.std.specs.Prelude.{◌≡◌, ◌<◌, ◌≤◌, IfSome};
 
 use crate::present::Present;
 use spindle_rounds::barrier::BarrierInit;
@@ -17,11 +17,14 @@ pub enum Members<'a> {
 }
 
 impl<'a> Members<'a> {
+    ghost use Rattle.spindle_crew.specs.Crews.{told_of};
+
     /// The number, the leader counted, of a lock of so many threads.
     pub fn current(&self, threads: usize) -> usize
         requires some { 0 < threads }
         ensures leader { 0 < result }
         ensures most { result ≤ threads }
+        ensures told { IfSome (told_of self.now threads) (λ now. result ≡ now) }
     {
         let members = match self {
             Members::Barrier(barrier) => barrier.current_num_threads(),

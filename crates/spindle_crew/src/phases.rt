@@ -1,17 +1,23 @@
 //! What stands around a thread's work in a round: the leader's publish before it, and the round's end after it.
-ghost use Rattle.std.specs.Prelude.{◌≡◌, ◌≤◌, ◌∷◌, ◌<◌, false, true};
+ghost use Rattle.std.specs.Prelude.{◌≡◌, ◌≤◌, ◌∷◌, ◌<◌, ℕ, false, true};
 ghost use Rattle.spindle_rounds.specs.RoundConditions.{IsFreeInside, IsDone, IsWaiting, MayExit, MayFill, MayLeave, MayPublish};
-ghost use Rattle.spindle_rounds.specs.RoundRule.{Showed};
+ghost use Rattle.spindle_rounds.specs.RoundShown.{Showed};
 ghost use Rattle.spindle_rounds.specs.RoundSteps.{publishing, round_of};
-ghost use Rattle.spindle_rounds.specs.Seating.{IsSeatAt, IsSameSeat};
+ghost use Rattle.spindle_rounds.specs.Seating.{IsSeatAt, IsSameSeat, slots_of};
 ghost use Rattle.spindle_rounds.specs.RoundViews.{published_of};
 ghost use Rattle.spindle_rounds.specs.Holding.{IsHeld, Keeps};
 ghost use Rattle.spindle_rounds.specs.Passing.{InNext};
+ghost use Rattle.spindle_rounds.specs.PieceRounds.{PublishedPieces};
+ghost use Rattle.spindle_rounds.specs.RoundPieces.{IsUnrun};
+ghost use Rattle.spindle_rounds.specs.RoundSlots.{spot_at};
+ghost use Rattle.spindle_rounds.specs.SlotLoops.{IsPiece, Turning};
+ghost use Rattle.spindle_rounds.specs.declared.round_table.view.Spot.TheVariants.{Out};
 ghost use Rattle.spindle_rounds.specs.Working.{OnTask, IsIdle};
 ghost use Rattle.spindle_crew.specs.Accounts.{account_of, IsSameThread};
 ghost use Rattle.spindle_crew.specs.Helpers.{EndedOrLeft};
+ghost use Rattle.spindle_crew.specs.Waits.{ArrivedAndWaited, WaitedForEnd, patience_of};
 ghost use Rattle.spindle_crew.specs.Notices.{EndedRest};
-ghost use Rattle.spindle_crew.specs.Posts.{IsAt, party_view};
+ghost use Rattle.spindle_crew.specs.Posts.{IsAt, LastPublished, party_view};
 
 use crate::notices::Notices;
 use crate::tables::Tables;
@@ -20,6 +26,7 @@ use spindle_rounds::barrier::{Barrier, ExitStatus};
 use spindle_rounds::round::Round;
 use spindle_rounds::round::task::Task;
 use spindle_rounds::round_table::Seat;
+use spindle_rounds::round_table::pieces::{Answers, Pieces};
 use spindle_rounds::round_table::slots::Slots;
 use std::sync::Wait;
 
@@ -44,6 +51,8 @@ pub fn publish<'a, D: Slots, H: Wait>(
     ensures published { let old = party_view barrier.old in let new = party_view barrier.new in
         (new.standing ≡ old.standing) × (published_of new.trail
         ≡ Showed (round_of old.standing) task.jobs task.may_stop ∷ published_of old.trail) }
+    ensures last { LastPublished (round_of (party_view barrier.old).standing)
+        task.jobs task.may_stop (party_view barrier.new) }
     ensures rest { EndedRest (account_of notices.old) (account_of notices.new) }
 {
     tables.round.fill(&mut barrier.seat, task.jobs);
@@ -57,7 +66,6 @@ fn publish_task<D: Slots>(round: &Round<D>, seat: &mut Seat<D>, task: Task)
     requires seated { IsSeatAt round.now.init seat.old }
     requires leads { MayPublish D.discipline round.now.init.threads task.jobs seat.old.me.0 }
     requires counted { (2 ≤ task.jobs) × (task.jobs ≤ 4294967295) }
-    requires ranges { 0 < round.now.init.threads }
     ensures seat { IsSameSeat seat.old seat.new }
     ensures step { seat.new.me ≡ (publishing task.may_stop task.jobs seat.old.me.0, seat.old.me.1) }
 {
@@ -66,6 +74,30 @@ fn publish_task<D: Slots>(round: &Round<D>, seat: &mut Seat<D>, task: Task)
     } else {
         round.publish(seat, task.jobs);
     }
+}
+
+/// The leader of a lock with slots, all of which it holds, publishes so many pieces in the first ones, and wakes the helpers.
+pub fn publish_held<A: Answers, H: Wait>(
+    rt: &H,
+    tables: &Tables<Pieces<A>>,
+    seat: &mut Seat<Pieces<A>>,
+    notices: &mut Notices<'_>,
+    jobs: u64,
+)
+    requires seated { IsSeatAt tables.now.round.init seat.old }
+    requires leads { MayFill seat.old.me.0 }
+    requires held { Turning (λ k y. IsUnrun A.answers y) IsPiece (slots_of tables.now.round.init)
+        jobs seat.old.me.1 }
+    requires out { (k : ℕ) → k < slots_of tables.now.round.init
+        → spot_at seat.old.me.0.board k ≡ Out }
+    requires counted { (2 ≤ jobs) × (jobs ≤ 4294967295) }
+    ensures seat { IsSameSeat seat.old seat.new }
+    ensures published { PublishedPieces A.answers jobs seat.old.me seat.new.me }
+    ensures rest { EndedRest (account_of notices.old) (account_of notices.new) }
+{
+    notices.end_rest();
+    tables.round.publish_held(seat, jobs);
+    tables.wake_for_news(rt);
 }
 
 /// Arrives, and waits until the round has ended. The closer ends it, and wakes the others.
@@ -114,6 +146,8 @@ pub fn end_or_leave<'a, D: Slots, H: Wait>(
     requires free { MayExit (party_view barrier) }
     requires done { IsDone (party_view barrier) }
     ensures status { EndedOrLeft barrier.entry result }
+    ensures turns { ArrivedAndWaited (patience_of tables.now)
+        (account_of notices.old) (account_of notices.new) barrier.entry result }
     ensures same { IsSameThread notices.old notices.new }
 {
     match barrier.arrive() {
@@ -136,6 +170,8 @@ fn await_end_or_leave<'a, D: Slots, H: Wait>(
     requires held { IsHeld barrier }
     requires waiting { MayLeave (party_view barrier) }
     ensures status { EndedOrLeft barrier.entry result }
+    ensures turns { WaitedForEnd (patience_of tables.now) (account_of notices.old)
+        (account_of notices.new) barrier.entry.sense barrier.entry.seat.me result }
     ensures same { IsSameThread notices.old notices.new }
 {
     let mut idle = tables.sleep.idle_until_end();

@@ -7,7 +7,7 @@ ghost use Rattle.spindle_rounds.specs.RoundSteps.{outsider};
 ghost use Rattle.spindle_rounds.specs.Seating.{IsSeatAt};
 
 use crate::Crew;
-use crate::limits::Limits;
+use crate::limits::Idling;
 use crate::present::Present;
 use crate::sleep::Sleep;
 use crate::tables::Tables;
@@ -62,7 +62,7 @@ impl<D: Slots> Tables<D> {
     pub fn new(
         alloc: Global,
         crew: Crew,
-        limits: Limits,
+        idling: Idling,
         child_slots: usize,
         round: Round<D>,
         round_seat: round_table::Seat<D>,
@@ -73,13 +73,14 @@ impl<D: Slots> Tables<D> {
         ensures crew { IfOk result (λ t. t.0.crew ≡ crew) }
         ensures round { IfOk result (λ t. t.0.round ≡ round) }
         ensures slots { IfOk result (λ t. t.0.child_slots ≡ child_slots) }
+        ensures idling { IfOk result (λ t. t.0.sleep.idling ≡ idling) }
         ensures seats { IfOk result (λ t. AreSeatsAt t.0 t.1) }
         ensures memory { OnErr result (IsErrOf result Fault.Memory) }
     {
         let threads = crew.threads();
         let (numbers, numbers_seat) = Numbers::new(alloc, threads)?;
         let (ledger, ledger_seat) = Requests::new(alloc, child_slots)?;
-        let sleep = Sleep::new(limits);
+        let sleep = Sleep::new(idling);
         let tables = Tables {
             crew,
             round,

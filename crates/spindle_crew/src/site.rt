@@ -1,7 +1,6 @@
 //! Where a thread runs jobs: what these see of the lock, in a form that names no slots of its round table.
-ghost use Rattle.std.specs.Prelude.{◌≡◌, ℕ, ◌<◌, ◌≤◌};
+ghost use Rattle.std.specs.Prelude.{◌≡◌, ℕ, ◌<◌, ◌≤◌, Some, IfSome};
 ghost use Rattle.std.specs.Option.{ForSome};
-ghost use Rattle.spindle_crew.specs.declared.members.Members.TheVariants.{Fixed};
 
 use crate::Crew;
 use crate::members::Members;
@@ -22,6 +21,8 @@ pub struct Site<'a> {
 }
 
 impl<'a> Site<'a> {
+    ghost use Rattle.spindle_crew.specs.Crews.{told_of};
+
     /// The same for a job that is run under another number, or none.
     pub fn under(&self, index: Option<usize>) -> Site<'a>
         requires index { ForSome index (λ i. i < self.now.crew.most) }
@@ -40,7 +41,9 @@ impl<'a> Site<'a> {
     /// The same for a job that another job runs directly: the number of threads stays as it is now.
     pub fn within(&self) -> Site<'a>
         ensures crew { result.crew ≡ self.now.crew }
-        ensures fixed { (now : ℕ) × (result.members ≡ Fixed now) }
+        ensures told { let most = self.now.crew.most in (now : ℕ) × (0 < now) × (now ≤ most)
+            × IfSome (told_of self.now.members most) (λ told. now ≡ told)
+            × (told_of result.members most ≡ Some now) }
         ensures index { result.index ≡ self.now.index }
     {
         Site {
@@ -55,6 +58,7 @@ impl<'a> Site<'a> {
     pub fn current(&self) -> usize
         ensures leader { 0 < result }
         ensures most { result ≤ self.now.crew.most }
+        ensures told { IfSome (told_of self.now.members self.now.crew.most) (λ now. result ≡ now) }
     {
         self.members.current(self.crew.most())
     }

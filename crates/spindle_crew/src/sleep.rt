@@ -4,25 +4,20 @@
 //! that is about to sleep looks once more while it holds the mutex, so no change is missed. Those who wait for news and those who
 //! wait for a round's end have a mutex each: the leader's publish takes one, and whoever ends the round the other.
 ghost use Rattle.std.specs.Prelude.{◌≡◌, ◌+◌, ◌<◌, ◌≤◌, max, min, false, true, IsNone, IsSome};
-ghost use Rattle.spindle_crew.specs.declared.sleep.TheConstants.{PATIENCE};
 
-use crate::limits::Limits;
+use crate::limits::Idling;
 use crossbeam_utils::{Backoff, CachePadded};
 use std::hint::spin_loop;
 use std::sync::{Condvar, Mutex, MutexGuard, Wait};
 use std::thread;
 
-/// From this turn on a turn also yields the processor.
+/// So many turns of a wait don't yield the processor; each one after them does.
 const QUIET_TURNS: u32 = 64;
-
-/// In the first so many pauses of a wait a thread doesn't look at requests: a nested lock that closes earlier is done sooner by its
-/// leader alone than with a helper, for whom each of its rounds would have to wait.
-pub const PATIENCE: u32 = 512;
 
 /// Where the idle threads of a lock sleep.
 #[derive(Drop)]
 pub struct Sleep {
-    limits: Limits,
+    idling: Idling,
     news: CachePadded<Bed>,
     end: CachePadded<Bed>,
 }
@@ -65,18 +60,22 @@ impl Bed {
 }
 
 impl Sleep {
-    /// A place to sleep for threads with these limits.
-    pub fn new(limits: Limits) -> Sleep {
+    /// A place to sleep for threads that idle so.
+    pub fn new(idling: Idling) -> Sleep
+        ensures { result.idling ≡ idling }
+    {
         Sleep {
-            limits,
+            idling,
             news: CachePadded::new(Bed::new()),
             end: CachePadded::new(Bed::new()),
         }
     }
 
-    /// How idle threads pause here.
-    pub fn limits(&self) -> Limits {
-        self.limits
+    /// How threads idle here.
+    pub fn idling(&self) -> Idling
+        ensures { result ≡ self.now.idling }
+    {
+        self.idling
     }
 
     /// Wakes all who sleep, whatever they wait for. A word was changed before.
@@ -96,20 +95,28 @@ impl Sleep {
     }
 
     /// The pauses of a thread that begins to wait for a round, for requests, or for the announcement of exit.
-    pub fn idle_until_news(&self) -> Idle<'_> {
+    pub fn idle_until_news(&self) -> Idle<'_>
+        ensures { (result.patience ≡ self.now.idling.patience) × (result.waited ≡ 0) }
+    {
         self.idle(&self.news)
     }
 
     /// The pauses of a thread that begins to wait for a round's end.
-    pub fn idle_until_end(&self) -> Idle<'_> {
+    pub fn idle_until_end(&self) -> Idle<'_>
+        ensures { (result.patience ≡ self.now.idling.patience) × (result.waited ≡ 0) }
+    {
         self.idle(&self.end)
     }
 
-    fn idle<'a>(&self, bed: &'a Bed) -> Idle<'a> {
+    fn idle<'a>(&self, bed: &'a Bed) -> Idle<'a>
+        ensures { (result.patience ≡ self.now.idling.patience) × (result.waited ≡ 0) }
+    {
+        let Idling { limits, patience } = self.idling;
         Idle {
             bed,
-            pauses: self.limits.pause,
-            turns: self.limits.spin / self.limits.pause.max(1),
+            pauses: limits.pause,
+            turns: limits.spin / limits.pause.max(1),
+            patience,
             turn: 0,
             waited: 0,
             backoff: Backoff::new(),
@@ -124,6 +131,7 @@ pub struct Idle<'a> {
     bed: &'a Bed,
     pauses: u32,
     turns: u32,
+    patience: u32,
     turn: u32,
     waited: u32,
     backoff: Backoff,
@@ -131,17 +139,20 @@ pub struct Idle<'a> {
 }
 
 impl<'a> Idle<'a> {
-    /// Whether a look is at requests too: once the thread has waited for `PATIENCE` pauses, and before it sleeps.
+    /// Whether a look is at requests too: once its patience is over, so with none from the first look on, and before it sleeps.
     pub fn looks_at_requests(&self) -> bool
-        ensures late { PATIENCE ≤ self.now.waited → result ≡ true }
+        ensures late { self.now.patience ≤ self.now.waited → result ≡ true }
         ensures last { IsSome self.now.guard → result ≡ true }
-        ensures early { self.now.waited < PATIENCE → IsNone self.now.guard → result ≡ false }
+        ensures early { self.now.waited < self.now.patience → IsNone self.now.guard
+            → result ≡ false }
     {
-        self.waited >= PATIENCE || self.guard.is_some()
+        self.waited >= self.patience || self.guard.is_some()
     }
 
     /// Passes the time between two looks. A thread that is told to rest makes no turn.
-    pub fn pass<H: Wait>(&mut self, rt: &H, rest: bool) {
+    pub fn pass<H: Wait>(&mut self, rt: &H, rest: bool)
+        ensures { self.new.patience ≡ self.old.patience }
+    {
         match self.guard.take() {
             Some(guard) => self.guard = Some(self.bed.sleep(rt, guard)),
             None => {
@@ -155,10 +166,12 @@ impl<'a> Idle<'a> {
     }
 
     /// The same where the thread is about to leave, and looks again soon: it makes no turn, and doesn't sleep.
-    pub fn pass_or_hurry<H: Wait>(&mut self, rt: &H, hurries: bool) {
+    pub fn pass_or_hurry<H: Wait>(&mut self, rt: &H, hurries: bool)
+        ensures { self.new.patience ≡ self.old.patience }
+    {
         if hurries {
             drop(self.guard.take());
-            self.waited = self.waited.max(PATIENCE);
+            self.waited = self.waited.max(self.patience);
             thread::yield_now();
         } else {
             self.pass(rt, false);
@@ -168,7 +181,9 @@ impl<'a> Idle<'a> {
     // A turn counts for one pause at least.
     fn take_turn(&mut self)
         requires { self.old.turn < self.old.turns }
-        ensures { self.new.waited ≡ min (self.old.waited + max self.old.pauses 1) 4294967295 }
+        ensures waited { self.new.waited
+            ≡ min (self.old.waited + max self.old.pauses 1) 4294967295 }
+        ensures patience { self.new.patience ≡ self.old.patience }
     {
         self.turn += 1;
         self.waited = self.waited.saturating_add(self.pauses.max(1));

@@ -1,6 +1,8 @@
--- The post is the same, and so is its party's part.
-use Rattle.std.proofs.Common.{◌≡◌}
+-- The post is the same, and so is its party's part; no turn found news.
+use Rattle.std.proofs.Common.{◌≡◌, Bool, List}
+use Rattle.spindle_crew.specs.Accounts.{account_of}
 use Rattle.spindle_crew.specs.Posts.{party_view}
+use Rattle.spindle_crew.specs.Waits.{FoundNoNews, patience_of}
 use Rattle.spindle_rounds.specs.Seating.{IsSameSeat}
 use Rattle.spindle_crew.proofs.helping.await_news.Given as goal
 
@@ -10,4 +12,7 @@ invariant-loop g l = record {
   thread : l.post.thread ≡ l.fn.post.thread;
   leader : (party_view l.post.barrier).leader ≡ (party_view l.fn.post.barrier).leader;
   seat : IsSameSeat l.fn.post.barrier.seat l.post.barrier.seat;
+  patience : l.idle.patience ≡ patience_of l.fn.post.tables.now;
+  turns : (rests : List Bool) × FoundNoNews (patience_of l.fn.post.tables.now) rests (account_of l.fn.notices) (account_of l.notices)
+      (party_view l.fn.post.barrier) (party_view l.post.barrier);
 }

@@ -1,8 +1,9 @@
 -- What was filled is published, and stands in the leader's trail.
-use Rattle.std.proofs.Common.{ℕ, ◌∷◌, sym, ap, subst, ◌∙◌}
+use Rattle.std.proofs.Common.{ℕ, ◌∷◌, Some, inl, sym, ap, subst, ◌∙◌}
 use Rattle.spindle_rounds.specs.RoundSteps.{round_of}
-use Rattle.spindle_rounds.specs.RoundRule.{Showed}
+use Rattle.spindle_rounds.specs.RoundShown.{Showed}
 use Rattle.spindle_rounds.proofs.RoundClients.{filled_round, round_published}
+use Rattle.spindle_crew.specs.Posts.{LastPublished}
 use Rattle.spindle_crew.proofs.phases.publish.Goals as goal
 
 pub returns-clause-published : goal.returns-clause-published
@@ -19,3 +20,10 @@ returns-clause-task g c = let m = c.args.barrier.now.seat.me in let l = c.requir
     let f = filled_round D _ n l.0.0 m.0 c.fill.new.seat.me.0 l.0.1 l.1 may c.fill.ensures.filled in
     let p = round_published c.fill.new.seat.me c.publish_task.new.seat.me l.0.0 n c.args.task.may_stop f.4 c.publish_task.ensures.step in
     (p.0, λ plain. p.1)
+
+pub returns-clause-last : goal.returns-clause-last
+returns-clause-last g c = let m = c.args.barrier.now.seat.me in let l = c.requires.leads in let D = g.D.Slots.discipline in
+    let n = c.args.task.jobs in let b = c.args.task.may_stop in let may = subst (λ (q : ℕ). D.may_publish q n m.0.board) (ap round_of l.0.1) c.requires.pieces in
+    let f = filled_round D _ n l.0.0 m.0 c.fill.new.seat.me.0 l.0.1 l.1 may c.fill.ensures.filled in let here = ap round_of (f.4 ∙ sym l.0.1) in
+    subst (LastPublished (round_of m.0.standing) n b) (sym (ap (λ z. z.0) c.publish_task.ensures.step))
+    (ap (λ (q : ℕ). Some q) here, inl (ap (λ (q : ℕ). Showed q n b) here))
