@@ -2,16 +2,14 @@
 #![tactic(auto)]
 
 #[cfg(test)]
-mod alone;
+mod asking;
 #[cfg(test)]
 mod checks;
 #[cfg(test)]
-mod jobs;
+mod inner_rounds;
 #[cfg(test)]
-mod levels;
+mod opening;
 #[cfg(test)]
-mod refusals;
+mod opening_rows;
 #[cfg(test)]
-mod rounds;
-#[cfg(test)]
-mod rows;
+mod sixteen;

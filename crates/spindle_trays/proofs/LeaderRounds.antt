@@ -1,18 +1,25 @@
 -- Rounds of a leader: their jobs, where it stands between them, refusals that are passed on, and what a lost piece tells.
-use Rattle.std.proofs.Common.{◌≡◌, ℕ, ◌<◌, ◌≤◌, Bool, true, false, List, None, ⊎_elim, Result, Ok, Err, ap, ◌∙◌, replicate, zero, suc, sym}
+use Rattle.std.proofs.Common.{◌≡◌, ℕ, ◌+◌, ◌<◌, ◌≤◌, ◌↔◌, Bool, true, false, List, None, Some, ⊎_elim, inl, inr, Result, Ok, Err, ap, ◌∙◌, replicate, zero, suc, sym}
 use Rattle.std.proofs.Common.{arith, length, min, ◌==◌, Vec, Global, vec_len, IsErrOf, IsErrAnd, IfErr, OnErr, subst}
 use Rattle.std.proofs.lemmas.Bool.{cases_lt, false≢true}
-use Rattle.spindle_parts.specs.declared.fault.Fault.{Fault}
-use Rattle.spindle_parts.specs.declared.fault.Fault.TheVariants.{Memory, Lost}
-use Rattle.spindle_rounds.specs.Leftovers.{IsFoundLeft}
+use Rattle.spindle_parts.specs.declared.fault.Fault.TheVariants.{Lost}
+use Rattle.spindle_rounds.specs.Leftovers.{IsMarked}
+use Rattle.spindle_rounds.specs.Passing.{InNext}
+use Rattle.spindle_rounds.specs.RoundShown.{Showed}
+use Rattle.spindle_rounds.specs.RoundSteps.{round_of, unknown}
+use Rattle.spindle_rounds.specs.RoundViews.{Onward, shown_of}
+use Rattle.spindle_rounds.specs.SlotSteps.{IsDeed}
+use Rattle.spindle_rounds.specs.declared.round_table.view.Standing.TheVariants.{Inside}
 use Rattle.spindle_rounds.specs.declared.round_table.view.View.{View}
+use Rattle.spindle_rounds.proofs.BarrierClients.{moved_deeds}
 use Rattle.spindle_parts.specs.Words.{most_jobs}
 use Rattle.spindle_trays.specs.Rounds.{job_count}
 use Rattle.spindle_rounds.specs.RoundConditions.{MayFill}
-use Rattle.spindle_crew.specs.Posts.{party_view}
+use Rattle.spindle_crew.specs.Posts.{LastPublished, party_view}
 use Rattle.spindle_crew.specs.declared.leader_post.LeaderPost.{LeaderPost}
-use Rattle.spindle_trays.specs.Leaders.{TriedOnce, LeftByTryRefusal}
-use Rattle.spindle_trays.specs.Reports.{is_marked, IsLostOf, IsTryRefusal}
+use Rattle.spindle_trays.specs.Leaders.{hands_of, AreLeft, IsTryRefusal, TriedOnce}
+use Rattle.spindle_trays.specs.Reports.{is_marked, least_lost, IsNoted}
+use Rattle.spindle_trays.proofs.Reports.{least_first, least_within}
 use Rattle.spindle_trays.specs.declared.lock.leader.Leader.{Leader}
 use Rattle.spindle_trays.specs.declared.work.tally.Tally.{Tally}
 
@@ -45,6 +52,11 @@ all_jobs count jobs list items c e enough = rw (c, e) (omega arith)
 -- a round of items has some
 pub no_items : (len : ℕ) (empty : Bool) → empty ≡ (len == 0) → empty ≡ false → len ≡ 0 → false ≡ true
 no_items len empty is isnt none = sym isnt ∙ is ∙ ap (λ n. n == 0) {x = len} {y = 0} none
+
+-- and so some jobs
+pub some_jobs : (items n_jobs : ℕ) (empty : Bool) → empty ≡ (items == 0) → empty ≡ false → (0 < items → 0 < n_jobs) → 0 < job_count items n_jobs
+some_jobs zero n_jobs empty is isnt more = absurd (false≢true (sym isnt ∙ is))
+some_jobs (suc items) n_jobs empty is isnt more = let some = more (omega arith) in omega (arith, some)
 
 -- a number of jobs isn't one and more
 pub past_one : (jobs : ℕ) → 1 < jobs → jobs ≤ 1 → ⊥
@@ -80,20 +92,45 @@ two_or_more : {B : Type 0} (n : ℕ) (left : List Bool) (tally : Tally B) (k : �
     → (n ≤ 1 → is_marked left k ≡ true → ⊥) → (tally.lost ≡ None → is_marked left k ≡ true) → 2 ≤ n
 two_or_more n left tally k whole bare lost = ⊎_elim (λ (two : 1 < n). two) (λ (one : n ≤ 1). absurd (bare one (lost (whole one)))) (cases_lt 1 n)
 
--- so it is a refusal of a round that may stop
-pub lost_refusal : {T B N : Type 0} (r : Result T Fault) (threads n : ℕ) (left : List Bool) (tally : Tally B) (v : View N) → (n ≤ 1 → tally.lost ≡ None)
-    → (threads ≤ 1 → tally.lost ≡ None) → (n ≤ 1 → (k : ℕ) → is_marked left k ≡ true → ⊥)
-    → (2 ≤ n → (k : ℕ) → is_marked left k ≡ true → IsFoundLeft v threads n k) → IfErr r (IsLostOf n left tally)
-    → IfErr r (IsTryRefusal threads n v)
-lost_refusal (Ok t) threads n left tally v whole alone bare found h = tt
-lost_refusal (Err Memory) threads n left tally v whole alone bare found h = tt
-lost_refusal (Err (Lost k)) threads n left tally v whole alone bare found h = let two = two_or_more n left tally k whole (λ one. bare one k) h.1 in
-    (h.0, two, λ hands. found two k (h.1 (alone hands)))
+-- so the least lost number of a tally refuses a round that may stop, which was played
+module _ {J G L I O N S A B : Type 0} (Meets : A → B → Type 0) (Fails : B → Type 0) (items : List A) (n : ℕ) (left : List Bool) (tally : Tally B)
+    (old new : Leader J G L I O N S) (k : ℕ) (noted : IsNoted Meets Fails items n left n tally) (is : least_lost tally ≡ Some k)
+    (whole : n ≤ 1 → tally.lost ≡ None) (bare : n ≤ 1 → (j : ℕ) → is_marked left j ≡ true → ⊥) where
+  lost_of_two : 2 ≤ n
+  lost_of_two = two_or_more n left tally k whole (λ one. bare one k) (least_within Meets Fails items n left tally k noted is).1
 
--- and that round was played
-pub lost_played : {T J G L I O N S B : Type 0} (r : Result T Fault) (n : ℕ) (left : List Bool) (tally : Tally B) (old new : Leader J G L I O N S)
-    → (n ≤ 1 → tally.lost ≡ None) → (n ≤ 1 → (k : ℕ) → is_marked left k ≡ true → ⊥) → (2 ≤ n → TriedOnce n old new) → IfErr r (IsLostOf n left tally)
-    → IfErr r (LeftByTryRefusal n old new)
-lost_played (Ok t) n left tally old new whole bare tried h = tt
-lost_played (Err Memory) n left tally old new whole bare tried h = absurd h
-lost_played (Err (Lost k)) n left tally old new whole bare tried h = tried (two_or_more n left tally k whole (λ one. bare one k) h.1)
+  pub lost_refusal : (hands_of old ≤ 1 → tally.lost ≡ None) → (2 ≤ n → AreLeft n (IsMarked left) old new)
+      → IsTryRefusal Meets Fails items n old new (Lost k)
+  lost_refusal alone tried = let within = least_within Meets Fails items n left tally k noted is in let two = lost_of_two in (
+    within.0,
+    two,
+    left,
+    tried two,
+    (λ hands. within.1 (alone hands)),
+    ⊎_elim inl (λ z. inr (
+      ⊎_elim (λ (many : 1 < hands_of old). many)
+          (λ (few : hands_of old ≤ 1). absurd (let e = sym (alone few) ∙ z.0 in cc)) (cases_lt 1 (hands_of old)),
+      tally.ran.items,
+      noted.answers,
+      z.1,
+    ))
+        (least_first Meets Fails items n left tally k noted is),
+  )
+
+  pub lost_played : (2 ≤ n → TriedOnce n old new) → TriedOnce n old new
+  lost_played tried = tried lost_of_two
+
+-- what holds of the same numbers is left too
+pub left_same : {J G L I O N S : Type 0} (n : ℕ) (P Q : ℕ → Type 0) (old new : Leader J G L I O N S) → ((k : ℕ) → P k ↔ Q k) → AreLeft n Q old new
+    → AreLeft n P old new
+left_same n P Q old new same left = (
+  (λ k. ((λ p. (left.0 k).0 ((same k).0 p)), λ f. (same k).1 ((left.0 k).1 f))),
+  λ t s rule at k. let u = left.1 t s rule at k in ((λ p. u.0 ((same k).0 p)), λ f. (same k).1 (u.1 f)),
+)
+
+-- what a leader published stays what it published last, through its work in the round and the round's end
+pub last_after : {S N : Type 0} (q n : ℕ) (may_stop : Bool) (v : View N) (u w : View N × List (ℕ × S)) → LastPublished q n may_stop v → Onward v u.0 → InNext u w
+    → LastPublished q n may_stop w.0
+last_after q n may_stop v u w last on next =
+    let same = ap shown_of (moved_deeds (Inside (round_of u.0.standing + 1)) (unknown u.0.leader false) u w next) ∙ on.published in
+    (ap (λ z. z.0.laid) next.seat ∙ on.laid ∙ last.0, subst (IsDeed (Showed q n may_stop)) (sym same) last.1)

@@ -1,7 +1,9 @@
 -- What contracts see of a leader.
 use denote.Ref.{MutBor}
 use Rattle.std.specs.Fn.{Once, FnOnceReturnsAtMut}
-use Rattle.std.specs.Prelude.{◌≡◌, ◌↔◌, ℕ, Bool, List, true}
+use Rattle.std.specs.Prelude.{◌≡◌, ◌⊎◌, ◌↔◌, ℕ, ◌<◌, ◌≤◌, Bool, List, Vec, Result, Ok, Err, true}
+use Rattle.std.specs.List.{All, Any}
+use Rattle.std.specs.declared.alloc.Global.{Global}
 use Rattle.spindle_parts.specs.declared.fault.Fault.{Fault}
 use Rattle.spindle_parts.specs.declared.fault.Fault.TheVariants.{Memory, Lost}
 use Rattle.spindle_parts.specs.declared.requests.plays.Account.{Account}
@@ -9,10 +11,13 @@ use Rattle.spindle_crew.specs.Accounts as accounts
 use Rattle.spindle_crew.specs.Notices as notices
 use Rattle.spindle_crew.specs.declared.Crew.{Crew}
 use Rattle.spindle_crew.specs.declared.leader_post.LeaderPost.{LeaderPost}
+use Rattle.spindle_trays.specs.Reports.{HasFailed, IsAnswered}
 use Rattle.spindle_trays.specs.declared.lock.leader.Leader.{Leader}
 use Rattle.spindle_rounds.specs.declared.round_table.view.View.{View}
-use Rattle.spindle_rounds.specs.Leftovers.{IsFoundLeft, IsMarked}
+use Rattle.spindle_rounds.specs.Leftovers.{AreUnbegun, IsFoundLeft, IsMarked}
 use Rattle.spindle_rounds.specs.RoundConditions.{MayFill}
+use Rattle.spindle_rounds.specs.RoundSlots.{bare}
+use Rattle.spindle_rounds.specs.RoundSteps.{round_of}
 use Rattle.spindle_rounds.specs.Working.{PlayedRound, PlayedRoundOf}
 
 -- the threads of the lock in whose barrier a leader stands
@@ -26,6 +31,10 @@ threads_of leader = (crew_of leader.post).most
 -- how many of them may take part in its rounds: 1 where it works alone
 abbrev pub hands_of : {J G L I O N S : Type 0} → Leader J G L I O N S → ℕ
 hands_of leader = (crew_of leader.post).threads
+
+-- it leads the same lock
+abbrev pub IsSameLock : {J G L I O N S : Type 0} → (old new : Leader J G L I O N S) → Type 0
+IsSameLock old new = (threads_of new ≡ threads_of old) × (hands_of new ≡ hands_of old)
 
 -- f was called with a leader of a lock of so many threads,
 -- of which so many may take part, and returned r
@@ -56,6 +65,10 @@ IsBetweenRounds leader = MayFill (view_of leader)
 abbrev pub MadeNoStep : {J G L I O N S : Type 0} → (old new : Leader J G L I O N S) → Type 0
 MadeNoStep old new = view_of new ≡ view_of old
 
+-- it did nothing: no step at the round table, and none at the ledger
+abbrev pub DidNothing : {J G L I O N S : Type 0} → (old new : Leader J G L I O N S) → Type 0
+DidNothing old new = MadeNoStep old new × (account_of new ≡ account_of old)
+
 -- it published once, so many jobs, and that round has ended
 abbrev pub PlayedOnce : {J G L I O N S : Type 0}
     → (jobs : ℕ) → (old new : Leader J G L I O N S) → Type 0
@@ -73,14 +86,36 @@ abbrev pub TriedOnce : {J G L I O N S : Type 0}
     → (jobs : ℕ) → (old new : Leader J G L I O N S) → Type 0
 TriedOnce jobs old new = PlayedRoundOf jobs true (view_of old) (view_of new)
 
--- and what it found left then is marked
+-- these are the numbers that its round of so many jobs has left: by its own trail it found them left where it looked last,
+-- and at every moment until its next step nobody has begun them, and all others have begun
+abbrev pub AreLeft : {J G L I O N S : Type 0}
+    → (jobs : ℕ) → (ℕ → Type 0) → (old new : Leader J G L I O N S) → Type 0
+AreLeft jobs P old new = ((k : ℕ) → P k ↔ IsFoundLeft (view_of new) (hands_of old) jobs k)
+    × AreUnbegun bare (round_of (view_of old).standing) jobs (view_of new) P
+
+-- and what that round has left is marked
 abbrev pub TriedAndMarked : {J G L I O N S : Type 0}
     → (jobs : ℕ) → (marks : List Bool) → (old new : Leader J G L I O N S) → Type 0
-TriedAndMarked jobs marks old new = TriedOnce jobs old new
-    × ((k : ℕ) → IsMarked marks k ↔ IsFoundLeft (view_of new) (hands_of old) jobs k)
+TriedAndMarked jobs marks old new = TriedOnce jobs old new × AreLeft jobs (IsMarked marks) old new
 
--- the same of a round that may stop and was refused
-abbrev pub LeftByTryRefusal : {J G L I O N S : Type 0}
-    → (jobs : ℕ) → (old new : Leader J G L I O N S) → Fault → Type 0
-LeftByTryRefusal jobs old new Memory = MadeNoStep old new
-LeftByTryRefusal jobs old new (Lost k) = TriedOnce jobs old new
+-- why a round over these items that may stop may be refused, but never one of no jobs: for want of memory, or since k is the least
+-- number of a piece that is lost. Of what the round has left none is less, unless another thread takes part and a piece that ran has failed;
+-- where the leader works alone k is among it
+abbrev pub IsTryRefusal : {J G L I O N S A B : Type 0} → (A → B → Type 0) → (B → Type 0)
+    → List A → (jobs : ℕ) → (old new : Leader J G L I O N S) → Fault → Type 0
+IsTryRefusal Meets Fails items jobs old new Memory = 0 < jobs
+IsTryRefusal {B = B} Meets Fails items jobs old new (Lost k) = (k < jobs) × (2 ≤ jobs)
+    × (left : List Bool) × AreLeft jobs (IsMarked left) old new
+    × (hands_of old ≤ 1 → IsMarked left k)
+    × (((j : ℕ) → j < k → IsMarked left j → ⊥)
+    ⊎ ((2 ≤ hands_of old) × (ran : List (ℕ × Vec B Global))
+    × All (IsAnswered Meets items jobs) ran × Any (HasFailed Fails) ran))
+
+-- what it did for a round of so many jobs that may stop, by what came of that: it played the round,
+-- but made no step for one job or none, nor where memory was wanting
+abbrev pub TriedAs : {J G L I O N S T : Type 0}
+    → (jobs : ℕ) → (old new : Leader J G L I O N S) → Result T Fault → Type 0
+TriedAs jobs old new (Ok t) =
+    (2 ≤ jobs → TriedOnce jobs old new) × (jobs ≤ 1 → MadeNoStep old new)
+TriedAs jobs old new (Err Memory) = MadeNoStep old new
+TriedAs jobs old new (Err (Lost k)) = TriedOnce jobs old new

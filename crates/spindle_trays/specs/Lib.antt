@@ -9,3 +9,17 @@ pub mod Leaders
 pub mod Locks
 pub mod Rounds
 pub mod Alone
+-- Those of the crates below that its public clauses name.
+pub use Rattle.spindle_parts.specs.Pieces
+pub use Rattle.spindle_rounds.specs.Leftovers
+pub use Rattle.spindle_rounds.specs.PartyWork
+pub use Rattle.spindle_rounds.specs.RoundConditions
+pub use Rattle.spindle_rounds.specs.Seating
+pub use Rattle.spindle_rounds.specs.Working
+pub use Rattle.spindle_crew.specs.Accounts
+pub use Rattle.spindle_crew.specs.Benches
+pub use Rattle.spindle_crew.specs.Crews
+pub use Rattle.spindle_crew.specs.Helpers
+pub use Rattle.spindle_crew.specs.Notices
+pub use Rattle.spindle_crew.specs.Opening
+pub use Rattle.spindle_crew.specs.Posts

@@ -1,13 +1,9 @@
 -- What came of a round that may stop: which pieces ran, with their outputs, and which were skipped.
-use Rattle.std.specs.Prelude.{◌≡◌, ◌⊎◌, ℕ, ◌<◌, ◌≤◌, Bool, true, false, not, List, [], ◌∷◌, ◌++◌, None, IfSome, Vec, length, map, filter, slice_index_or}
-use Rattle.std.specs.Prelude.{vec_len, vec_capacity, IsPermutation}
+use Rattle.std.specs.Prelude.{◌≡◌, ◌⊎◌, ℕ, ◌<◌, ◌≤◌, min, Bool, true, false, not, if◌then◌else◌, List, [], ◌∷◌, ◌++◌, Option, Some, None, IfSome, IsSomeAnd, Vec, length}
+use Rattle.std.specs.Prelude.{map, filter, slice_get, slice_index_or, vec_len, vec_capacity, IsPermutation}
 use Rattle.std.specs.List.Sorted.{IsStrictlyIncreasing}
 use Rattle.std.specs.List.{All, AllZip, Any}
 use Rattle.spindle_parts.specs.Pieces.{counted, joined}
-use Rattle.spindle_parts.specs.declared.fault.Fault.{Fault}
-use Rattle.spindle_parts.specs.declared.fault.Fault.TheVariants.{Memory, Lost}
-use Rattle.spindle_rounds.specs.Leftovers.{IsFoundLeft}
-use Rattle.spindle_rounds.specs.declared.round_table.view.View.{View}
 use Rattle.spindle_trays.specs.PieceRuns.{piece_at}
 use Rattle.spindle_trays.specs.declared.lock.report.Report.{Report}
 use Rattle.spindle_trays.specs.declared.work.tally.Tally.{Tally}
@@ -56,42 +52,50 @@ pub record IsReport {A B : Type 0} (Meets : A → B → Type 0) (Fails : B → T
   -- where a piece was skipped, one that ran has failed
   pub stopped : (report.skipped.items ≡ []) ⊎ Any (HasFailed Fails) report.ran.items
 
--- why a round of so many jobs that may stop may be refused, and what the leader's seat knows then: where one thread takes part,
--- a piece is lost only if its number was left
-abbrev pub IsTryRefusal : {N : Type 0} → (threads jobs : ℕ) → View N → Fault → Type 0
-IsTryRefusal threads jobs v Memory = Unit {0}
-IsTryRefusal threads jobs v (Lost k) = (k < jobs) × (2 ≤ jobs) × (threads ≤ 1 → IsFoundLeft v threads jobs k)
-
 -- whether the number k is marked
 abbrev pub is_marked : List Bool → ℕ → Bool
 is_marked marks k = slice_index_or marks k false
 
--- a tally of the first k of n pieces, of which some are marked as left, as long as none was lost
-pub record IsTold {A B : Type 0} (Meets : A → B → Type 0) (items : List A) (n : ℕ) (left : List Bool) (k : ℕ) (tally : Tally B) : Type 0 where
+-- the number k, where its piece is lost: it is marked as left and ran, or it isn't and didn't
+abbrev pub lost_at : {X : Type 0} → Bool → Option X → (k : ℕ) → Option ℕ
+lost_at true (Some outputs) k = Some k
+lost_at false (Some outputs) k = None
+lost_at true None k = None
+lost_at false None k = Some k
+
+-- the less of two numbers, or the one that there is
+abbrev pub less_of : Option ℕ → Option ℕ → Option ℕ
+less_of None q = q
+less_of (Some i) None = Some i
+less_of (Some i) (Some j) = Some (min i j)
+
+-- the less of the number that was noted as lost and the first that was skipped
+abbrev pub first_astray : {B : Type 0} → Tally B → Option ℕ
+first_astray tally = less_of tally.lost (slice_get tally.skipped.items 0)
+
+-- the least number that is lost of all: what was skipped is lost too, where no piece that ran has failed
+abbrev pub least_lost : {B : Type 0} → Tally B → Option ℕ
+least_lost tally = if tally.failed then tally.lost else first_astray tally
+
+-- a tally of the first k pieces, of which some are marked as left, as long as none was lost
+pub record IsTold {B : Type 0} (left : List Bool) (k : ℕ) (tally : Tally B) : Type 0 where
   pub ran : numbers_of tally.ran.items ≡ filter (λ j. not (is_marked left j)) (counted 0 k)
   pub skipped : tally.skipped.items ≡ filter (is_marked left) (counted 0 k)
-  pub answers : All (IsAnswered Meets items n) tally.ran.items
 
--- the first k pieces were noted, and there is room for the others
+-- the first k of n pieces were noted, and there is room for the others
 pub record IsNoted {A B : Type 0} (Meets : A → B → Type 0) (Fails : B → Type 0) (items : List A) (n : ℕ) (left : List Bool) (k : ℕ) (tally : Tally B)
     : Type 0 where
   pub ran_room : vec_len tally.ran ≤ k
   pub skipped_room : vec_len tally.skipped ≤ k
   pub ran_most : n ≤ vec_capacity tally.ran
   pub skipped_most : n ≤ vec_capacity tally.skipped
-  pub told : tally.lost ≡ None → IsTold Meets items n left k tally
+  pub told : tally.lost ≡ None → IsTold left k tally
+  pub answers : All (IsAnswered Meets items n) tally.ran.items
   pub failed : tally.failed ≡ true → Any (HasFailed Fails) tally.ran.items
   pub marked : All (λ j. (j < k) × (is_marked left j ≡ true)) tally.skipped.items
   pub lost : IfSome tally.lost (λ j. j < k)
-
--- a number that is lost is below n, and a marked one unless the tally lost one before
-abbrev pub IsLostAt : {B : Type 0} → (n : ℕ) → List Bool → Tally B → ℕ → Type 0
-IsLostAt n left tally k = (k < n) × (tally.lost ≡ None → is_marked left k ≡ true)
-
--- a fault that tells such a number, and no want of memory
-abbrev pub IsLostOf : {B : Type 0} → (n : ℕ) → List Bool → Tally B → Fault → Type 0
-IsLostOf n left tally Memory = ⊥
-IsLostOf n left tally (Lost k) = IsLostAt n left tally k
+  -- each marked number was skipped or lost, so none is less than the first of these
+  pub least : (j : ℕ) → j < k → is_marked left j ≡ true → IsSomeAnd (first_astray tally) (λ i. i ≤ j)
 
 -- a report of no pieces
 abbrev pub IsOfNone : {B : Type 0} → Report B → Type 0

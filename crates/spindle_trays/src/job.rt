@@ -19,7 +19,8 @@ pub(crate) mod sealed;
 /// A kind of job has no value at run time: what `run` needs beside its context stands in the input.
 pub trait Job {
     /// What a job is given. A round lends its items to other threads as runs of one list, and compares what comes back
-    /// with what it handed out, so a comparison ought to be cheap. No item is cloned.
+    /// with what it handed out, so a comparison ought to be cheap. No item is cloned; `Clone` is for code that is
+    /// generic in the job.
     type In: Clone + Eq + Drop;
 
     /// What a job answers. A job that can fail says so here.

@@ -2,9 +2,10 @@
 //!
 //! `pool` has what a lock is opened with, `root` and `opening` how it opens, `leader` the rounds, `trying` those that may stop and
 //! `report` what came of them, `rounds` what the leaders of all kinds of lock have in common, `helper` the life of its other
-//! threads, `part` what they do in a round, and `nested` the locks that jobs open.
+//! threads, `helpers` their start and join, `part` what they do in a round, and `nested` the locks that jobs open.
 
 mod helper;
+pub mod helpers;
 pub mod leader;
 pub mod nested;
 pub mod opening;

@@ -92,6 +92,20 @@ pub fn await_count(count: &AtomicUsize, wanted: usize, missed: &AtomicUsize) {
     await_for(MOST_TURNS, count, wanted, missed);
 }
 
+/// Waits until a word has this value, and gives it another; where it doesn't come to have it, one more has missed it.
+pub fn await_turn(word: &AtomicUsize, free: usize, taken: usize, missed: &AtomicUsize) {
+    for turn in 0..MOST_TURNS {
+        if let Ok(_) = word.compare_exchange(free, taken, Ordering::SeqCst, Ordering::SeqCst) {
+            return;
+        }
+        if turn % TURNS_BEFORE_A_YIELD == 0 {
+            thread::yield_now();
+        }
+        spin_loop();
+    }
+    missed.fetch_add(1, Ordering::SeqCst);
+}
+
 // The same for so many turns. Where one has missed the others, no other waits for them.
 fn await_for(turns: usize, count: &AtomicUsize, wanted: usize, missed: &AtomicUsize) {
     for turn in 0..turns {

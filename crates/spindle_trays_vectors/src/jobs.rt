@@ -1,27 +1,28 @@
 //! Jobs and a gate that rows of all kinds of lock share.
-ghost use Rattle.std.specs.Prelude.{◌≡◌};
+ghost use Rattle.std.specs.Prelude.{◌≡◌, ◌<◌, ◌≤◌, IfSome};
 ghost use Rattle.std.proofs.Common.{rules};
 
 use spindle_trays::job::Job;
 use spindle_trays::job::context::JobCx;
 use spindle_trays::job::gate::Gate;
-use spindle_trays::job::nest::End;
+use spindle_trays::job::nest::{End, Nest};
 use std::alloc::Global;
 use std::sync::Wait;
 use std::sync::atomic::{AtomicUsize, Ordering};
 use std::thread::Threads;
 
-/// Answers where it runs: its thread's number, how many threads are there, and the lock's threads.
+/// Where a job runs: its thread's number, how many threads are there, and the lock's threads.
+pub type Seen = (Option<usize>, usize, usize);
+
+/// Answers where it runs.
 pub struct Place;
 
 impl Job for Place {
     type In = usize;
 
-    type Out = (Option<usize>, usize, usize);
+    type Out = Seen;
 
     type Inner = End;
-
-    ghost use Rattle.std.specs.Prelude.{◌<◌, ◌≤◌, IfSome};
 
     ghost meets = { λ _ place. (0 < place.1) × (place.1 ≤ place.2)
         × IfSome place.0 (λ i. i < place.2) };
@@ -31,22 +32,31 @@ impl Job for Place {
         _alloc: Global,
         _input: &usize,
         cx: &mut JobCx<End>,
-    ) -> (Option<usize>, usize, usize) {
+    ) -> Seen {
         cx.relieve_workers();
-        (
-            cx.current_thread_index(),
-            cx.current_num_threads(),
-            cx.max_num_threads(),
-        )
+        seen_by(cx)
     }
 
     ghost equal_is_same = { Prim.search rules };
 }
 
-/// Whether each of so many threads ran one of the jobs that ran there.
-pub fn one_each(places: &[(Option<usize>, usize, usize)], threads: usize) -> bool {
+/// Where the job of this context runs.
+pub fn seen_by<N: Nest>(cx: &JobCx<N>) -> Seen
+    ensures place { (0 < result.1) × (result.1 ≤ result.2) }
+    ensures threads { result.2 ≡ cx.now.threads }
+    ensures number { IfSome result.0 (λ i. i < result.2) }
+{
+    (
+        cx.current_thread_index(),
+        cx.current_num_threads(),
+        cx.max_num_threads(),
+    )
+}
+
+/// Whether each of so many threads ran so many of the jobs that ran there.
+pub fn each_ran(places: &[Seen], threads: usize, jobs: usize) -> bool {
     for thread in 0..threads {
-        if runs_of(places, thread) != 1 {
+        if runs_of(places, thread) != jobs {
             return false;
         }
     }
@@ -54,7 +64,7 @@ pub fn one_each(places: &[(Option<usize>, usize, usize)], threads: usize) -> boo
 }
 
 // How many of the jobs a thread ran.
-fn runs_of(places: &[(Option<usize>, usize, usize)], thread: usize) -> usize {
+fn runs_of(places: &[Seen], thread: usize) -> usize {
     let mut runs = 0usize;
     for place in places {
         if place.0 == Some(thread) {
@@ -90,6 +100,23 @@ impl Job for Square {
     ghost equal_is_same = { Prim.search rules };
 }
 
+/// Does nothing.
+pub struct Idle;
+
+impl Job for Idle {
+    type In = ();
+
+    type Out = ();
+
+    type Inner = End;
+
+    ghost meets = { λ _ _. Unit {0} };
+
+    fn run<H: Threads + Wait + Sync>(_rt: &H, _alloc: Global, _input: &(), _cx: &mut JobCx<End>) {}
+
+    ghost equal_is_same = { Prim.search rules };
+}
+
 /// How often a gate was called before jobs and after them: for job 0 to job 3, and last for any other.
 #[derive(Drop)]
 pub struct Calls {
@@ -114,6 +141,12 @@ impl Calls {
             begun[at].load(Ordering::SeqCst),
             done[at].load(Ordering::SeqCst),
         )
+    }
+
+    /// The calls for all jobs since there were so many.
+    pub fn since(&self, before: (usize, usize)) -> (usize, usize) {
+        let (begun, done) = self.in_all();
+        (begun.wrapping_sub(before.0), done.wrapping_sub(before.1))
     }
 
     /// The calls for all jobs; the sum wraps.

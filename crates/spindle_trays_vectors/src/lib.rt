@@ -6,34 +6,26 @@
 mod checks;
 #[cfg(test)]
 mod crossings;
-#[cfg(test)]
-mod gate_rows;
 pub mod gates;
 #[cfg(test)]
 mod gathering_rows;
+#[cfg(test)]
+mod item_rows;
 pub mod jobs;
-#[cfg(test)]
-mod leader_rows;
 pub mod lists;
+pub mod marks;
 #[cfg(test)]
-mod marks;
+mod place_rows;
 #[cfg(test)]
-mod often;
-#[cfg(test)]
-mod refusals;
-#[cfg(test)]
-mod refused_lists;
-#[cfg(test)]
-mod refused_trying;
+mod refused_rounds;
 pub mod rounds;
 pub mod sevens;
 #[cfg(test)]
+mod square_rows;
+pub mod staying;
+#[cfg(test)]
 mod stopping_rows;
 #[cfg(test)]
-mod thread_rows;
-#[cfg(test)]
-mod tray_rows;
+mod tally_rows;
 #[cfg(test)]
 mod trying;
-#[cfg(test)]
-mod trying_rows;

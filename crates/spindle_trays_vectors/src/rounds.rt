@@ -1,6 +1,7 @@
-//! Rounds in locks of their own, for rows that need no more of their leader.
+//! Rounds in a lock of their own, for rows that need no more of its leader.
 ghost use Rattle.std.specs.Prelude.{◌<◌};
 
+use crate::jobs::Seen;
 use spindle_parts::fault::Fault;
 use spindle_trays::job::Job;
 use spindle_trays::job::gate::Gate;
@@ -13,15 +14,17 @@ use std::alloc::Global;
 use std::sync::Wait;
 use std::thread::Threads;
 
-/// What the jobs of one round answer, in a lock of so many threads at most.
-pub fn round_of<J: Job + Send, G: Gate + Sync, H: Threads + Wait + Sync>(
+/// So many rounds over the same items in one lock: what their jobs answer, one round after the other, and what the leader sees after
+/// each. Before every second round it tells its helpers to rest.
+pub fn rounds_of<J: Job + Send, G: Gate + Sync, H: Threads + Wait + Sync>(
     rt: &H,
     alloc: Global,
     pool: &Pool<G>,
     most: usize,
     jobs: usize,
-    items: Vec<J::In>,
-) -> Result<Vec<J::Out>, Fault>
+    rounds: usize,
+    items: &[J::In],
+) -> Result<(Vec<J::Out>, Vec<Seen>), Fault>
 where
     J::In: Send + Sync,
     J::Out: Send,
@@ -37,62 +40,48 @@ where
         most,
         |leader|
             requires { 0 < jobs }
-        { leader.for_each(rt, alloc, jobs, items) },
+        { play(rt, alloc, leader, jobs, rounds, items) },
     )?
 }
 
-/// What the jobs answer in the last of so many rounds of one lock, of the pool's threads: a round in which they answer something else
-/// than expected is the last. So is one after which the leader counts no thread, or more than the pool has, and no answers come out.
-pub fn last_round<J: Job + Send, G: Gate + Sync, H: Threads + Wait + Sync>(
+// The rounds of a leader.
+fn play<J: Opens<L>, G: Gate, L, H: Threads + Wait + Sync>(
     rt: &H,
     alloc: Global,
-    pool: &Pool<G>,
+    leader: &mut Leader<J, G, L>,
     jobs: usize,
     rounds: usize,
     items: &[J::In],
-    expected: &[J::Out],
-) -> Result<Vec<J::Out>, Fault>
-where
-    J::In: Send + Sync,
-    J::Out: PartialEq + Send,
-    J::Inner: Send,
-    <J::Inner as Nest>::Slots: Send + Sync,
+) -> Result<(Vec<J::Out>, Vec<Seen>), Fault>
     requires { 0 < jobs }
 {
-    with_lock::<J, _, _, _, _, _>(
-        rt,
-        alloc,
-        pool,
-        pool.max_num_threads(),
-        |leader|
-            requires { 0 < jobs }
-        {
-            let mut last = Vec::new(alloc);
-            for _ in 0..rounds {
-                last = counted_round(rt, alloc, leader, jobs, items)?;
-                if last.as_slice() != expected {
-                    break;
-                }
-            }
-            Ok::<Vec<J::Out>, Fault>(last)
-        },
-    )?
+    let mut answers = Vec::new(alloc);
+    let mut seen = Vec::new(alloc);
+    for round in 0..rounds {
+        if round % 2 == 1 {
+            leader.relieve_workers();
+        }
+        play_once(rt, alloc, leader, jobs, items, &mut answers)?;
+        seen.push((
+            leader.current_thread_index(),
+            leader.current_num_threads(),
+            leader.max_num_threads(),
+        ))?;
+    }
+    Ok((answers, seen))
 }
 
-// One round; no answers where the leader then counts no thread, or more than the lock has.
-fn counted_round<J: Opens<L>, G: Gate, L, H: Threads + Wait + Sync>(
+// One round, whose answers come to the end of the list.
+fn play_once<J: Opens<L>, G: Gate, L, H: Threads + Wait + Sync>(
     rt: &H,
     alloc: Global,
     leader: &mut Leader<J, G, L>,
     jobs: usize,
     items: &[J::In],
-) -> Result<Vec<J::Out>, Fault>
+    answers: &mut Vec<J::Out>,
+) -> Result<(), Fault>
     requires { 0 < jobs }
 {
-    let answers = leader.for_each(rt, alloc, jobs, items.to_vec(alloc)?)?;
-    let most = leader.max_num_threads();
-    if (1..=most).contains(&leader.current_num_threads()) {
-        return Ok(answers);
-    }
-    Ok(Vec::new(alloc))
+    let mut answered = leader.for_each(rt, alloc, jobs, items.to_vec(alloc)?)?;
+    Ok(answers.append(&mut answered)?)
 }

@@ -1,45 +1,95 @@
 //! What a job is given beside its input: where it runs.
-ghost use Rattle.std.specs.Prelude.{◌≡◌, ◌<◌, ◌≤◌, IfSome};
+//!
+//! A job sees of its context what the methods tell. By the functions and `Asks` the crates above open locks in jobs, and `spindle`
+//! doesn't give them out.
+ghost use Rattle.std.specs.Prelude.{◌≡◌, ◌+◌, ◌<◌, ◌≤◌, IfSome, is_some};
 
 use crate::job::nest::Nest;
+use spindle_crew::Crew;
+use spindle_crew::asking::Asked;
 use spindle_crew::notices::Notices;
 use spindle_crew::site::Site;
+use spindle_crew::tables::Tables;
+use spindle_rounds::round_table::slots::Slots;
 use std::marker::Model;
 
 /// The context of a job whose kind has the inner nest N.
 #[derive(Drop)]
 pub struct JobCx<'a, N: Nest> {
-    /// The lock's child slots; none in a job that another job runs directly.
-    pub slots: Option<&'a N::Slots>,
-    /// Its access to what the lock's threads announce.
-    pub notices: Notices<'a>,
-    /// What it sees of its lock.
-    pub site: Site<'a>,
+    // The lock's child slots; none in a job that another job runs directly.
+    pub(crate) slots: Option<&'a N::Slots>,
+    /// By this the library asks for the helpers of a lock that the job opens.
+    pub asks: Asks<'a>,
+    // What it sees of its lock.
+    pub(crate) site: Site<'a>,
+}
+
+/// A job's access to what its lock's threads announce. Who has no tables of a lock, as a job hasn't, can do nothing with it.
+#[derive(Drop)]
+pub struct Asks<'a> {
+    pub(crate) notices: Notices<'a>,
+}
+
+impl<'a> Asks<'a> {
+    ghost use Rattle.spindle_crew.specs.Accounts.{account_of};
+
+    /// Asks for a helper for each thread but the leader of the lock with these tables, which the job opens.
+    pub fn ask<D: Slots>(&mut self, tables: &Tables<D>) -> Asked<'a>
+        ensures same { account_of self.new.notices ≡ account_of self.old.notices }
+        ensures helpers { 1 + result.helpers ≡ tables.now.crew.threads }
+    {
+        self.notices.ask(tables)
+    }
 }
 
 impl<'a, N: Nest> Model for JobCx<'a, N> {
-    ghost use Rattle.spindle_trays.specs.Locks.{ContextView};
+    ghost use Rattle.std.specs.Prelude.{is_some};
+    ghost use Rattle.spindle_trays.specs.Locks.{ContextView, context_at};
     ghost use Rattle.spindle_crew.specs.Accounts.{account_of};
 
     ghost Value = { ContextView };
 
-    ghost view = { λ c. record { threads = c.site.crew.most; pool = c.site.crew.pool; account = account_of c.notices } };
+    ghost view = { λ c. context_at (is_some c.slots) c.site (account_of c.asks.notices) };
 }
 
 impl<'a, N: Nest> JobCx<'a, N> {
     ghost use Rattle.spindle_crew.specs.Accounts.{account_of};
     ghost use Rattle.spindle_crew.specs.Notices.{AnnouncedRest};
+    ghost use Rattle.spindle_crew.specs.Crews.{lock_threads};
+    ghost use Rattle.spindle_trays.specs.Locks.{RunsDirectly, context_at, knowing, nested_hands};
 
     /// The context of a job that runs at this site.
     pub fn new(slots: Option<&'a N::Slots>, notices: Notices<'a>, site: Site<'a>) -> JobCx<'a, N>
-        ensures threads { result.threads ≡ site.entry.crew.most }
-        ensures pool { result.pool ≡ site.entry.crew.pool }
-        ensures account { result.account ≡ account_of notices.entry }
+        ensures { result ≡ context_at (is_some slots.entry) site.entry (account_of notices.entry) }
     {
         JobCx {
             slots,
-            notices,
+            asks: Asks { notices },
             site,
+        }
+    }
+
+    /// The context of a job that one at this site runs directly.
+    pub(crate) fn within(notices: Notices<'a>, site: &Site<'a>) -> JobCx<'a, N>
+        ensures { RunsDirectly site.now result }
+    {
+        JobCx {
+            slots: None,
+            asks: Asks { notices },
+            site: site.within(),
+        }
+    }
+
+    /// The threads of a lock that the job opens. Its leader is alone where there are no child slots.
+    pub(crate) fn crew_for(&self, max_threads: usize) -> Crew
+        requires some { 0 < max_threads }
+        ensures most { result.most ≡ lock_threads self.now.pool max_threads }
+        ensures hands { result.threads ≡ nested_hands self.now.has_slots result.most }
+    {
+        let crew = self.site.crew.nested(max_threads);
+        match self.slots {
+            Some(_) => crew,
+            None => crew.alone(),
         }
     }
 
@@ -48,6 +98,7 @@ impl<'a, N: Nest> JobCx<'a, N> {
     pub fn current_num_threads(&self) -> usize
         ensures leader { 0 < result }
         ensures most { result ≤ self.now.threads }
+        ensures told { IfSome self.now.told (λ now. result ≡ now) }
     {
         self.site.current()
     }
@@ -62,7 +113,8 @@ impl<'a, N: Nest> JobCx<'a, N> {
     /// The number of the thread that runs the job, the leader's being 0; None in a job that a leader runs
     /// directly.
     pub fn current_thread_index(&self) -> Option<usize>
-        ensures { IfSome result (λ index. index < self.now.threads) }
+        ensures index { result ≡ self.now.index }
+        ensures number { IfSome result (λ index. index < self.now.threads) }
     {
         self.site.index
     }
@@ -70,9 +122,23 @@ impl<'a, N: Nest> JobCx<'a, N> {
     /// Tells idle helpers of the lock to sleep at once until its next round. A leader that works alone has none.
     pub fn relieve_workers(&mut self)
         ensures rest { AnnouncedRest self.old.account self.new.account }
-        ensures lock { self.new.threads ≡ self.old.threads }
-        ensures pool { self.new.pool ≡ self.old.pool }
+        ensures same { self.new ≡ knowing self.new.account self.old }
     {
-        self.notices.announce_rest();
+        self.asks.notices.announce_rest();
     }
+}
+
+/// Where a job runs.
+pub fn site_of<'a, N: Nest>(cx: &JobCx<'a, N>) -> Site<'a>
+    ensures threads { result.crew.most ≡ cx.now.threads }
+    ensures pool { result.crew.pool ≡ cx.now.pool }
+{
+    cx.site
+}
+
+/// The child slots in which the locks stand that a job opens.
+pub fn child_slots_of<'a, N: Nest>(cx: &JobCx<'a, N>) -> Option<&'a N::Slots>
+    ensures { is_some result ≡ cx.now.has_slots }
+{
+    cx.slots
 }

@@ -5,11 +5,12 @@ ghost use Rattle.std.specs.Prelude.{◌≡◌, ◌<◌, ◌≤◌, [], IfOk, IfE
 ghost use Rattle.std.specs.List.{AllZip};
 ghost use Rattle.std.specs.Fn.{FnOnceReturnsAtMut};
 ghost use Rattle.spindle_parts.specs.Pieces.{counted};
-ghost use Rattle.spindle_trays.specs.Leaders.{crew_of, threads_of, hands_of, AnnouncedRest, IsBetweenRounds, MadeNoStep, PlayedOnce, LeftByRefusal};
+ghost use Rattle.spindle_trays.specs.Leaders.{crew_of, threads_of, hands_of, AnnouncedRest, DidNothing, IsBetweenRounds, MadeNoStep, PlayedOnce, LeftByRefusal};
 ghost use Rattle.spindle_trays.specs.Rounds.{job_count, IsRefusal};
 
 use crate::job::Job;
 use crate::job::gate::Gate;
+use crate::lock::nested::Leads;
 use crate::lock::workspace::{Opens, Workspace};
 use crate::pieces::runs::Pieces;
 use crate::pieces::spares::Spares;
@@ -53,18 +54,6 @@ impl<'a, J: Opens<L>, G: Gate, L> Leader<'a, J, G, L> {
         }
     }
 
-    /// Leaves the lock's barrier.
-    pub(crate) fn leave<H: Wait>(self, rt: &H) {
-        let LeaderPost { post } = self.post;
-        drop(post.leave(rt));
-    }
-
-    /// Tells the helpers to end.
-    pub(crate) fn dismiss<H: Wait>(&mut self, rt: &H) {
-        self.runner.notices.announce_exit();
-        self.post.post.tables.wake_for_news(rt);
-    }
-
     /// Runs the items in `n_jobs` jobs, or in as many as there are items where these are fewer, and at most in
     /// 4294967295. Each job runs a piece of the items, as `cut` cuts them. Outputs stand in the order of the items.
     ///
@@ -82,6 +71,7 @@ impl<'a, J: Opens<L>, G: Gate, L> Leader<'a, J, G, L> {
         ensures refused { IfErr result
             (IsRefusal (hands_of self.old) (job_count (vec_len items) n_jobs)) }
         ensures empty { vec_len items ≡ 0 → IsOk result }
+        ensures nothing { vec_len items ≡ 0 → DidNothing self.old self.new }
         ensures played { let jobs = job_count (vec_len items) n_jobs in
             OnOk result (2 ≤ jobs → PlayedOnce jobs self.old self.new) }
         ensures direct { job_count (vec_len items) n_jobs ≤ 1 → MadeNoStep self.old self.new }
@@ -111,6 +101,7 @@ impl<'a, J: Opens<L>, G: Gate, L> Leader<'a, J, G, L> {
         ensures refused { IfErr result
             (IsRefusal (hands_of self.old) (job_count (vec_len items) n_jobs)) }
         ensures empty { vec_len items ≡ 0 → IsOk result }
+        ensures nothing { vec_len items ≡ 0 → DidNothing self.old self.new }
         ensures played { let jobs = job_count (vec_len items) n_jobs in
             OnOk result (2 ≤ jobs → PlayedOnce jobs self.old self.new) }
         ensures direct { job_count (vec_len items) n_jobs ≤ 1 → MadeNoStep self.old self.new }
@@ -257,6 +248,7 @@ impl<'a, J: Opens<L, In = usize>, G: Gate, L> Leader<'a, J, G, L> {
         ensures refused { IfErr result
             (IsRefusal (hands_of self.old) (job_count n_jobs n_jobs)) }
         ensures empty { n_jobs ≡ 0 → IsOk result }
+        ensures nothing { n_jobs ≡ 0 → DidNothing self.old self.new }
         ensures played { let jobs = job_count n_jobs n_jobs in
             OnOk result (2 ≤ jobs → PlayedOnce jobs self.old self.new) }
         ensures direct { n_jobs ≤ 1 → MadeNoStep self.old self.new }
@@ -273,5 +265,21 @@ impl<'a, J: Opens<L, In = usize>, G: Gate, L> Leader<'a, J, G, L> {
             numbers.push_reserved(number);
         }
         self.for_each(rt, alloc, n_jobs, numbers)
+    }
+}
+
+impl<'a, J: Opens<L>, G: Gate, L> Leads for Leader<'a, J, G, L> {
+    ghost use Rattle.spindle_trays.specs.Leaders.{account_of};
+
+    ghost account = { account_of };
+
+    fn dismiss<H: Wait>(&mut self, rt: &H) {
+        self.runner.notices.announce_exit();
+        self.post.post.tables.wake_for_news(rt);
+    }
+
+    fn leave<H: Wait>(self, rt: &H) {
+        let LeaderPost { post } = self.post;
+        drop(post.leave(rt));
     }
 }

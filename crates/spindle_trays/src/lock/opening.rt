@@ -1,4 +1,4 @@
-//! Starting the helpers of a lock, and running its closure beside them.
+//! Starting the helpers of a lock, running its closure beside them, and joining them.
 ghost use Rattle.std.specs.Prelude.{◌≡◌, []};
 ghost use Rattle.spindle_trays.specs.Leaders.{WasLed};
 ghost use Rattle.spindle_crew.specs.Opening.{AreSeatsAt};
@@ -7,7 +7,9 @@ use crate::job::Job;
 use crate::job::gate::Gate;
 use crate::job::nest::Nest;
 use crate::lock::helper::help;
+use crate::lock::helpers::{Helpers, Room};
 use crate::lock::leader::Leader;
+use crate::lock::nested::Leads;
 use crate::lock::part::TakesPart;
 use crate::lock::pool::Pool;
 use crate::lock::workspace::Opens;
@@ -22,17 +24,19 @@ use std::alloc::Global;
 use std::sync::Wait;
 use std::thread::{Scope, Threads};
 
-/// What the leader of a lock comes to: the lock's tables, what stands beside them, its pool, and the leader's seats.
+/// What the leader of a lock comes to: the lock's tables, what stands beside them, its pool, the leader's seats, and room for the
+/// helpers.
 #[derive(Drop)]
 pub(crate) struct Entrant<'s, D: Slots, G: Gate, L> {
     pub(crate) tables: &'s Tables<D>,
     pub(crate) workspace: &'s L,
     pub(crate) pool: &'s Pool<G>,
     pub(crate) seats: Seats<D>,
+    pub(crate) room: Room,
     ghost seated: { AreSeatsAt tables.now seats },
 }
 
-// Starts as many helpers as the pool may start, but no more than the lock has threads beside its leader.
+// Starts as many helpers as there is room for. One that can't be started is left out.
 fn start<
     's,
     E,
@@ -47,9 +51,10 @@ fn start<
     alloc: Global,
     tables: &'s Tables<D>,
     workspace: &'s L,
-    pool: &'s Pool<G>,
+    gate: &'s G,
     seats: &mut Seats<D>,
-)
+    room: Room,
+) -> Helpers
 where
     D::Slot: Send,
     D::Note: Send,
@@ -60,11 +65,15 @@ where
     requires { AreSeatsAt tables.now seats.old }
     ensures { AreSeatsAt tables.now seats.new }
 {
-    let gate = pool.gate();
-    for _ in 0..pool.starts().min(tables.crew.threads() - 1) {
+    let Room { mut threads } = room;
+    for asked in 0..threads.capacity() {
         let recruit = seats.recruit(tables);
-        drop(scope.spawn(move || drop(help::<D, J, L, G, H>(rt, alloc, recruit, workspace, gate))));
+        let life = move || drop(help::<D, J, L, G, H>(rt, alloc, recruit, workspace, gate));
+        if let Ok(thread) = scope.spawn(life) {
+            threads.push_reserved(thread);
+        }
     }
+    Helpers { threads }
 }
 
 /// Starts the helpers, and takes the leader's post. The leader runs jobs with what comes beside its post.
@@ -84,7 +93,8 @@ pub fn muster<
     workspace: &'s L,
     pool: &'s Pool<G>,
     mut seats: Seats<D>,
-) -> (LeaderPost<'s, D>, Runner<'s, J, G>)
+    room: Room,
+) -> (LeaderPost<'s, D>, Runner<'s, J, G>, Helpers)
 where
     D::Slot: Send,
     D::Note: Send,
@@ -98,8 +108,12 @@ where
     ensures slots { let seat = result.0.post.barrier.seat in
         (seat.me.1 ≡ []) × (seat.me.0.board ≡ []) }
 {
-    start::<_, D, J, G, L, H>(scope, rt, alloc, tables, workspace, pool, &mut seats);
-    take_post::<D, J, G, L, H>(rt, tables, workspace, pool.gate(), seats)
+    let gate = pool.gate();
+    let helpers = start::<_, D, J, G, L, H>(
+        scope, rt, alloc, tables, workspace, gate, &mut seats, room,
+    );
+    let (post, runner) = take_post::<D, J, G, L, H>(rt, tables, workspace, gate, seats);
+    (post, runner, helpers)
 }
 
 /// Takes the leader's post of a lock. The leader runs jobs with what comes beside its post.
@@ -123,7 +137,7 @@ pub fn take_post<'s, D: Slots, J: Job, G: Gate, L: TakesPart<J, D>, H: Wait>(
     (post, runner)
 }
 
-/// Starts the helpers, runs f, and dismisses them.
+/// Starts the helpers, runs f, and dismisses and joins them.
 pub(crate) fn lead<
     's,
     E,
@@ -148,12 +162,14 @@ where
         workspace,
         pool,
         seats,
+        room,
     } = entrant;
-    let (post, runner) = muster::<_, Bare, J, G, L, H>(
-        scope, rt, alloc, tables, workspace, pool, seats,
+    let (post, runner, helpers) = muster::<_, Bare, J, G, L, H>(
+        scope, rt, alloc, tables, workspace, pool, seats, room,
     );
     let mut leader = Leader::new(workspace, runner, post);
     let answer = f(&mut leader);
     leader.dismiss(rt);
+    helpers.join(rt);
     answer
 }

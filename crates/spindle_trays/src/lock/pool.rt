@@ -3,7 +3,7 @@ ghost use Rattle.std.specs.Prelude.{◌≡◌, ◌<◌, IsNone};
 
 use crate::job::gate::{Gate, NoGate};
 use rayon::current_num_threads;
-use spindle_crew::limits::Limits;
+use spindle_crew::limits::{Idling, Limits};
 use std::marker::Model;
 use std::thread::Threads;
 
@@ -12,7 +12,7 @@ use std::thread::Threads;
 #[derive(Drop)]
 pub struct Pool<G: Gate> {
     threads: usize,
-    limits: Limits,
+    idling: Idling,
     gate: G,
     starts: usize,
 }
@@ -23,7 +23,7 @@ impl<G: Gate> Model for Pool<G> {
 
     ghost Value = { PoolView };
 
-    ghost view = { λ p. record { threads = p.threads } };
+    ghost view = { λ p. record { threads = p.threads; patience = p.idling.patience } };
 
     ghost invariant = { λ p. 0 < p.threads };
 }
@@ -32,7 +32,8 @@ impl<G: Gate> Pool<G> {
     /// A pool of so many threads, a leader counted.
     pub fn new(threads: usize, limits: Limits, gate: G) -> Pool<G>
         requires { 0 < threads }
-        ensures { result.threads ≡ threads }
+        ensures threads { result.threads ≡ threads }
+        ensures patience { result.patience ≡ 0 }
     {
         Pool::with_starts(threads, limits, gate, threads)
     }
@@ -41,14 +42,31 @@ impl<G: Gate> Pool<G> {
     /// started. It shows what a lock answers on a machine that gives it fewer threads.
     pub fn with_starts(threads: usize, limits: Limits, gate: G, starts: usize) -> Pool<G>
         requires { 0 < threads }
-        ensures { result.threads ≡ threads }
+        ensures threads { result.threads ≡ threads }
+        ensures patience { result.patience ≡ 0 }
     {
+        let idling = Idling {
+            limits,
+            patience: 0,
+        };
         Pool {
             threads,
-            limits,
+            idling,
             gate,
             starts,
         }
+    }
+
+    /// The same pool, in whose locks, and in those that their jobs open, so many pauses of each wait pass before a helper looks
+    /// whether locks that jobs opened ask for it; it looks before it sleeps too. Where nothing is said each look is at that.
+    ///
+    /// So a lock that a job opens for a moment stays its leader's alone, who is done with it sooner so.
+    pub fn with_patience(mut self, pauses: u32) -> Pool<G>
+        ensures threads { result.threads ≡ self.threads }
+        ensures patience { result.patience ≡ pauses }
+    {
+        self.idling.patience = pauses;
+        self
     }
 
     /// The pool's threads.
@@ -78,14 +96,19 @@ impl<G: Gate> Pool<G> {
         &self.gate
     }
 
-    /// How long the threads of its locks pause before they sleep.
-    pub fn limits(&self) -> Limits {
-        self.limits
+    /// How the threads of its locks idle.
+    pub fn idling(&self) -> Idling
+        ensures { result.patience ≡ self.now.patience }
+    {
+        self.idling
     }
 
-    /// How many helpers a lock may start.
-    pub fn starts(&self) -> usize {
-        self.starts
+    /// How many helpers a lock of so many threads starts.
+    pub fn helpers(&self, threads: usize) -> usize
+        requires { 0 < threads }
+        ensures { result < threads }
+    {
+        self.starts.min(threads - 1)
     }
 }
 

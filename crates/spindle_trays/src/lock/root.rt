@@ -6,6 +6,7 @@ ghost use Rattle.spindle_crew.specs.Crews.{lock_threads};
 
 use crate::job::gate::Gate;
 use crate::job::nest::Nest;
+use crate::lock::helpers::Room;
 use crate::lock::leader::Leader;
 use crate::lock::opening::{Entrant, lead};
 use crate::lock::pool::Pool;
@@ -49,17 +50,19 @@ where
     let workspace = J::open(alloc, crew.threads())?;
     let (round, seat) = Round::new(alloc, crew.threads())?;
     let child_slots = J::Inner::slot_count(crew.threads());
-    let (tables, seats) = Tables::new(alloc, crew, pool.limits(), child_slots, round, seat)?;
+    let (tables, seats) = Tables::new(alloc, crew, pool.idling(), child_slots, round, seat)?;
+    let room = Room::new(alloc, pool.helpers(crew.threads()))?;
     let entrant = Entrant {
         tables: &tables,
         workspace: &workspace,
         pool,
         seats,
+        room,
     };
     Ok(scoped(rt, alloc, entrant, f))
 }
 
-// Opens the scope of the helpers' threads, which joins them at its end.
+// Opens the scope of the helpers' threads.
 fn scoped<
     J: Opens<L> + Send,
     G: Gate + Sync,

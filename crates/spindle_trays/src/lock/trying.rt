@@ -1,9 +1,9 @@
 //! Rounds of a lock that may stop: a piece that fails stops its round, and the leader learns which pieces ran.
-ghost use Rattle.std.specs.Prelude.{◌≡◌, ◌↔◌, ℕ, ◌<◌, ◌≤◌, Bool, List, None, true, IfOk, IfErr, OnOk, OnErr, IsErrOf, IsOk, length, vec_len};
+ghost use Rattle.std.specs.Prelude.{◌≡◌, ℕ, ◌<◌, ◌≤◌, Bool, List, None, IfOk, IfErr, OnOk, OnErr, IsErrOf, length, vec_len};
 ghost use Rattle.std.specs.List.{Contains};
-ghost use Rattle.spindle_rounds.specs.Leftovers.{IsFoundLeft, IsMarked};
-ghost use Rattle.spindle_trays.specs.Leaders.{threads_of, hands_of, view_of, IsBetweenRounds, MadeNoStep, TriedOnce, TriedAndMarked, LeftByTryRefusal};
-ghost use Rattle.spindle_trays.specs.Reports.{IsNoted, IsOfNone, IsReport, IsTryRefusal};
+ghost use Rattle.spindle_rounds.specs.Leftovers.{IsMarked};
+ghost use Rattle.spindle_trays.specs.Leaders.{hands_of, AreLeft, IsBetweenRounds, IsSameLock, IsTryRefusal, MadeNoStep, TriedAndMarked, TriedAs};
+ghost use Rattle.spindle_trays.specs.Reports.{IsNoted, IsOfNone, IsReport};
 ghost use Rattle.spindle_trays.specs.Rounds.{job_count};
 
 use crate::job::gate::Gate;
@@ -24,8 +24,8 @@ use std::thread::Threads;
 
 impl<'a, J: Opens<L>, G: Gate, L> Leader<'a, J, G, L> {
     /// Runs the items in as many jobs as `for_each` does, until a job fails: one of its outputs does, as `Job::failed` says.
-    /// A job that has begun runs all its items; no other begins once a thread has seen the failure. The report says
-    /// which pieces ran, with their outputs, and which were skipped.
+    /// A job that has begun runs all its items. A thread that has seen the stop begins no other; one that hasn't may. The report
+    /// says which pieces ran, with their outputs, and which were skipped.
     ///
     /// A leader that works alone runs the pieces in order, and none after the first that failed. One job is run by the
     /// leader directly. No items are no job: that round takes no memory. After a refusal the lock can be used further; the
@@ -41,19 +41,13 @@ impl<'a, J: Opens<L>, G: Gate, L> Leader<'a, J, G, L> {
         ensures report { let jobs = job_count (vec_len items) n_jobs in
             IfOk result (IsReport J.meets J.fails items.items jobs) }
         ensures skipped { let jobs = job_count (vec_len items) n_jobs in
-            2 ≤ jobs → IfOk result (λ report. (k : ℕ) → Contains report.skipped.items k
-            ↔ IsFoundLeft (view_of self.new) (hands_of self.old) jobs k) }
+            2 ≤ jobs → IfOk result (λ report.
+            AreLeft jobs (Contains report.skipped.items) self.old self.new) }
         ensures refused { let jobs = job_count (vec_len items) n_jobs in
-            IfErr result (IsTryRefusal (hands_of self.old) jobs (view_of self.new)) }
-        ensures empty { vec_len items ≡ 0 → IsOk result }
-        ensures played { let jobs = job_count (vec_len items) n_jobs in
-            OnOk result (2 ≤ jobs → TriedOnce jobs self.old self.new) }
-        ensures direct { job_count (vec_len items) n_jobs ≤ 1 → MadeNoStep self.old self.new }
-        ensures left { let jobs = job_count (vec_len items) n_jobs in
-            IfErr result (LeftByTryRefusal jobs self.old self.new) }
-        ensures between { IsBetweenRounds self.new }
-        ensures lock { threads_of self.new ≡ threads_of self.old }
-        ensures hands { hands_of self.new ≡ hands_of self.old }
+            IfErr result (IsTryRefusal J.meets J.fails items.items jobs self.old self.new) }
+        ensures trail { let jobs = job_count (vec_len items) n_jobs in
+            TriedAs jobs self.old self.new result }
+        ensures goes_on { IsSameLock self.old self.new × IsBetweenRounds self.new }
     {
         let mut report = Report::new(alloc);
         self.try_for_each_into(rt, alloc, n_jobs, items, &mut report)?;
@@ -74,20 +68,14 @@ impl<'a, J: Opens<L>, G: Gate, L> Leader<'a, J, G, L> {
         ensures report { let jobs = job_count (vec_len items) n_jobs in
             OnOk result (IsReport J.meets J.fails items.items jobs report.new) }
         ensures skipped { let jobs = job_count (vec_len items) n_jobs in
-            2 ≤ jobs → OnOk result ((k : ℕ) → Contains report.new.skipped.items k
-            ↔ IsFoundLeft (view_of self.new) (hands_of self.old) jobs k) }
+            2 ≤ jobs → OnOk result (AreLeft jobs
+            (Contains report.new.skipped.items) self.old self.new) }
         ensures given_up { OnErr result (IsOfNone report.new) }
         ensures refused { let jobs = job_count (vec_len items) n_jobs in
-            IfErr result (IsTryRefusal (hands_of self.old) jobs (view_of self.new)) }
-        ensures empty { vec_len items ≡ 0 → IsOk result }
-        ensures played { let jobs = job_count (vec_len items) n_jobs in
-            OnOk result (2 ≤ jobs → TriedOnce jobs self.old self.new) }
-        ensures direct { job_count (vec_len items) n_jobs ≤ 1 → MadeNoStep self.old self.new }
-        ensures left { let jobs = job_count (vec_len items) n_jobs in
-            IfErr result (LeftByTryRefusal jobs self.old self.new) }
-        ensures between { IsBetweenRounds self.new }
-        ensures lock { threads_of self.new ≡ threads_of self.old }
-        ensures hands { hands_of self.new ≡ hands_of self.old }
+            IfErr result (IsTryRefusal J.meets J.fails items.items jobs self.old self.new) }
+        ensures trail { let jobs = job_count (vec_len items) n_jobs in
+            TriedAs jobs self.old self.new result }
+        ensures goes_on { IsSameLock self.old self.new × IsBetweenRounds self.new }
     {
         let Report { ran, skipped } = mem::replace(report, Report::new(alloc));
         if items.is_empty() {
@@ -111,21 +99,19 @@ impl<'a, J: Opens<L>, G: Gate, L> Leader<'a, J, G, L> {
         requires most { pieces.now.count ≤ 4294967295 }
         ensures report { IfOk result (IsReport J.meets J.fails pieces.now.items pieces.now.count) }
         ensures skipped { 2 ≤ pieces.now.count → IfOk result (λ report.
-            (k : ℕ) → Contains report.skipped.items k
-            ↔ IsFoundLeft (view_of self.new) (hands_of self.old) pieces.now.count k) }
-        ensures refused { IfErr result
-            (IsTryRefusal (hands_of self.old) pieces.now.count (view_of self.new)) }
-        ensures played { OnOk result
-            (2 ≤ pieces.now.count → TriedOnce pieces.now.count self.old self.new) }
-        ensures direct { pieces.now.count ≤ 1 → MadeNoStep self.old self.new }
-        ensures left { IfErr result (LeftByTryRefusal pieces.now.count self.old self.new) }
-        ensures lock { threads_of self.new ≡ threads_of self.old }
-        ensures hands { hands_of self.new ≡ hands_of self.old }
+            AreLeft pieces.now.count (Contains report.skipped.items) self.old self.new) }
+        ensures refused { IfErr result (IsTryRefusal J.meets J.fails
+            pieces.now.items pieces.now.count self.old self.new) }
+        ensures trail { TriedAs pieces.now.count self.old self.new result }
+        ensures lock { IsSameLock self.old self.new }
     {
         let mut left = vec![in alloc; false; pieces.count()]?;
         let mut tally = Tally::new::<J>(alloc, pieces, skipped)?;
         self.try_jobs(rt, alloc, pieces, &mut spares, &mut left, &mut tally)?;
-        tally.finish::<J>(pieces, left.as_slice())
+        match tally.finish::<J>(pieces, left.as_slice()) {
+            Ok(report) => Ok(report),
+            Err(number) => Err(Fault::Lost(number)),
+        }
     }
 
     // Out of trays where helpers may take part, else in the leader's rooms.
@@ -154,8 +140,7 @@ impl<'a, J: Opens<L>, G: Gate, L> Leader<'a, J, G, L> {
         ensures alone { OnOk result (hands_of self.old ≤ 1 → tally.new.lost ≡ None) }
         ensures one { OnOk result (pieces.now.count ≤ 1 → tally.new.lost ≡ None) }
         ensures memory { OnErr result (IsErrOf result Fault.Memory × MadeNoStep self.old self.new) }
-        ensures lock { threads_of self.new ≡ threads_of self.old }
-        ensures hands { hands_of self.new ≡ hands_of self.old }
+        ensures lock { IsSameLock self.old self.new }
     {
         if pieces.count() > 1 && self.post.post.tables.crew.threads() > 1 {
             return self.try_in_trays(rt, alloc, pieces, spares, left, tally);
@@ -183,8 +168,7 @@ impl<'a, J: Opens<L>, G: Gate, L> Leader<'a, J, G, L> {
         ensures noted { OnOk result (IsNoted J.meets J.fails
             pieces.now.items pieces.now.count left.new.items pieces.now.count tally.new) }
         ensures memory { OnErr result (IsErrOf result Fault.Memory × MadeNoStep self.old self.new) }
-        ensures lock { threads_of self.new ≡ threads_of self.old }
-        ensures hands { hands_of self.new ≡ hands_of self.old }
+        ensures lock { IsSameLock self.old self.new }
     {
         let trays = J::trays(self.workspace);
         trays.hand_out(rt, alloc, pieces, spares)?;
@@ -220,8 +204,7 @@ impl<'a, J: Opens<L>, G: Gate, L> Leader<'a, J, G, L> {
             pieces.now.items pieces.now.count left.new.items pieces.now.count tally.new) }
         ensures whole { OnOk result (tally.new.lost ≡ None) }
         ensures memory { OnErr result (IsErrOf result Fault.Memory × MadeNoStep self.old self.new) }
-        ensures lock { threads_of self.new ≡ threads_of self.old }
-        ensures hands { hands_of self.new ≡ hands_of self.old }
+        ensures lock { IsSameLock self.old self.new }
     {
         let mut rooms = make_rooms::<J>(alloc, pieces, spares)?;
         if pieces.count() == 1 {

@@ -37,6 +37,12 @@ impl<J: Job> Model for Finished<J> {
 
 impl<J: Job> Numbered for Finished<J> {
     ghost number = { λ piece. piece.number };
+
+    ghost answered = { λ piece. AllZip J.meets piece.inputs piece.outputs };
+
+    fn tell_answered(&self) {
+        let _ = &self.outputs;
+    }
 }
 
 impl<J: Job> Finished<J> {

@@ -222,9 +222,9 @@ impl<J: Job> Trays<J> {
 }
 
 impl<J: Job> Trays<J> {
-    /// Notes what came of the pieces of a round that may stop, of which some are marked as left. The trays hold no piece
-    /// any more. Takes no memory.
-    pub(crate) fn tally<H: Wait>(
+    /// Notes what came of the pieces of a round that may stop, of which some are marked as left: what lies in each place, if it is the
+    /// piece of its number with its inputs. The trays hold no piece any more. Takes no memory.
+    pub fn tally<H: Wait>(
         &self,
         rt: &H,
         pieces: &Pieces<J::In>,

@@ -1,6 +1,8 @@
 //! The work of one thread in a published round: it runs the pieces of the numbers that it claims, out of the trays.
 ghost use Rattle.std.specs.Prelude.{◌≡◌, ◌≤◌, false};
+ghost use Rattle.spindle_crew.specs.Posts.{LastPublished, party_view};
 ghost use Rattle.spindle_rounds.specs.RoundConditions.{IsDone};
+ghost use Rattle.spindle_rounds.specs.RoundSteps.{round_of};
 ghost use Rattle.spindle_rounds.specs.Seating.{IsSameSeat};
 ghost use Rattle.spindle_rounds.specs.Working.{OnTask, PlayedRoundOf};
 
@@ -74,6 +76,8 @@ pub(crate) fn play_in_trays<'a, J: Job, G: Gate, H: Threads + Wait + Sync>(
     requires counted { (2 ≤ task.jobs) × (task.jobs ≤ 4294967295) }
     ensures played { PlayedRoundOf task.jobs task.may_stop
         leader.old.post.barrier.seat.me.0 leader.new.post.barrier.seat.me.0 }
+    ensures last { LastPublished (round_of (party_view leader.old.post.barrier).standing)
+        task.jobs task.may_stop (party_view leader.new.post.barrier) }
     ensures tables { leader.new.post.tables ≡ leader.old.post.tables }
 {
     let post = &mut leader.post;

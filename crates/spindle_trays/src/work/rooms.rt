@@ -6,6 +6,8 @@ ghost use Rattle.std.specs.Option.{ForSome};
 ghost use Rattle.std.proofs.Common.{refl, ◌∙◌};
 ghost use Rattle.spindle_trays.specs.PieceRuns.{piece_at};
 ghost use Rattle.spindle_trays.specs.Reports.{AreRooms, IsNoted, IsRoomFor};
+ghost use Rattle.spindle_crew.specs.Posts.{LastPublished, party_view};
+ghost use Rattle.spindle_rounds.specs.RoundSteps.{round_of};
 ghost use Rattle.spindle_rounds.specs.Working.{PlayedRoundOf};
 
 use crate::job::Job;
@@ -51,6 +53,8 @@ pub(crate) fn play_rooms<'a, J: Job, G: Gate, H: Threads + Wait + Sync>(
     ensures fit { AreRooms J.meets pieces.now.items pieces.now.count 0 rooms.new.items }
     ensures played { PlayedRoundOf pieces.now.count true
         leader.old.post.barrier.seat.me.0 leader.new.post.barrier.seat.me.0 }
+    ensures last { LastPublished (round_of (party_view leader.old.post.barrier).standing)
+        pieces.now.count true (party_view leader.new.post.barrier) }
     ensures tables { leader.new.post.tables ≡ leader.old.post.tables }
 {
     let post = &mut leader.post;

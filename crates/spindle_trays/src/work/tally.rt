@@ -1,8 +1,10 @@
 //! What came of the pieces of a round that may stop, noted one after the other.
-ghost use Rattle.std.specs.Prelude.{◌≡◌, ◌⊎◌, ℕ, Bool, List, [], ◌+◌, ◌<◌, ◌↔◌, None, IfOk, IfErr, IfSome, IsNone, IsTrue, OnErr, IsErrOf, true, length};
+ghost use Rattle.std.specs.Option.{option_or};
+ghost use Rattle.std.specs.Result.{result_err};
+ghost use Rattle.std.specs.Prelude.{◌≡◌, ℕ, Bool, List, ◌+◌, ◌<◌, ◌↔◌, None, IfOk, IfSome, IsTrue, OnErr, IsErrOf, true, length};
 ghost use Rattle.std.specs.List.{AllZip, Any, Contains};
 ghost use Rattle.spindle_trays.specs.PieceRuns.{piece_at};
-ghost use Rattle.spindle_trays.specs.Reports.{IsLostAt, IsLostOf, IsNoted, IsReport, is_marked};
+ghost use Rattle.spindle_trays.specs.Reports.{IsNoted, IsReport, is_marked, least_lost, lost_at};
 
 use crate::job::Job;
 use crate::lock::report::Report;
@@ -22,7 +24,7 @@ pub struct Tally<T> {
 
 impl<T> Tally<T> {
     /// A tally of no piece, with room for all of them. The list becomes that of the skipped pieces; what stands there goes.
-    pub(crate) fn new<J: Job<Out = T>>(
+    pub fn new<J: Job<Out = T>>(
         alloc: Global,
         pieces: &Pieces<J::In>,
         mut skipped: Vec<usize>,
@@ -43,7 +45,8 @@ impl<T> Tally<T> {
         })
     }
 
-    /// Notes the next piece: its outputs, where it ran, which it has to where it isn't marked as left.
+    /// Notes the next piece: its outputs, where it ran, which it has to where it isn't marked as left. Else it is lost; of
+    /// several that are the first is kept.
     pub(crate) fn note<J: Job<Out = T>>(
         &mut self,
         pieces: &Pieces<J::In>,
@@ -59,8 +62,8 @@ impl<T> Tally<T> {
             (piece_at pieces.now.items pieces.now.count number) outputs.items) }
         ensures noted { IsNoted J.meets J.fails
             pieces.now.items pieces.now.count left.now (number + 1) self.new }
-        ensures lost { (IsNone outputs ↔ IsTrue (is_marked left.now number))
-            → self.new.lost ≡ self.old.lost }
+        ensures lost { self.new.lost
+            ≡ option_or self.old.lost (lost_at (is_marked left.now number) outputs number) }
     {
         match outputs {
             Some(outputs) if !left[number] => {
@@ -74,21 +77,21 @@ impl<T> Tally<T> {
 
     /// The report, where each piece ran or was left, and was left only since one that ran failed; else the least number of
     /// which that isn't so.
-    pub(crate) fn finish<J: Job<Out = T>>(
+    pub fn finish<J: Job<Out = T>>(
         self,
         pieces: &Pieces<J::In>,
         left: &[bool],
-    ) -> Result<Report<T>, Fault>
+    ) -> Result<Report<T>, usize>
         requires marks { length left.now ≡ pieces.now.count }
         requires noted { IsNoted J.meets J.fails
             pieces.now.items pieces.now.count left.now pieces.now.count self }
         ensures report { IfOk result (IsReport J.meets J.fails pieces.now.items pieces.now.count) }
         ensures skipped { IfOk result (λ report. (k : ℕ) → Contains report.skipped.items k
             ↔ IsTrue (is_marked left.now k)) }
-        ensures lost { IfErr result (IsLostOf pieces.now.count left.now self) }
+        ensures lost { result_err result ≡ least_lost self }
     {
-        match self.lost_number::<J>(pieces, left) {
-            Some(number) => Err(Fault::Lost(number)),
+        match self.lost_number() {
+            Some(number) => Err(number),
             None => Ok(Report {
                 ran: self.ran,
                 skipped: self.skipped,
@@ -97,14 +100,9 @@ impl<T> Tally<T> {
     }
 
     // The least number that is lost: it was noted so, or skipped though no piece that ran failed.
-    fn lost_number<J: Job<Out = T>>(&self, pieces: &Pieces<J::In>, left: &[bool]) -> Option<usize>
-        requires noted { IsNoted J.meets J.fails
-            pieces.now.items pieces.now.count left.now pieces.now.count self.now }
-        ensures lost { IfSome result (IsLostAt pieces.now.count left.now self.now) }
-        ensures none { result ≡ None → (self.now.lost ≡ None)
-            × ((self.now.skipped.items ≡ []) ⊎ (self.now.failed ≡ true)) }
+    fn lost_number(&self) -> Option<usize>
+        ensures { result ≡ least_lost self.now }
     {
-        let (_pieces, _left) = (pieces, left);
         if self.failed || self.skipped.is_empty() {
             return self.lost;
         }

@@ -5,6 +5,7 @@ ghost use denote.Param.Send.{IsSync};
 ghost use Rattle.spindle_crew.specs.Accounts.{IsSameThread};
 
 use crate::lock::nested::child::{Child, TakesHelpers};
+use crate::lock::nested::closing::{Closed, Dismissed, Leads};
 use crossbeam_utils::CachePadded;
 use spindle_crew::asking::{Asked, Offered};
 use spindle_crew::notices::Notices;
@@ -46,15 +47,18 @@ impl<'a, N: Drop> Berth<'a, N> {
         })
     }
 
-    /// Closes the places that nobody took. The slot is still to be cleared, once the lock's leader has left.
-    pub fn close(self) -> &'a AtomicArc<Child<N>> {
+    /// Closes the places that nobody took, once the lock's leader has told its helpers to end.
+    pub(crate) fn close<T: Leads>(self, dismissed: Dismissed<T>) -> Closed<'a, T, N> {
         let Berth { offered, slot } = self;
-        drop(offered.close());
-        slot
+        dismissed.close(offered, slot)
     }
 }
 
 // The first free slot, in which a share of the lock stands from now on.
+//
+// A lock of t threads has t slots, and so there is one: at most t - i threads look at slot i or have a lock there or behind it, since
+// a thread looks past slot i only while another thread's lock stands there, and has one lock in these slots at most. No type says so,
+// and a share may be refused too: None stands for both.
 fn find_slot<N: Drop>(slots: &Vec<ChildSlot<N>>, child: &Child<N>, places: usize) -> Option<usize>
     ensures { IfSome result (λ slot. (slot < vec_len slots.now) × (slot < places)) }
 {

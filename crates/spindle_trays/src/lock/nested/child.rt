@@ -13,7 +13,7 @@ use crate::lock::part::TakesPart;
 use crate::lock::workspace::{Opens, Workspace};
 use spindle_crew::Crew;
 use spindle_crew::bench::Bench;
-use spindle_crew::limits::Limits;
+use spindle_crew::limits::Idling;
 use spindle_crew::seats::Seats;
 use spindle_crew::tables::Tables;
 use spindle_parts::aarc_imp::Fits;
@@ -92,16 +92,17 @@ impl<K: Job> Child<Nested<K>> {
     pub(crate) fn open(
         alloc: Global,
         crew: Crew,
-        limits: Limits,
+        idling: Idling,
     ) -> Result<(Child<Nested<K>>, Seats<Bare>), Fault>
         ensures seats { IfOk result (λ t. AreSeatsAt (arc_value t.0.shared).tables t.1) }
         ensures crew { IfOk result (λ t. (arc_value t.0.shared).tables.crew ≡ crew) }
+        ensures idling { IfOk result (λ t. (arc_value t.0.shared).tables.sleep.idling ≡ idling) }
         ensures memory { OnErr result (IsErrOf result Fault.Memory) }
     {
         let workspace = <K as Opens<Workspace<K>>>::open(alloc, crew.threads())?;
         let (round, seat) = Round::new(alloc, crew.threads())?;
         let slots = K::Inner::slot_count(crew.threads());
-        let (tables, mut seats) = Tables::new(alloc, crew, limits, slots, round, seat)?;
+        let (tables, mut seats) = Tables::new(alloc, crew, idling, slots, round, seat)?;
         let benches = tables.benches(alloc, &mut seats)?;
         let shared = Arc::new(
             alloc,

@@ -1,14 +1,11 @@
-//! Opening a lock in a job, and closing it.
-//!
-//! It closes in this order: exit is announced, the places that nobody took are closed, the leader leaves, and the slot is cleared
-//! once no guard is out. A helper's guard is out for its whole life in the lock, which ends once it sees the announcement.
-ghost use Rattle.std.specs.Prelude.{◌≡◌, ◌<◌, IfOk, OnErr, IsErrOf};
+//! Opening a lock in a job.
+ghost use Rattle.std.specs.Prelude.{◌≡◌, ◌<◌, ◌⊎◌, IfOk, OnErr, IsErrOf};
 ghost use Rattle.std.specs.Fn.{FnOnceReturnsAtMut};
 ghost use Rattle.std.specs.Arc.{arc_value};
-ghost use Rattle.spindle_trays.specs.Leaders.{threads_of};
+ghost use Rattle.spindle_trays.specs.Leaders.{threads_of, hands_of};
+ghost use Rattle.spindle_trays.specs.Locks.{nested_hands};
 ghost use Rattle.spindle_crew.specs.Crews.{lock_threads};
 ghost use Rattle.spindle_crew.specs.Opening.{AreSeatsAt};
-ghost use denote.Param.Send.{IsSync};
 
 use crate::job::Job;
 use crate::job::context::JobCx;
@@ -17,6 +14,7 @@ use crate::job::nest::Under;
 use crate::lock::leader::Leader;
 use crate::lock::nested::berth::Berth;
 use crate::lock::nested::child::{Child, Nested};
+use crate::lock::nested::closing::close;
 use crate::lock::opening::take_post;
 use crate::lock::workspace::Opens;
 use spindle_crew::seats::Seats;
@@ -44,17 +42,18 @@ impl<'a, K: Job> JobCx<'a, Under<K>> {
         requires callable { F.IsAlwaysCallable f }
         ensures promise { IfOk result (λ r. (old : _) × (new : _)
             × (threads_of old ≡ lock_threads self.old.pool max_threads)
+            × ((hands_of old ≡ 1) ⊎ (hands_of old ≡ nested_hands self.old.has_slots (threads_of old)))
             × FnOnceReturnsAtMut F.FnOnce f old r new) }
         ensures memory { OnErr result (IsErrOf result Fault.Memory) }
-        ensures lock { (self.new.threads ≡ self.old.threads) × (self.new.pool ≡ self.old.pool) }
+        ensures same { self.new ≡ self.old }
     {
-        let crew = self.site.crew.nested(max_threads);
-        let limits = self.site.sleep.limits();
+        let crew = self.crew_for(max_threads);
+        let idling = self.site.sleep.idling();
         if let Some(slots) = self.slots
             && crew.threads() > 1
         {
-            let (child, seats) = Child::open(alloc, crew, limits)?;
-            let asked = self.notices.ask(child.tables());
+            let (child, seats) = Child::open(alloc, crew, idling)?;
+            let asked = self.asks.ask(child.tables());
             let berth = Berth::take(rt, slots, &child, asked, self.site.sleep);
             if let Some(berth) = berth {
                 let gate = NoGate;
@@ -64,23 +63,11 @@ impl<'a, K: Job> JobCx<'a, Under<K>> {
                 return Ok(answer);
             }
         }
-        let (child, seats) = Child::open(alloc, crew.alone(), limits)?;
+        let (child, seats) = Child::open(alloc, crew.alone(), idling)?;
         let gate = NoGate;
         let mut leader = take_lead(rt, &child, &gate, seats);
         Ok(f(&mut leader))
     }
-}
-
-// Closes a lock that stands in a child slot. The order is binding.
-fn close<K: Opens<L>, L, H: Wait>(
-    rt: &H,
-    mut leader: Leader<'_, K, NoGate, L>,
-    berth: Berth<'_, Nested<K>>,
-) {
-    leader.dismiss(rt);
-    let slot = berth.close();
-    leader.leave(rt);
-    drop(slot.clear(rt));
 }
 
 // The leader of a lock that nobody leads yet.
@@ -91,7 +78,8 @@ fn take_lead<'b, K: Opens<L>, L, H: Wait>(
     seats: Seats<Bare>,
 ) -> Leader<'b, K, NoGate, L>
     requires { AreSeatsAt (arc_value child.now.shared).tables seats }
-    ensures { threads_of result ≡ (arc_value child.now.shared).tables.crew.most }
+    ensures threads { threads_of result ≡ (arc_value child.now.shared).tables.crew.most }
+    ensures hands { hands_of result ≡ (arc_value child.now.shared).tables.crew.threads }
 {
     let workspace = K::inner(child);
     let (post, runner) = take_post::<Bare, K, NoGate, L, H>(

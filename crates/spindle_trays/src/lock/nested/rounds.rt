@@ -2,10 +2,9 @@
 ghost use Rattle.std.specs.Prelude.{◌≡◌, ◌<◌, ◌≤◌, IfOk, IfErr, OnErr, IsErrOf, IsOk, vec_len};
 ghost use Rattle.std.specs.List.{AllZip};
 ghost use Rattle.spindle_parts.specs.Pieces.{counted};
-ghost use Rattle.spindle_trays.specs.Leaders.{threads_of};
-ghost use Rattle.spindle_crew.specs.Crews.{lock_threads};
+ghost use Rattle.spindle_trays.specs.Leaders.{hands_of};
+ghost use Rattle.spindle_trays.specs.Locks.{hands_in};
 ghost use Rattle.spindle_trays.specs.Rounds.{job_count, IsRefusal};
-ghost use denote.Param.Send.{IsSync};
 
 use crate::job::Job;
 use crate::job::context::JobCx;
@@ -30,12 +29,11 @@ impl<'a, K: Job> JobCx<'a, Under<K>> {
         items: Vec<K::In>,
     ) -> Result<Vec<K::Out>, Fault>
         requires jobs { 0 < vec_len items → 0 < n_jobs }
-        requires sync { IsSync H.row }
         ensures answer { IfOk result (λ outputs. AllZip K.meets items.items outputs.items) }
         ensures refused { let jobs = job_count (vec_len items) n_jobs in
-            IfErr result (IsRefusal (lock_threads self.old.pool jobs) jobs) }
+            IfErr result (IsRefusal (hands_in self.old jobs) jobs) }
         ensures empty { vec_len items ≡ 0 → IsOk result }
-        ensures lock { (self.new.threads ≡ self.old.threads) × (self.new.pool ≡ self.old.pool) }
+        ensures same { self.new ≡ self.old }
     {
         if items.is_empty() {
             return Ok(Vec::new(alloc));
@@ -50,10 +48,9 @@ impl<'a, K: Job> JobCx<'a, Under<K>> {
             jobs,
             |leader|
                 requires jobs { 0 < vec_len items → 0 < n_jobs }
-                requires sync { IsSync H.row }
                 ensures answer { IfOk result (λ outputs. AllZip K.meets items.items outputs.items) }
                 ensures refused { IfErr result
-                    (IsRefusal (threads_of leader.old) (job_count (vec_len items) n_jobs)) }
+                    (IsRefusal (hands_of leader.old) (job_count (vec_len items) n_jobs)) }
             { leader.for_each(rt, alloc, n_jobs, items) },
         )?
     }
@@ -65,14 +62,12 @@ impl<'a, K: Job> JobCx<'a, Under<K>> {
         alloc: Global,
         items: Vec<K::In>,
     ) -> Result<Vec<K::Out>, Fault>
-        requires sync { IsSync H.row }
         ensures answer { IfOk result (λ outputs. AllZip K.meets items.items outputs.items) }
         ensures memory { OnErr result (IsErrOf result Fault.Memory) }
-        ensures lock { (self.new.threads ≡ self.old.threads) × (self.new.pool ≡ self.old.pool) }
+        ensures same { self.new ≡ self.old }
     {
         let mut outputs = Vec::with_capacity(alloc, items.len())?;
-        let notices = self.notices.another();
-        let mut context: JobCx<'_, K::Inner> = JobCx::new(None, notices, self.site.within());
+        let mut context = JobCx::<K::Inner>::within(self.asks.notices.another(), &self.site);
         run_each::<K, H>(rt, alloc, items.as_slice(), &mut context, &mut outputs);
         Ok(outputs)
     }
@@ -86,12 +81,11 @@ impl<'a, K: Job<In = usize>> JobCx<'a, Under<K>> {
         alloc: Global,
         n_jobs: usize,
     ) -> Result<Vec<K::Out>, Fault>
-        requires sync { IsSync H.row }
         ensures answer { IfOk result (λ outputs. AllZip K.meets (counted 0 n_jobs) outputs.items) }
         ensures refused { let jobs = job_count n_jobs n_jobs in
-            IfErr result (IsRefusal (lock_threads self.old.pool jobs) jobs) }
+            IfErr result (IsRefusal (hands_in self.old jobs) jobs) }
         ensures empty { n_jobs ≡ 0 → IsOk result }
-        ensures lock { (self.new.threads ≡ self.old.threads) × (self.new.pool ≡ self.old.pool) }
+        ensures same { self.new ≡ self.old }
     {
         if n_jobs == 0 {
             return Ok(Vec::new(alloc));

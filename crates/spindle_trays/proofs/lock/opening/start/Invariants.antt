@@ -1,6 +1,11 @@
--- The leader's seats stay its own while the helpers' are split from them.
+-- The leader's seats stay its own while the helpers' are split from them, and there is room for the helpers that are left.
+use Rattle.std.proofs.Common.{◌≡◌, ◌≤◌, vec_len, vec_capacity}
 use Rattle.spindle_crew.specs.Opening.{AreSeatsAt}
 use Rattle.spindle_trays.proofs.lock.opening.start.Given as goal
 
-abbrev pub invariant-loop : goal.invariant-loop
-invariant-loop g l = AreSeatsAt l.fn.tables l.seats
+abbrev pub invariant-loop-asked : goal.invariant-loop-asked
+invariant-loop-asked g l = record {
+  seats : AreSeatsAt l.fn.tables l.seats;
+  few : vec_len l.threads ≤ l.asked;
+  room : vec_capacity l.threads ≡ vec_capacity l.fn.room.threads;
+}

@@ -21,6 +21,7 @@ returns-in_err-numbers g c = let p = err_from_is_err_and c.from_residual.result 
       answer = tt;
       refused = tt;
       empty = λ none. absurd (c.if-n_jobs-eq0.false none);
+      nothing = λ none. absurd (c.if-n_jobs-eq0.false none);
       played = tt;
       direct = λ _. refl;
       left = refl;
@@ -36,6 +37,7 @@ returns g c = let l = c.loop-number.invariant in let end = same_end _ _ c.loop-n
       answer = e.answer;
       refused = e.refused;
       empty = e.empty;
+      nothing = e.nothing;
       played = e.played;
       direct = λ few. e.direct (few_jobs _ few);
       left = e.left;

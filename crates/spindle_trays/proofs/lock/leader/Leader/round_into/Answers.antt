@@ -18,6 +18,7 @@ returns-in_err-reserve g c = let p = err_from_is_err_and c.from_residual.result 
       given_up = c.in_err-reserve.ensures.items ∙ c.clear.ensures.items;
       refused = tt;
       empty = no_items _ _ c.is_empty.ensures c.if-is_empty.false;
+      nothing = λ none. absurd (false≢true (no_items _ _ c.is_empty.ensures c.if-is_empty.false none));
       played = tt;
       direct = λ _. refl;
       left = refl;
@@ -33,6 +34,7 @@ returns-then-threads-gt1 g c = let e = c.play.ensures in
       given_up = e.given_up;
       refused = e.refused;
       empty = λ none. absurd (false≢true (no_items _ _ c.is_empty.ensures c.if-is_empty.false none));
+      nothing = λ none. absurd (false≢true (no_items _ _ c.is_empty.ensures c.if-is_empty.false none));
       played = on_ok_weaker c.play.result (λ played two. played) e.played;
       direct = λ one. absurd (past_one _ c.if-jobs-gt1.true one);
       left = e.left;
@@ -48,6 +50,7 @@ returns g c = let e = c.play_here.ensures in let jobs = c.min-jobs.result in let
       given_up = e.given_up;
       refused = only_memory c.play_here.result Memory (MadeNoStep old new) (IsRefusal (hands_of old) jobs) (λ _. tt) e.memory;
       empty = λ none. absurd (false≢true (no_items _ _ c.is_empty.ensures c.if-is_empty.false none));
+      nothing = λ none. absurd (false≢true (no_items _ _ c.is_empty.ensures c.if-is_empty.false none));
       played = e.played;
       direct = e.direct;
       left = only_memory c.play_here.result Memory (MadeNoStep old new) (LeftByRefusal jobs old new) (λ same. same) e.memory;

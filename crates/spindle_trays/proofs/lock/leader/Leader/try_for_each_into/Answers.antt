@@ -2,7 +2,7 @@
 use Rattle.std.proofs.Common.{List, vec_len, refl, subst, ◌∙◌, rules}
 use Rattle.std.proofs.lemmas.Result.{err_from_is_err_and}
 use Rattle.spindle_trays.specs.Reports.{IsReport}
-use Rattle.spindle_trays.proofs.LeaderRounds.{between, jobs_are, no_items, passed, pieces_are}
+use Rattle.spindle_trays.proofs.LeaderRounds.{between, jobs_are, passed, pieces_are, some_jobs}
 use Rattle.spindle_trays.proofs.lock.leader.Leader.try_for_each_into.Goals as goal
 
 pub returns-then-is_empty-clause-report : goal.returns-then-is_empty-clause-report
@@ -14,32 +14,22 @@ returns-in_err-from_vec g c = let p = err_from_is_err_and c.from_residual.result
       report = tt;
       skipped = λ _. tt;
       given_up = rw c.replace-ran.ensures.after c.new.ensures;
-      refused = tt;
-      empty = no_items _ _ c.is_empty.ensures c.if-is_empty.false;
-      played = tt;
-      direct = λ _. refl;
-      left = refl;
-      between = between c.args.self.now.post;
-      lock = refl;
-      hands = refl;
+      refused = some_jobs (vec_len c.args.items) c.args.n_jobs _ c.is_empty.ensures c.if-is_empty.false c.requires.jobs;
+      trail = refl;
+      goes_on = ((refl, refl), between c.args.self.now.post);
     })
 
 pub returns-in_err-report : goal.returns-in_err-report
-returns-in_err-report g c = let e = c.in_err-report.ensures in
+returns-in_err-report g c = let e = c.in_err-report.ensures in let own = c.new-pieces.ensures.items ∙ c.in_ok-from_vec.ensures.items in
     let jobs = jobs_are _ _ c.min-jobs.result (vec_len c.args.items) c.args.n_jobs c.len.ensures c.min.ensures c.min-jobs.ensures in
     let same = pieces_are c.new-pieces.result.count _ c.args.n_jobs _ c.args.items c.new-pieces.ensures.count c.in_ok-from_vec.ensures.items jobs in
     rw (← same, passed c.from_residual-in_err-report.result c.from_residual-in_err-report.ensures.1) (record {
       report = tt;
       skipped = λ _. tt;
       given_up = rw c.replace-ran.ensures.after c.new.ensures;
-      refused = e.refused;
-      empty = no_items _ _ c.is_empty.ensures c.if-is_empty.false;
-      played = tt;
-      direct = e.direct;
-      left = e.left;
-      between = between c.try_pieces.new.self.post;
-      lock = e.lock;
-      hands = e.hands;
+      refused = rw own at e.refused;
+      trail = e.trail;
+      goes_on = (e.lock, between c.try_pieces.new.self.post);
     })
 
 pub returns : goal.returns
@@ -51,11 +41,6 @@ returns g c = let e = c.in_ok-report.ensures in let own = c.new-pieces.ensures.i
       skipped = e.skipped;
       given_up = tt;
       refused = tt;
-      empty = λ _. refl;
-      played = e.played;
-      direct = e.direct;
-      left = tt;
-      between = between c.try_pieces.new.self.post;
-      lock = e.lock;
-      hands = e.hands;
+      trail = e.trail;
+      goes_on = (e.lock, between c.try_pieces.new.self.post);
     })

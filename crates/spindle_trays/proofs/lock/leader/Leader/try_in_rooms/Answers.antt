@@ -1,5 +1,10 @@
 -- A fresh tally fits all marks.
-use Rattle.std.proofs.Common.{refl, ap, ◌∙◌}
+use Rattle.std.proofs.Common.{ℕ, true, refl, ap, subst, ◌∙◌}
+use Rattle.spindle_crew.specs.Posts.{LastPublished, party_view}
+use Rattle.spindle_rounds.specs.Leftovers.{AreUnbegun, IsMarked}
+use Rattle.spindle_rounds.specs.RoundSlots.{bare}
+use Rattle.spindle_rounds.specs.RoundSteps.{round_of}
+use Rattle.spindle_trays.specs.Leaders.{view_of}
 use Rattle.spindle_trays.proofs.LeaderRounds.{not_one, not_two, passed_on}
 use Rattle.spindle_trays.proofs.lock.leader.Leader.try_in_rooms.Goals as goal
 
@@ -18,21 +23,27 @@ returns-in_err-rooms g c = rw (passed_on c.from_residual.result c.from_residual.
       noted = tt;
       whole = tt;
       memory = (refl, refl);
-      lock = refl;
-      hands = refl;
+      lock = (refl, refl);
     })
 
 pub returns : goal.returns
 returns g c = let p = c.play_rooms.ensures in let m = c.mark_left.ensures in let e = c.tally_rooms-2.ensures in
+    let q = round_of (view_of c.args.self.now).standing in let marks = c.mark_left.new.marks.items in
+    let v = party_view c.play_rooms.new.leader.post.barrier in let w = party_view c.mark_left.new.self.post.barrier in
     record {
-      tried = λ two. ((m.published ∙ p.played.0, m.standing ∙ p.played.1), rw (p.tables, c.requires.marks) at m.left);
+      tried = λ two. (
+        (m.published ∙ p.played.0, m.standing ∙ p.played.1),
+        (
+          rw (p.tables, c.requires.marks) at m.left,
+          subst (λ (n : ℕ). LastPublished q n true v → AreUnbegun bare q n w (IsMarked marks)) c.requires.marks (m.unbegun q true) p.last,
+        ),
+      );
       direct = λ one. absurd (not_one _ _ c.count.ensures.number c.count.ensures.some c.if-count-eq1.false one);
       marks = m.count ∙ c.requires.marks;
       noted = rw (← c.as_slice-2.ensures.value) e.noted;
       whole = e.whole;
       memory = tt;
-      lock = ap (λ t. t.now.crew.most) (m.tables ∙ p.tables);
-      hands = ap (λ t. t.now.crew.threads) (m.tables ∙ p.tables);
+      lock = (ap (λ t. t.now.crew.most) (m.tables ∙ p.tables), ap (λ t. t.now.crew.threads) (m.tables ∙ p.tables));
     }
 
 pub returns-then-count-eq1 : goal.returns-then-count-eq1
@@ -44,6 +55,5 @@ returns-then-count-eq1 g c = let e = c.tally_rooms.ensures in
       noted = rw (← c.as_slice.ensures.value) e.noted;
       whole = e.whole;
       memory = tt;
-      lock = refl;
-      hands = refl;
+      lock = (refl, refl);
     }

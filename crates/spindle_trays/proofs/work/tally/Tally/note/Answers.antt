@@ -1,9 +1,9 @@
 -- The tally goes on with one piece more.
-use Rattle.std.proofs.Common.{◌≡◌, ◌||◌, false, true, Option, IfSome, Vec, Global, rules, refl, subst}
+use Rattle.std.proofs.Common.{◌≡◌, ◌||◌, ℕ, ◌∙◌, ap, false, true, Option, Some, IfSome, Vec, Global, rules, refl, subst, unwrap_or}
 use Rattle.std.specs.List.{AllZip, Any}
 use Rattle.spindle_trays.specs.PieceRuns.{piece_at}
 use Rattle.spindle_trays.specs.Reports.{is_marked}
-use Rattle.spindle_trays.proofs.Reports.{noted_ran, noted_skipped}
+use Rattle.spindle_trays.proofs.Reports.{first_kept, noted_lost, noted_ran, noted_skipped}
 use Rattle.spindle_trays.proofs.work.tally.Tally.note.Goals as goal
 
 pub returns-in-Some-clause-noted : goal.returns-in-Some-clause-noted
@@ -28,3 +28,13 @@ returns-in-None-clause-noted g c = let p = c.args.pieces.now in let old = c.args
       failed = old.failed;
       lost = old.lost;
     }) marked refl e.len e.capacity e.items refl refl c.requires.noted
+
+pub returns-in_default-clause-noted : goal.returns-in_default-clause-noted
+returns-in_default-clause-noted g c = let p = c.args.pieces.now in let old = c.args.self.now in
+    let first : c.unwrap_or.result ≡ unwrap_or old.lost c.args.number = search rules in
+    noted_lost g.J.Job.meets g.J.Job.fails p.items p.count c.args.left.now c.args.number old (record {
+      ran = old.ran;
+      skipped = old.skipped;
+      failed = old.failed;
+      lost = Some c.unwrap_or.result;
+    }) refl refl refl (ap (λ (k : ℕ). Some k) first ∙ first_kept old.lost c.args.number) c.requires.noted
