@@ -5,17 +5,17 @@
 #[cfg(test)]
 mod checks;
 #[cfg(test)]
-mod nested_jobs;
+mod item_rows;
 #[cfg(test)]
 mod nested_rows;
 #[cfg(test)]
 mod place_rows;
 #[cfg(test)]
-mod refused_nested;
-#[cfg(test)]
 mod refused_slots;
+#[cfg(test)]
+mod rounds;
 #[cfg(test)]
 mod slot_rows;
 
 #[cfg(test)]
-use spindle_trays_vectors::{gates, jobs, lists, sevens};
+use spindle_trays_vectors::{gates, jobs, lists, marks, sevens, staying};

@@ -1,96 +1,275 @@
-//! Rows of locks with slots that jobs open, over lists and in place: helpers move to them and run jobs there, and a leader works alone
-//! where it must.
+//! Rows of locks with slots that jobs open, over lists and in place, and what a refused allocation leaves there.
+//!
+//! No clause says that helpers come to such a lock and run jobs there, that such locks end, or that a refused lock hasn't run its
+//! closure. A job can't fail a test, so it answers what it saw. The tests named `refused_` end well whichever one of their allocations
+//! is refused.
+ghost use Rattle.std.specs.Prelude.{◌≡◌};
+ghost use Rattle.std.proofs.Common.{rules};
+ghost use denote.Param.Send.{IsSync};
 
-use crate::checks::{are, holds};
-use crate::nested_jobs::{NotesBoth, SquareBoth, WhereInSlots};
-use spindle::lock::{Job, Limits, Nest, NoGate, Pool};
-use spindle::{Fault, run_one, with_lock};
+use crate::checks::{holds, is};
+use crate::jobs::Seen;
+use crate::staying::{Staying, all_ran, stay, turns_of, until_all_run};
+use spindle::Fault;
+use spindle::lock::{
+    End, InPlace, Job, JobCx, Limits, LockOf, Nest, NoGate, PlaceLeader, Pool, Remake, SlotLeader,
+    UnderInPlace, UnderSlots,
+};
+use spindle_trays_vectors::rounds::rounds_of;
 use std::alloc::Global;
-use std::fmt::Debug;
 use std::process::Abort;
 use std::sync::Wait;
 use std::thread::Threads;
 
-/// The items of four jobs, each of which squares its item and the next number.
-const FIRST: [usize; 4] = [0, 1, 2, 3];
+/// The threads of a lock, the jobs of its rounds, and how many rounds are played at most until each thread has run a job.
+pub type Ask = (usize, usize, usize);
 
-/// The sums of these squares.
-const SUMS: [Option<u128>; 4] = [Some(1), Some(5), Some(13), Some(25)];
+/// Opens the lock that it is asked for, again where it was refused, and answers where the jobs of its last round ran; none where it
+/// was refused twice, or a refused lock has run its closure.
+pub struct InSlots;
 
-// So many rounds over these items, in one lock of four threads at most whose jobs open locks: each answers what is expected, and no
-// more threads are there than the pool has. The kind of job is a parameter, as it is below: for a kind by name whose jobs open locks, the
-// proof would take much more.
-fn same_in_lock_often<J: Job + Send, H: Threads + Wait + Abort + Sync>(
+impl Job for InSlots {
+    type In = Ask;
+
+    type Out = Vec<Seen>;
+
+    type Inner = UnderSlots<Staying>;
+
+    ghost meets = { λ _ _. Unit {0} };
+
+    fn run<H: Threads + Wait + Sync>(
+        rt: &H,
+        alloc: Global,
+        ask: &Ask,
+        cx: &mut JobCx<UnderSlots<Staying>>,
+    ) -> Vec<Seen> {
+        let (threads, jobs, rounds) = *ask;
+        for _ in 0..2 {
+            let mut is_run = false;
+            let places = LockOf::<Staying>::nested_with_slots(
+                rt,
+                alloc,
+                cx,
+                threads.max(1),
+                jobs.max(1).min(64),
+                |leader| -> Option<Vec<Seen>>
+                    requires { IsSync H.row }
+                {
+                    is_run = true;
+                    in_slots(rt, alloc, leader, jobs, rounds)
+                },
+            );
+            match places {
+                Ok(Some(places)) => return places,
+                _ if is_run => break,
+                _ => {}
+            }
+        }
+        Vec::new(alloc)
+    }
+
+    ghost equal_is_same = { Prim.search rules };
+}
+
+// Where the jobs of the last round ran; where a round is refused, the same lock answers when asked again.
+fn in_slots<H: Threads + Wait + Sync>(
     rt: &H,
     alloc: Global,
-    pool: &Pool<NoGate>,
+    leader: &mut SlotLeader<Staying, NoGate>,
+    jobs: usize,
     rounds: usize,
-    items: &[J::In],
-    expected: &[J::Out],
+) -> Option<Vec<Seen>> {
+    match until_all_run(rt, alloc, leader, jobs, rounds) {
+        Ok(places) => Some(places),
+        Err(_) => until_all_run(rt, alloc, leader, jobs, rounds).ok(),
+    }
+}
+
+/// Stays as `Staying` does, for as many turns as its item says in the place of the threads that are there. The item becomes where it ran.
+pub struct StayingHere;
+
+impl Remake for StayingHere {
+    type Item = Seen;
+
+    type Inner = End;
+
+    ghost remade = { λ _ _. Unit {0} };
+
+    fn run<H: Threads + Wait + Sync>(
+        _rt: &H,
+        _alloc: Global,
+        item: Seen,
+        cx: &mut JobCx<End>,
+    ) -> Seen {
+        stay(item.1, cx)
+    }
+}
+
+/// The same with a lock in place.
+pub struct Here;
+
+impl Job for Here {
+    type In = Ask;
+
+    type Out = Vec<Seen>;
+
+    type Inner = UnderInPlace<StayingHere>;
+
+    ghost meets = { λ _ _. Unit {0} };
+
+    fn run<H: Threads + Wait + Sync>(
+        rt: &H,
+        alloc: Global,
+        ask: &Ask,
+        cx: &mut JobCx<UnderInPlace<StayingHere>>,
+    ) -> Vec<Seen> {
+        let (threads, jobs, rounds) = *ask;
+        for _ in 0..2 {
+            let mut is_run = false;
+            let places = LockOf::<InPlace<StayingHere>>::nested_with_slots_in_place(
+                rt,
+                alloc,
+                cx,
+                threads.max(1),
+                jobs.max(1).min(64),
+                |leader| -> Option<Vec<Seen>>
+                    requires { IsSync H.row }
+                {
+                    is_run = true;
+                    in_place(rt, alloc, leader, jobs, rounds)
+                },
+            );
+            match places {
+                Ok(Some(places)) => return places,
+                _ if is_run => break,
+                _ => {}
+            }
+        }
+        Vec::new(alloc)
+    }
+
+    ghost equal_is_same = { Prim.search rules };
+}
+
+// As `in_slots`.
+fn in_place<H: Threads + Wait + Sync>(
+    rt: &H,
+    alloc: Global,
+    leader: &mut PlaceLeader<StayingHere, NoGate>,
+    jobs: usize,
+    rounds: usize,
+) -> Option<Vec<Seen>> {
+    match remade(rt, alloc, leader, jobs, rounds) {
+        Ok(places) => Some(places),
+        Err(_) => remade(rt, alloc, leader, jobs, rounds).ok(),
+    }
+}
+
+fn remade<H: Threads + Wait + Sync>(
+    rt: &H,
+    alloc: Global,
+    leader: &mut PlaceLeader<StayingHere, NoGate>,
+    jobs: usize,
+    rounds: usize,
+) -> Result<Vec<Seen>, Fault> {
+    let threads = leader.max_num_threads();
+    let mut places = Vec::new(alloc);
+    for _ in 0..rounds {
+        places = Vec::from_elem(alloc, (None, turns_of(rounds), 0), jobs)?;
+        leader.remake_each(rt, alloc, jobs.max(1), &mut places)?;
+        if all_ran(&places, threads) {
+            break;
+        }
+    }
+    Ok(places)
+}
+
+// A pool's threads, their pauses before they sleep, rounds and jobs; what each job asks for; the threads of the lock that it opens.
+type Row = (usize, u32, usize, usize, Ask, usize);
+
+const MOST: usize = 10000;
+
+const ROWS: [Row; 7] = [
+    // One lock after the other, more than there are child slots.
+    (2, 65536, 5, 1, (2, 2, MOST), 2),
+    (4, 65536, 5, 1, (2, 2, MOST), 2),
+    (4, 65536, 5, 1, (3, 3, MOST), 3),
+    (4, 65536, 5, 1, (4, 4, MOST), 4),
+    (1, 65536, 1, 1, (4, 3, 2), 1),
+    (4, 65536, 200, 4, (2, 2, 1), 2),
+    (3, 0, 2500, 4, (2, 2, 1), 2),
+];
+
+// Plays a row. The kind of job is a parameter: for a kind by name whose jobs open locks, the proof would take much more.
+fn play<K: Job<In = Ask, Out = Vec<Seen>> + Send, H: Threads + Wait + Abort + Sync>(
+    rt: &H,
+    alloc: Global,
+    row: Row,
 ) -> Result<(), Fault>
 where
-    J::In: Send + Sync,
-    J::Out: Debug + PartialEq + Send,
-    J::Inner: Send,
-    <J::Inner as Nest>::Slots: Send + Sync,
+    K::Inner: Send,
+    <K::Inner as Nest>::Slots: Send + Sync,
 {
-    let most = pool.max_num_threads();
-    with_lock::<J, _, _, _, _, _>(rt, alloc, pool, 4, |leader| {
-        for _ in 0..rounds {
-            let items = items.to_vec(alloc)?;
-            are(rt, &leader.for_each(rt, alloc, 4, items)?, expected);
-            holds(rt, (1..=most).contains(&leader.current_num_threads()));
-        }
-        Ok::<(), Fault>(())
-    })?
-}
-
-#[test]
-fn locks_with_slots_in_jobs_of_two_hundred_rounds(rt: HostRuntime) -> Result<(), Fault> {
-    let pool = Pool::new(4, Limits::new(), NoGate);
-    same_in_lock_often::<SquareBoth, _>(&rt, rt.alloc(), &pool, 200, &FIRST, &SUMS)
-}
-
-// No thread makes a turn before it sleeps.
-#[test]
-fn ten_thousand_inner_locks_with_slots_in_which_all_sleep_at_once(
-    rt: HostRuntime,
-) -> Result<(), Fault> {
-    let pool = Pool::new(3, Limits { spin: 0, pause: 0 }, NoGate);
-    same_in_lock_often::<SquareBoth, _>(&rt, rt.alloc(), &pool, 2500, &FIRST, &SUMS)
-}
-
-#[test]
-fn a_lock_with_slots_to_which_no_helper_can_come(rt: HostRuntime) -> Result<(), Fault> {
-    let alloc = rt.alloc();
-    let pool = Pool::new(1, Limits::new(), NoGate);
-    let seen = run_one::<WhereInSlots>(&rt, alloc, &pool, 1, Vec::from_elem(alloc, (), 1)?)?;
-    are(&rt, &seen, &[(1, 1, 3)]);
+    let (threads, spin, rounds, jobs, ask, most) = row;
+    let pool = Pool::new(threads.max(1), Limits { spin, pause: 8 }, NoGate);
+    let asks = Vec::from_elem(alloc, ask, jobs)?;
+    let (answers, _) = rounds_of::<K, _, _>(rt, alloc, &pool, 4, jobs.max(1), rounds, &asks)?;
+    is(rt, answers.len(), rounds.wrapping_mul(jobs));
+    for places in answers {
+        is(rt, places.len(), ask.1);
+        holds(rt, places.iter().all(|place| place.2 == most));
+        holds(rt, ask.2 == 1 || all_ran(&places, most));
+    }
     Ok(())
 }
 
-// Five rounds of one job in one lock of two threads at most, each of which answers both of their numbers.
-fn both_run_jobs_five_times<
-    J: Job<In = (), Out = (Option<usize>, Option<usize>)> + Send,
-    H: Threads + Wait + Abort + Sync,
->(rt: &H, alloc: Global, pool: &Pool<NoGate>) -> Result<(), Fault>
+// Each row; where memory is refused, it is asked for again.
+fn refused_once<K: Job<In = Ask, Out = Vec<Seen>> + Send, H: Threads + Wait + Abort + Sync>(
+    rt: &H,
+    alloc: Global,
+)
 where
-    J::Inner: Send,
-    <J::Inner as Nest>::Slots: Send + Sync,
+    K::Inner: Send,
+    <K::Inner as Nest>::Slots: Send + Sync,
 {
-    with_lock::<J, _, _, _, _, _>(rt, alloc, pool, 2, |leader| {
-        for _ in 0..5 {
-            let noted = leader.for_each(rt, alloc, 1, Vec::from_array(alloc, [()])?)?;
-            let both = noted[0] == (Some(0), Some(1)) || noted[0] == (Some(1), Some(0));
-            holds(rt, both);
+    for jobs in [1, 3, 7] {
+        let row = (2, 65536, 1, 2, (2, jobs, 1), 2);
+        if play::<K, H>(rt, alloc, row).is_err() {
+            holds(rt, play::<K, H>(rt, alloc, row).is_ok());
         }
-        Ok::<(), Fault>(())
-    })?
+    }
 }
 
-// One lock after the other, more than there are child slots: each has a slot of its own while it is open, and no longer.
+fn play_all<K: Job<In = Ask, Out = Vec<Seen>> + Send, H: Threads + Wait + Abort + Sync>(
+    rt: &H,
+    alloc: Global,
+) -> Result<(), Fault>
+where
+    K::Inner: Send,
+    <K::Inner as Nest>::Slots: Send + Sync,
+{
+    for row in ROWS {
+        play::<K, H>(rt, alloc, row)?;
+    }
+    Ok(())
+}
+
 #[test]
-fn a_helper_runs_jobs_of_each_lock_in_place_in_a_job(rt: HostRuntime) -> Result<(), Fault> {
-    let pool = Pool::new(2, Limits::new(), NoGate);
-    both_run_jobs_five_times::<NotesBoth, _>(&rt, rt.alloc(), &pool)
+fn helpers_run_jobs_of_locks_with_slots_in_jobs(rt: HostRuntime) -> Result<(), Fault> {
+    play_all::<InSlots, _>(&rt, rt.alloc())
+}
+
+#[test]
+fn helpers_run_jobs_of_locks_in_place_in_jobs(rt: HostRuntime) -> Result<(), Fault> {
+    play_all::<Here, _>(&rt, rt.alloc())
+}
+
+#[test]
+fn refused_lock_with_slots_in_a_job_opens_when_asked_again(rt: HostRuntime) {
+    refused_once::<InSlots, _>(&rt, rt.alloc());
+}
+
+#[test]
+fn refused_lock_in_place_in_a_job_opens_when_asked_again(rt: HostRuntime) {
+    refused_once::<Here, _>(&rt, rt.alloc());
 }

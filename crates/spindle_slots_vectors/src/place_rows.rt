@@ -1,4 +1,7 @@
 //! Rows of rounds in place: what becomes of each item stands in its place, and a refusal leaves the items as they were.
+//!
+//! No clause says that a round ends, that each job is announced once before it begins and once after it, that helpers run some, how many
+//! jobs and threads a call has that opens a lock of its own, or that memory which is there is used.
 ghost use Rattle.std.specs.Prelude.{◌<◌, ◌≤◌};
 
 use crate::checks::{holds, is};
@@ -10,6 +13,7 @@ use spindle::lock::{
 };
 use spindle::{Fault, play_in_place, remake_one, with_slots_in_place};
 use std::alloc::Global;
+use std::process::Abort;
 use std::sync::Wait;
 use std::thread::Threads;
 
@@ -33,15 +37,6 @@ impl Remake for Step {
     ) -> usize {
         item.wrapping_add(3)
     }
-}
-
-// The numbers from 0 up, so many.
-fn numbers(alloc: Global, count: usize) -> Result<Vec<usize>, Fault> {
-    let mut list = Vec::new(alloc);
-    for number in 0..count {
-        list.push(number)?;
-    }
-    Ok(list)
 }
 
 /// A round over a list of numbers, as a value.
@@ -68,14 +63,14 @@ impl RoundsInPlace for Steps {
     }
 }
 
-/// Whether each number from 0 up has made so many steps.
-pub fn have_stepped(list: &[usize], steps: usize) -> bool {
+// Whether these are so many numbers from 0 up, each of which has made so many steps.
+fn have_stepped(list: &[usize], count: usize, steps: usize) -> bool {
     for number in 0..list.len() {
         if list[number] != number.wrapping_add(steps.wrapping_mul(3)) {
             return false;
         }
     }
-    true
+    list.len() == count
 }
 
 // Has the numbers step so many times, in one lock of so many slots.
@@ -108,85 +103,67 @@ fn step_often<G: Gate + Sync, H: Threads + Wait + Sync>(
     )?
 }
 
+// Two hundred rounds: slots, jobs, numbers; and the jobs that they have.
+const STEPS: [(usize, usize, usize, usize); 12] = [
+    (16, 16, 1000, 16),
+    (8, 16, 13, 8),
+    (8, 16, 8, 8),
+    (4, 4, 9, 4),
+    (4, 1, 7, 1),
+    (4, 9, 0, 0),
+    (1, 9, 5, 1),
+    (8, 8, 8, 8),
+    (8, 8, 5, 5),
+    (8, 3, 8, 3),
+    (3, 8, 8, 3),
+    (8, 1, 8, 1),
+];
+
 #[test]
 fn two_hundred_rounds_in_place_are_as_a_plain_loop(rt: HostRuntime) -> Result<(), Fault> {
     let alloc = rt.alloc();
-    for (slots, jobs, count) in [
-        (16, 16, 1000),
-        (8, 16, 13),
-        (8, 16, 8),
-        (4, 4, 9),
-        (4, 1, 7),
-        (4, 9, 0),
-        (1, 9, 5),
-    ] {
-        for threads in [1, 4] {
-            let pool = Pool::new(threads, Limits::new(), NoGate);
-            let mut list = numbers(alloc, count)?;
-            step_often(&rt, alloc, &pool, slots, jobs, 200, &mut list)?;
-            is(&rt, list.len(), count);
-            holds(&rt, have_stepped(list.as_slice(), 200));
-        }
-    }
-    Ok(())
-}
-
-// A round has the least of jobs, slots and items as jobs, each of which is announced once before it begins and once after it.
-#[test]
-fn each_job_in_place_passes_the_gate_once(rt: HostRuntime) -> Result<(), Fault> {
-    let alloc = rt.alloc();
-    for (slots, jobs, count, wanted) in [
-        (8, 8, 8, 8),
-        (8, 8, 5, 5),
-        (8, 3, 8, 3),
-        (3, 8, 8, 3),
-        (8, 1, 8, 1),
-    ] {
+    for (slots, asked, count, jobs) in STEPS {
         for threads in [1, 4] {
             let calls = Calls::new();
             let pool = Pool::new(threads, Limits::new(), Counting { calls: &calls });
-            let mut list = numbers(alloc, count)?;
-            step_often(&rt, alloc, &pool, slots, jobs, 1, &mut list)?;
-            holds(&rt, have_stepped(list.as_slice(), 1));
-            is(&rt, calls.in_all(), (wanted, wanted));
-            is(&rt, calls.of_job(0), (1, 1));
+            let mut list = (0..count).collect(alloc)?;
+            step_often(
+                &rt,
+                alloc,
+                &pool,
+                slots.max(1).min(16),
+                asked.max(1),
+                200,
+                &mut list,
+            )?;
+            holds(&rt, have_stepped(list.as_slice(), count, 200));
+            is(
+                &rt,
+                calls.in_all(),
+                (jobs.wrapping_mul(200), jobs.wrapping_mul(200)),
+            );
+            is(&rt, calls.of_job(0).0, if jobs > 0 { 200 } else { 0 });
         }
     }
     Ok(())
 }
 
-// Three slots are three jobs, and of two threads each waits at the gate for the other's job.
+// Of two threads each waits at the gate for the other's job. A lock for rounds as a value has the slots and threads that are asked for:
+// of seven numbers in four jobs three slots make three jobs.
 #[test]
-fn a_lock_for_rounds_as_a_value_has_the_slots_and_threads_asked_for(
-    rt: HostRuntime,
-) -> Result<(), Fault> {
+fn jobs_in_place_meet(rt: HostRuntime) -> Result<(), Fault> {
     let alloc = rt.alloc();
-    let calls = Calls::new();
-    let pool = Pool::new(4, Limits::new(), Counting { calls: &calls });
-    let list = seven_items(alloc)?;
-    play_in_place(&rt, alloc, &pool, 4, 3, Steps { list })?;
-    is(&rt, calls.in_all(), (3, 3));
     let meetings = Meetings::new();
-    let list = numbers(alloc, 2)?;
-    play_in_place(&rt, alloc, &meetings.pool(2), 2, 2, Steps { list })?;
-    is(&rt, meetings.counts(), (2, 0));
-    Ok(())
-}
-
-#[test]
-fn refused_rounds_as_a_value_are_played_when_asked_again(rt: HostRuntime) -> Result<(), Fault> {
-    let alloc = rt.alloc();
-    let pool = Pool::new(4, Limits::new(), NoGate);
-    let mut played = 0usize;
-    for _ in 0..2 {
-        let list = seven_items(alloc)?;
-        if let Ok(steps) = play_in_place(&rt, alloc, &pool, 4, 3, Steps { list }) {
-            is(&rt, steps.list.len(), 7);
-            holds(&rt, have_stepped(steps.list.as_slice(), 1));
-            played = played.wrapping_add(1);
-        }
-    }
-    holds(&rt, 0 < played);
+    let mut list = (0..2).collect(alloc)?;
+    step_often(&rt, alloc, &meetings.pool(2), 2, 2, 50, &mut list)?;
+    is(&rt, meetings.counts(), (100, 0));
+    let steps = play_in_place(&rt, alloc, &meetings.pool(2), 2, 2, Steps { list })?;
+    holds(&rt, have_stepped(steps.list.as_slice(), 2, 51));
+    is(&rt, meetings.counts(), (102, 0));
+    let meetings = Meetings::new();
+    let list = seven_items(alloc)?;
+    play_in_place(&rt, alloc, &meetings.pool(3), 4, 3, Steps { list })?;
+    is(&rt, meetings.counts(), (3, 0));
     Ok(())
 }
 
@@ -194,37 +171,47 @@ fn refused_rounds_as_a_value_are_played_when_asked_again(rt: HostRuntime) -> Res
 #[test]
 fn one_round_in_place_has_the_jobs_asked_for(rt: HostRuntime) -> Result<(), Fault> {
     let alloc = rt.alloc();
-    for (threads, jobs, wanted) in [(4, 3, 3), (4, 0, 4), (1, 0, 1), (4, 9, 7)] {
+    for (threads, asked, count, jobs) in [
+        (4usize, 3usize, 7usize, 3usize),
+        (4, 0, 7, 4),
+        (1, 0, 7, 1),
+        (4, 9, 7, 7),
+        (4, 3, 0, 0),
+    ] {
         let calls = Calls::new();
         let pool = Pool::new(threads, Limits::new(), Counting { calls: &calls });
-        let items = seven_items(alloc)?;
-        let list = remake_one::<InPlace<Step>, _, _>(&rt, alloc, &pool, jobs, items)?;
-        is(&rt, list.len(), 7);
-        holds(&rt, have_stepped(list.as_slice(), 1));
-        is(&rt, calls.in_all(), (wanted, wanted));
-        let none = Vec::new(alloc);
-        let none = remake_one::<InPlace<Step>, _, _>(&rt, alloc, &pool, jobs, none)?;
-        holds(&rt, none.is_empty());
-        is(&rt, calls.in_all(), (wanted, wanted));
+        let items = (0..count).collect(alloc)?;
+        let list = remake_one::<InPlace<Step>, _, _>(&rt, alloc, &pool, asked, items)?;
+        holds(&rt, have_stepped(list.as_slice(), count, 1));
+        is(&rt, calls.in_all(), (jobs, jobs));
     }
     Ok(())
 }
 
-#[test]
-fn refused_round_in_place_is_played_when_asked_again(rt: HostRuntime) -> Result<(), Fault> {
-    let alloc = rt.alloc();
+// One round over seven numbers, as a value or in one call.
+fn step_once<H: Threads + Wait + Abort + Sync>(
+    rt: &H,
+    alloc: Global,
+    as_value: bool,
+) -> Result<(), Fault> {
     let pool = Pool::new(4, Limits::new(), NoGate);
-    let mut played = 0usize;
-    for _ in 0..2 {
-        let items = seven_items(alloc)?;
-        if let Ok(list) = remake_one::<InPlace<Step>, _, _>(&rt, alloc, &pool, 3, items) {
-            is(&rt, list.len(), 7);
-            holds(&rt, have_stepped(list.as_slice(), 1));
-            played = played.wrapping_add(1);
+    let list = seven_items(alloc)?;
+    let list = if as_value {
+        play_in_place(rt, alloc, &pool, 4, 3, Steps { list })?.list
+    } else {
+        remake_one::<InPlace<Step>, _, _>(rt, alloc, &pool, 3, list)?
+    };
+    holds(rt, have_stepped(list.as_slice(), 7, 1));
+    Ok(())
+}
+
+#[test]
+fn refused_round_in_place_is_played_when_asked_again(rt: HostRuntime) {
+    for as_value in [true, false] {
+        if step_once(&rt, rt.alloc(), as_value).is_err() {
+            holds(&rt, step_once(&rt, rt.alloc(), as_value).is_ok());
         }
     }
-    holds(&rt, 0 < played);
-    Ok(())
 }
 
 // The room of a round serves the next one of its size: where one of three rounds is refused, it is the first, and no item has
@@ -240,7 +227,7 @@ fn refused_rounds_in_place_leave_the_items(rt: HostRuntime) -> Result<(), Fault>
             if step_often(&rt, alloc, &pool, 7, jobs, 3, &mut list).is_ok() {
                 steps = steps.wrapping_add(3);
             }
-            holds(&rt, have_stepped(list.as_slice(), steps));
+            holds(&rt, have_stepped(list.as_slice(), 7, steps));
         }
         holds(&rt, 0 < steps);
     }

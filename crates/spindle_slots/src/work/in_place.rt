@@ -48,13 +48,13 @@ impl<'t, J: Remakes> SlotTables<'t, Pieces<ChunkOf<J>>> {
     {
         let round = &self.tables.round;
         self.fill_in_place(&mut barrier.seat, store, jobs, items);
-        runner.notices.end_rest();
+        let mut notices = runner.notices.another();
         let work = SlotWork {
             runner,
             alloc,
             leads: true,
         };
-        self.play_held(rt, barrier, jobs as u64, work);
+        self.play_held(rt, barrier, &mut notices, jobs as u64, work);
         for slot in 0..jobs {
             let answer = round.take_answer(&mut barrier.seat, slot);
             store.keep_ready(answer.unload(items));

@@ -12,7 +12,8 @@ ghost use Rattle.spindle_slots.specs.SlotRounds.{LeadsAt, PlayedPieces};
 
 use crate::crew::slot_tables::SlotTables;
 use crate::pieces::of_kind::Keeps;
-use spindle_crew::phases::end_round;
+use spindle_crew::notices::Notices;
+use spindle_crew::phases::{end_round, publish_held};
 use spindle_crew::post::Post;
 use spindle_rounds::barrier::Barrier;
 use spindle_rounds::round::claim::Claimed;
@@ -87,6 +88,7 @@ impl<'t, A: Answers> SlotTables<'t, Pieces<A>> {
         &self,
         rt: &H,
         barrier: &mut Barrier<'_, Pieces<A>>,
+        notices: &mut Notices<'_>,
         jobs: u64,
         work: W,
     )
@@ -103,8 +105,7 @@ impl<'t, A: Answers> SlotTables<'t, Pieces<A>> {
         ensures played { PlayedRound jobs barrier.old.seat.me.0 barrier.new.seat.me.0 }
     {
         let tables = self.tables;
-        tables.round.publish_held(&mut barrier.seat, jobs);
-        tables.sleep.wake_for_news(rt);
+        publish_held(rt, tables, &mut barrier.seat, notices, jobs);
         let task = Task {
             jobs,
             may_stop: false,

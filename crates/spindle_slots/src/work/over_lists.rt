@@ -49,13 +49,13 @@ impl<'t, J: Job> SlotTables<'t, Pieces<PieceOf<J>>> {
     {
         let pieces = items.pieces();
         items.fill(alloc, self, &mut barrier.seat, rooms)?;
-        runner.notices.end_rest();
+        let mut notices = runner.notices.another();
         let work = SlotWork {
             runner,
             alloc,
             leads: true,
         };
-        self.play_held(rt, barrier, pieces as u64, work);
+        self.play_held(rt, barrier, &mut notices, pieces as u64, work);
         let round = &self.tables.round;
         for slot in 0..pieces {
             let answer = round.take_answer(&mut barrier.seat, slot);
