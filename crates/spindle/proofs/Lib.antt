@@ -2,3 +2,14 @@
 pub mod Jobs
 pub mod FreeLists
 pub mod Folds
+mod MapPieces
+-- Those of the crates below that callers cite.
+pub use Rattle.spindle_parts.proofs.Deals
+pub use Rattle.spindle_parts.proofs.Lists
+pub use Rattle.spindle_lists.proofs.GatheredLists
+pub use Rattle.spindle_lists.proofs.ListChunks
+pub use Rattle.spindle_lists.proofs.ListRuns
+pub use Rattle.spindle_lists.proofs.StripLists
+pub use Rattle.spindle_trays.proofs.ChunkRounds
+pub use Rattle.spindle_trays.proofs.Outputs
+pub use Rattle.spindle_trays.proofs.Reports

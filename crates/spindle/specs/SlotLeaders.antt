@@ -35,6 +35,11 @@ abbrev pub IsAsBefore : {J G P I O N S V : Type 0} → (P → V) → (old new : 
     → Type 0
 IsAsBefore told old new = told new.post ≡ told old.post
 
+-- it did nothing: its seat at the round table is as before, and it made no step at the ledger
+abbrev pub DidNothing : {J G P I O N S V : Type 0} → (P → V) → (old new : SlotLeader J G P I O N S)
+    → Type 0
+DidNothing view old new = IsAsBefore view old new × (account_of new ≡ account_of old)
+
 -- the slots of its lock, where this tells them of its post
 abbrev pub slots_of : {J G P I O N S : Type 0} → (P → ℕ) → SlotLeader J G P I O N S → ℕ
 slots_of slot_count leader = slot_count leader.post

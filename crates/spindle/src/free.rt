@@ -4,6 +4,9 @@
 //! thread for each half that it splits off. Starting them costs tens to hundreds of microseconds at each call. So
 //! these calls are for a few long jobs, here and there; who runs round after round, or short jobs, opens a lock,
 //! which keeps its threads.
+//!
+//! No call takes a `Wait`, since `rayon` joins the threads that it starts. Closures that wait for each other must be no
+//! more than run side by side.
 ghost use Rattle.std.specs.Prelude.{◌≡◌, ◌<◌, All, IfOk, OnErr, IsOk, IsErrOf, vec_len};
 ghost use Rattle.std.specs.List.{AllZip};
 ghost use Rattle.spindle_parts.specs.Pieces.{counted};

@@ -1,12 +1,14 @@
 //! Locks: a caller opens one for a kind of job, and hands lists of items to its rounds. All that a user names of locks is given
 //! out here.
 //!
-//! Locks with slots: `slot_root` has the calls that open them and `slot_opening` how, `slot_leader` what both kinds of their leader share,
-//! `slot_rounds` and `place_rounds` their rounds, which `spindle_slots` plays. `nested` has the calls by which a job opens them, and
-//! `slot_nest` what stands in a child slot then. Locks for one call: `one_round` opens one for a round, `folds` for the total of a
-//! list, `place_once` for rounds in place.
+//! Locks with slots: `slot_root` has the calls that open them and `slot_opening` how, `slot_leader` what both kinds of their
+//! leader share, `slot_rounds` and `place_rounds` their rounds, which `spindle_slots` plays. `nested` has the calls by which a job
+//! opens them, and `slot_nest` what stands in a child slot then. `lock_of` has the calls that open a lock under the name of their
+//! kind of job. Locks for one call: `one_round` opens one for a round, `folds` for the total of a list, `place_once` for rounds
+//! in place.
 
 mod folds;
+mod lock_of;
 pub mod nested;
 mod one_round;
 mod place_once;
@@ -18,6 +20,7 @@ mod slot_root;
 mod slot_rounds;
 
 pub use self::folds::{Combine, Folds, reduce};
+pub use self::lock_of::LockOf;
 pub use self::one_round::run_one;
 pub use self::place_once::{RoundsInPlace, play_in_place, remake_one};
 pub use self::place_rounds::PlaceLeader;

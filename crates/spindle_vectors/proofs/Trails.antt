@@ -5,7 +5,7 @@ use mathlib.Core.Option.{some, some-injective, some-ne-none}
 use lib.ListN.{get_elem?}
 use Rattle.spindle_parts.specs.State.{times}
 use Rattle.spindle_rounds.specs.declared.round_table.view.View.{View}
-use Rattle.spindle_rounds.specs.RoundRule.{Deed, Began, deeds_of}
+use Rattle.spindle_rounds.specs.RoundShown.{Deed, Began, deeds_of}
 use Rattle.spindle_rounds.specs.RoundTrails.{begun_by, told, told_by_all}
 use Rattle.spindle_vectors.specs.Callers.{TellsOf}
 

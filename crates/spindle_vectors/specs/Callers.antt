@@ -6,7 +6,7 @@ use Rattle.std.specs.List.{Contains}
 use Rattle.spindle_trays.specs.declared.lock.leader.Leader.{Leader}
 use Rattle.spindle_trays.specs.Leaders.{view_of}
 use Rattle.spindle_rounds.specs.declared.round_table.view.View.{View}
-use Rattle.spindle_rounds.specs.RoundRule.{Began, Showed, deeds_of}
+use Rattle.spindle_rounds.specs.RoundShown.{Began, Showed, deeds_of}
 use Rattle.spindle_rounds.specs.RoundSlots.{Discipline}
 use Rattle.spindle_rounds.specs.RoundSteps.{round_of}
 use Rattle.spindle_rounds.specs.RoundTrails.{AtEveryMoment}

@@ -7,13 +7,11 @@ ghost use Rattle.spindle_trays.specs.Rounds.{job_count};
 ghost use Rattle.spindle_vectors.specs.Callers.{IsFunction, PublishedTwice, JobsDiffer};
 
 use crate::chunks::AddOne;
-use spindle::lock::{End, Gate, Job, JobCx, Leader, Limits, Nest, NoGate, Opens, Pool};
+use spindle::for_each;
+use spindle::lock::{Nest, Opens};
+use spindle::prelude::*;
 use spindle::round_table::runs::every_moment;
 use spindle::round_table::slots::Slots;
-use spindle::{Fault, SharedList, for_each, gathered, with_lock};
-use std::alloc::Global;
-use std::sync::Wait;
-use std::thread::Threads;
 
 /// Squares a number.
 pub struct Square;
@@ -50,7 +48,7 @@ pub fn squares<G: Gate + Sync, H: Threads + Wait + Sync>(
     requires { 0 < jobs }
     ensures { IfOk result (λ squares. squares.items ≡ map (λ x. x * x) numbers.items) }
 {
-    with_lock::<Square, _, _, _, _, _>(
+    LockOf::<Square>::with_lock(
         rt,
         alloc,
         pool,
@@ -77,7 +75,7 @@ where
     requires jobs { 0 < jobs }
     ensures { IfOk result (λ outputs. AllZip J.meets items.items outputs.items) }
 {
-    with_lock::<J, _, _, _, _, _>(
+    LockOf::<J>::with_lock(
         rt,
         alloc,
         pool,

@@ -11,18 +11,18 @@ ghost use Rattle.spindle.specs.SlotLeaders.{TakesLeaders, IsLeaderOf};
 use crate::lock::slot_leader::SlotLeader;
 use crate::lock::slot_nest::{Entry, NestedSlots, UnderPieces};
 use spindle_crew::Crew;
-use spindle_crew::limits::Limits;
+use spindle_crew::limits::Idling;
 use spindle_parts::fault::Fault;
 use spindle_rounds::round_table::pieces::Pieces;
 use spindle_slots::crew::slot_post::Newcomer;
 use spindle_slots::job::remake::Remakes;
 use spindle_slots::pieces::of_kind::{ChunkOf, PieceOf};
-use spindle_slots::posts::slot_workspace::{MakesSlots, OpensSlots, SlotWorkspace};
+use spindle_slots::posts::slot_workspace::{MakesSlots, SlotWorkspace};
 use spindle_slots::work::in_slots::RunsPieces;
 use spindle_trays::job::Job;
-use spindle_trays::job::context::JobCx;
+use spindle_trays::job::context::{JobCx, child_slots_of, site_of};
 use spindle_trays::job::gate::NoGate;
-use spindle_trays::lock::nested::Berth;
+use spindle_trays::lock::nested::{Berth, close};
 use spindle_trays::lock::opening::take_post;
 use std::alloc::Global;
 use std::sync::Wait;
@@ -54,7 +54,7 @@ pub fn with_slots<
         × IsLeaderOf J.OpensSlots.slot_count (lock_threads cx.old.pool max_threads) slots old
         × FnOnceReturnsAtMut F.FnOnce f old r new) }
     ensures memory { OnErr result (IsErrOf result Fault.Memory) }
-    ensures lock { (cx.new.threads ≡ cx.old.threads) × (cx.new.pool ≡ cx.old.pool) }
+    ensures same { cx.new ≡ cx.old }
 {
     open::<J, PieceOf<J>, R, F, P, H>(rt, alloc, cx, max_threads, slots, f)
 }
@@ -83,7 +83,7 @@ pub fn with_slots_in_place<
         × IsLeaderOf J.OpensSlots.slot_count (lock_threads cx.old.pool max_threads) slots old
         × FnOnceReturnsAtMut F.FnOnce f old r new) }
     ensures memory { OnErr result (IsErrOf result Fault.Memory) }
-    ensures lock { (cx.new.threads ≡ cx.old.threads) × (cx.new.pool ≡ cx.old.pool) }
+    ensures same { cx.new ≡ cx.old }
 {
     open::<J, ChunkOf<J>, R, F, P, H>(rt, alloc, cx, max_threads, slots, f)
 }
@@ -110,23 +110,24 @@ fn open<
         × IsLeaderOf J.OpensSlots.slot_count (lock_threads cx.old.pool max_threads) slots old
         × FnOnceReturnsAtMut F.FnOnce f old r new) }
     ensures memory { OnErr result (IsErrOf result Fault.Memory) }
-    ensures lock { (cx.new.threads ≡ cx.old.threads) × (cx.new.pool ≡ cx.old.pool) }
+    ensures same { cx.new ≡ cx.old }
 {
-    let crew = cx.site.crew.nested(max_threads);
-    let limits = cx.site.sleep.limits();
-    if let Some(places) = cx.slots
+    let site = site_of(cx);
+    let crew = site.crew.nested(max_threads);
+    let idling = site.sleep.idling();
+    if let Some(places) = child_slots_of(cx)
         && crew.threads() > 1
     {
-        let (child, entry) = NestedSlots::open(alloc, crew, limits, slots)?;
-        let asked = cx.notices.ask(&*child.shared.tables);
-        if let Some(berth) = Berth::take(rt, places, &child, asked, cx.site.sleep) {
+        let (child, entry) = NestedSlots::open(alloc, crew, idling, slots)?;
+        let asked = cx.asks.ask(&*child.shared.tables);
+        if let Some(berth) = Berth::take(rt, places, &child, asked, site.sleep) {
             let mut leader = take_lead(rt, &*child.shared, &NoGate, entry);
             let answer = f(&mut leader);
             close(rt, leader, berth);
             return Ok(answer);
         }
     }
-    lead_alone::<J, A, R, F, P, H>(rt, alloc, crew, limits, slots, f)
+    lead_alone::<J, A, R, F, P, H>(rt, alloc, crew, idling, slots, f)
 }
 
 // Runs f with the leader of a lock of so many threads that stands in no child slot, so that no helper comes to it.
@@ -137,7 +138,7 @@ fn lead_alone<
     F: FnOnce(&mut SlotLeader<J, NoGate, P>) -> R,
     P: Drop,
     H: Threads + Wait + Sync,
->(rt: &H, alloc: Global, crew: Crew, limits: Limits, slots: usize, f: F) -> Result<R, Fault>
+>(rt: &H, alloc: Global, crew: Crew, idling: Idling, slots: usize, f: F) -> Result<R, Fault>
     requires slots { (1 ≤ slots) × (slots ≤ 4294967295) }
     requires callable { TakesLeaders J.OpensSlots.slot_count slots F.FnOnce f }
     ensures promise { IfOk result (λ r. (old : _) × (new : _)
@@ -145,20 +146,8 @@ fn lead_alone<
         × FnOnceReturnsAtMut F.FnOnce f old r new) }
     ensures memory { OnErr result (IsErrOf result Fault.Memory) }
 {
-    let (child, entry) = NestedSlots::open(alloc, crew.alone(), limits, slots)?;
+    let (child, entry) = NestedSlots::open(alloc, crew.alone(), idling, slots)?;
     Ok(f(&mut take_lead(rt, &*child.shared, &NoGate, entry)))
-}
-
-// Closes a lock that stands in a child slot. The order is binding.
-fn close<J: OpensSlots<P>, P: Drop, N: Drop, H: Wait>(
-    rt: &H,
-    mut leader: SlotLeader<'_, J, NoGate, P>,
-    berth: Berth<'_, N>,
-) {
-    leader.dismiss(rt);
-    let slot = berth.close();
-    leader.leave(rt);
-    drop(slot.clear(rt));
 }
 
 // The leader of a lock that nobody leads yet.

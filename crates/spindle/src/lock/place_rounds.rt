@@ -2,9 +2,10 @@
 ghost use Rattle.std.specs.Prelude.{◌≡◌, ◌<◌, ◌≤◌, IfOk, OnOk, OnErr, IsOk, IsErrOf, min, vec_len};
 ghost use Rattle.std.specs.List.{AllZip};
 ghost use denote.Param.Send.{IsSync};
+ghost use Rattle.spindle_crew.specs.Accounts.{account_of};
 ghost use Rattle.spindle_rounds.specs.RoundConditions.{MayFill};
 ghost use Rattle.spindle_rounds.specs.Working.{PlayedRound};
-ghost use Rattle.spindle.specs.SlotLeaders.{threads_of, slot_jobs, IsAsBefore, IsBetweenRounds, PlayedOnce};
+ghost use Rattle.spindle.specs.SlotLeaders.{threads_of, slot_jobs, DidNothing, IsAsBefore, IsBetweenRounds, PlayedOnce};
 
 use crate::lock::slot_leader::SlotLeader;
 use spindle_parts::fault::Fault;
@@ -38,6 +39,7 @@ impl<'a, J: PlaysInPlace<P>, G: Gate, P> SlotLeader<'a, J, G, P> {
         ensures kept { OnErr result (items.new.items ≡ items.old.items) }
         ensures memory { OnErr result (IsErrOf result Fault.Memory) }
         ensures empty { vec_len items.old ≡ 0 → IsOk result }
+        ensures nothing { vec_len items.old ≡ 0 → DidNothing J.OpensSlots.view self.old self.new }
         ensures played { let jobs = slot_jobs J.OpensSlots.slot_count self.old (vec_len items.old) n_jobs in
             OnOk result (2 ≤ jobs → PlayedOnce J.OpensSlots.view jobs self.old self.new) }
         ensures direct { slot_jobs J.OpensSlots.slot_count self.old (vec_len items.old) n_jobs ≤ 1
@@ -66,6 +68,9 @@ pub(crate) fn remake<J: PlaysInPlace<P>, P, G: Gate, H: Threads + Wait + Sync>(
     ensures kept { OnErr result (items.new.items ≡ items.old.items) }
     ensures memory { OnErr result (IsErrOf result Fault.Memory) }
     ensures empty { vec_len items.old ≡ 0 → IsOk result }
+    ensures nothing { vec_len items.old ≡ 0
+        → (J.OpensSlots.view post.new ≡ J.OpensSlots.view post.old)
+        × (account_of runner.new.notices ≡ account_of runner.old.notices) }
     ensures played { let jobs = min (vec_len items.old) (min n_jobs (J.OpensSlots.slot_count post.old)) in
         OnOk result (2 ≤ jobs → PlayedRound jobs (J.OpensSlots.view post.old) (J.OpensSlots.view post.new)) }
     ensures direct { min (vec_len items.old) (min n_jobs (J.OpensSlots.slot_count post.old)) ≤ 1

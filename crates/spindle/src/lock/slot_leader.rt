@@ -10,6 +10,7 @@ use spindle_slots::posts::piece_post::PiecePost;
 use spindle_slots::posts::slot_workspace::OpensSlots;
 use spindle_trays::job::Job;
 use spindle_trays::job::gate::Gate;
+use spindle_trays::lock::nested::Leads;
 use spindle_trays::work::runner::Runner;
 use std::sync::Wait;
 
@@ -32,17 +33,6 @@ impl<'a, J: OpensSlots<P>, G: Gate, P> SlotLeader<'a, J, G, P> {
             runner,
             post,
         }
-    }
-
-    /// Tells the helpers to end.
-    pub(crate) fn dismiss<H: Wait>(&mut self, rt: &H) {
-        self.runner.notices.announce_exit();
-        J::wake(rt, &self.post);
-    }
-
-    /// Leaves the lock's barrier.
-    pub(crate) fn leave<H: Wait>(self, rt: &H) {
-        J::leave(rt, self.post);
     }
 
     /// How many threads take part in the lock now, the leader counted.
@@ -75,5 +65,20 @@ impl<'a, J: OpensSlots<P>, G: Gate, P> SlotLeader<'a, J, G, P> {
         ensures rest { AnnouncedRest self.old self.new }
     {
         self.runner.notices.announce_rest();
+    }
+}
+
+impl<'a, J: OpensSlots<P>, G: Gate, P> Leads for SlotLeader<'a, J, G, P> {
+    ghost use Rattle.spindle.specs.SlotLeaders.{account_of};
+
+    ghost account = { account_of };
+
+    fn dismiss<H: Wait>(&mut self, rt: &H) {
+        self.runner.notices.announce_exit();
+        J::wake(rt, &self.post);
+    }
+
+    fn leave<H: Wait>(self, rt: &H) {
+        J::leave(rt, self.post);
     }
 }

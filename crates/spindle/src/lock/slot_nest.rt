@@ -8,7 +8,7 @@ ghost use Rattle.spindle_crew.specs.Opening.{AreSeatsAt};
 
 use spindle_crew::Crew;
 use spindle_crew::bench::Bench;
-use spindle_crew::limits::Limits;
+use spindle_crew::limits::Idling;
 use spindle_crew::notices::Notices;
 use spindle_crew::seats::Seats;
 use spindle_crew::tables::Tables;
@@ -67,20 +67,21 @@ impl<J: Job, A: RunsPieces<J>> NestedSlots<SlotWorkspace<J>, A> {
     pub(crate) fn open(
         alloc: Global,
         crew: Crew,
-        limits: Limits,
+        idling: Idling,
         slots: usize,
     ) -> Result<(Child<NestedSlots<SlotWorkspace<J>, A>>, Entry<A>), Fault>
         requires slots { (1 ≤ slots) × (slots ≤ 4294967295) }
         ensures share { IfOk result (λ t. arc_value t.1.share ≡ arc_value (arc_value t.0.shared).tables) }
         ensures crew { IfOk result (λ t. (arc_value t.1.share).crew ≡ crew) }
         ensures slots { IfOk result (λ t. t.1.slots ≡ slots) }
+        ensures idling { IfOk result (λ t. (arc_value t.1.share).sleep.idling ≡ idling) }
         ensures memory { OnErr result (IsErrOf result Fault.Memory) }
     {
         let threads = crew.threads();
         let children = <J::Inner as Nest>::make(alloc, threads)?;
         let (round, seat) = Round::with_slots(alloc, threads, slots)?;
         let places = J::Inner::slot_count(threads);
-        let (tables, mut seats) = Tables::new(alloc, crew, limits, places, round, seat)?;
+        let (tables, mut seats) = Tables::new(alloc, crew, idling, places, round, seat)?;
         let benches = tables.benches(alloc, &mut seats)?;
         let tables = Arc::new(alloc, tables)?;
         let share = Arc::try_clone(&tables)?;

@@ -10,7 +10,7 @@ ghost use Rattle.spindle_rounds.specs.Seating.{HasSlots};
 
 use crate::lock::slot_leader::SlotLeader;
 use spindle_crew::Crew;
-use spindle_crew::limits::Limits;
+use spindle_crew::limits::Idling;
 use spindle_crew::seats::Seats;
 use spindle_crew::tables::Tables;
 use spindle_parts::fault::Fault;
@@ -21,6 +21,8 @@ use spindle_slots::posts::slot_workspace::MakesSlots;
 use spindle_trays::job::Job;
 use spindle_trays::job::gate::Gate;
 use spindle_trays::job::nest::Nest;
+use spindle_trays::lock::helpers::{Helpers, Room};
+use spindle_trays::lock::nested::Leads;
 use spindle_trays::lock::opening::muster;
 use spindle_trays::lock::part::TakesPart;
 use spindle_trays::lock::pool::Pool;
@@ -48,8 +50,7 @@ where
     J::Out: Send,
     J::Inner: Send,
     <J::Inner as Nest>::Slots: Send + Sync,
-    requires some { 0 < max_threads }
-    requires slots { (1 ≤ slots) × (slots ≤ 4294967295) }
+    requires some { (0 < max_threads) × (1 ≤ slots) × (slots ≤ 4294967295) }
     requires callable { TakesLeaders J.OpensSlots.slot_count slots F.FnOnce f }
     ensures promise { IfOk result (λ r. (old : _) × (new : _)
         × (threads_of old ≡ lock_threads pool.now.threads max_threads)
@@ -59,7 +60,7 @@ where
 {
     let crew = Crew::new(pool.max_num_threads(), max_threads);
     let workspace = J::workspace(alloc, crew.threads())?;
-    let (tables, seats) = make::<J, _, L, P>(alloc, crew, pool.limits(), slots)?;
+    let (tables, seats) = make::<J, _, L, P>(alloc, crew, pool.idling(), slots)?;
     let tables = Arc::new(alloc, tables)?;
     let entrant = Entrant {
         tables: &*tables,
@@ -67,13 +68,14 @@ where
         pool,
         share: Arc::try_clone(&tables)?,
         seats,
+        room: Room::new(alloc, pool.helpers(crew.threads()))?,
         slots,
     };
     Ok(scoped::<J, A, L, G, R, F, P, H>(rt, alloc, entrant, f))
 }
 
 /// What the leader of a lock with slots comes to: the lock's tables, with a share of its own, what stands beside them, its pool,
-/// and its seats.
+/// its seats, and room for the helpers.
 #[derive(Drop)]
 struct Entrant<'s, D: Slots, G: Gate, L> {
     tables: &'s Tables<D>,
@@ -81,6 +83,7 @@ struct Entrant<'s, D: Slots, G: Gate, L> {
     pool: &'s Pool<G>,
     share: Arc<Tables<D>>,
     seats: Seats<D>,
+    room: Room,
     slots: usize,
     ghost same: { arc_value share ≡ tables.now },
     ghost seated: { AreSeatsAt tables.now seats },
@@ -95,7 +98,7 @@ impl<'s, D: Slots + Send + 's, G: Gate + Sync, L: Send + Sync> Entrant<'s, D, G,
         scope: &Scope<'s, E>,
         rt: &'s H,
         alloc: Global,
-    ) -> (Newcomer<D>, Runner<'s, J, G>)
+    ) -> (Newcomer<D>, Runner<'s, J, G>, Helpers)
     where
         D::Slot: Send,
         D::Note: Send,
@@ -113,12 +116,13 @@ impl<'s, D: Slots + Send + 's, G: Gate + Sync, L: Send + Sync> Entrant<'s, D, G,
             pool,
             share,
             seats,
+            room,
             slots,
         } = self;
-        let (post, runner) = muster::<E, D, J, G, L, H>(
-            scope, rt, alloc, tables, workspace, pool, seats,
+        let (post, runner, helpers) = muster::<E, D, J, G, L, H>(
+            scope, rt, alloc, tables, workspace, pool, seats, room,
         );
-        (Newcomer::new(share, post, slots), runner)
+        (Newcomer::new(share, post, slots), runner, helpers)
     }
 }
 
@@ -126,19 +130,20 @@ impl<'s, D: Slots + Send + 's, G: Gate + Sync, L: Send + Sync> Entrant<'s, D, G,
 fn make<J: MakesSlots<P, D, L>, D: Slots, L, P>(
     alloc: Global,
     crew: Crew,
-    limits: Limits,
+    idling: Idling,
     slots: usize,
 ) -> Result<(Tables<D>, Seats<D>), Fault>
     ensures made { IfOk result (λ t. (t.0.crew ≡ crew) × AreSeatsAt t.0 t.1
         × HasSlots t.0.round.init slots) }
+    ensures idling { IfOk result (λ t. t.0.sleep.idling ≡ idling) }
     ensures memory { OnErr result (IsErrOf result Fault.Memory) }
 {
     let (round, seat) = J::rounds(alloc, crew.threads(), slots)?;
     let child_slots = J::Inner::slot_count(crew.threads());
-    Tables::new(alloc, crew, limits, child_slots, round, seat)
+    Tables::new(alloc, crew, idling, child_slots, round, seat)
 }
 
-// Opens the scope of the helpers' threads, which joins them at its end.
+// Opens the scope of the helpers' threads.
 fn scoped<
     J: MakesSlots<P, Pieces<A>, L> + Send,
     A: Answers + Send,
@@ -172,7 +177,7 @@ where
     )
 }
 
-// Starts the helpers, runs f, and dismisses them.
+// Starts the helpers, runs f, and dismisses and joins them.
 fn lead<
     's,
     E,
@@ -196,10 +201,11 @@ where
     ensures { let of = entrant.entry in
         WasLed J.OpensSlots.slot_count of.tables.now.crew.most of.slots F.FnOnce f result }
 {
-    let (newcomer, runner) = entrant.muster::<E, J, H>(scope, rt, alloc);
+    let (newcomer, runner, helpers) = entrant.muster::<E, J, H>(scope, rt, alloc);
     let mut newcomer = Some(newcomer);
     let mut leader = SlotLeader::new(runner, J::settle(&mut newcomer));
     let answer = f(&mut leader);
     leader.dismiss(rt);
+    helpers.join(rt);
     answer
 }

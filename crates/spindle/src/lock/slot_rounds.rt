@@ -6,7 +6,7 @@ ghost use Rattle.std.specs.Prelude.{◌≡◌, ◌<◌, ◌≤◌, [], refl, IfO
 ghost use Rattle.std.specs.List.{AllZip};
 ghost use Rattle.spindle_parts.specs.Pieces.{counted};
 ghost use Rattle.spindle_parts.specs.declared.fault.Fault.TheVariants.{Memory};
-ghost use Rattle.spindle.specs.SlotLeaders.{threads_of, slots_of, slot_jobs, IsAsBefore, IsBetweenRounds, PlayedOnce};
+ghost use Rattle.spindle.specs.SlotLeaders.{threads_of, slots_of, slot_jobs, DidNothing, IsAsBefore, IsBetweenRounds, PlayedOnce};
 
 use crate::lock::slot_leader::SlotLeader;
 use spindle_parts::fault::Fault;
@@ -36,6 +36,7 @@ impl<'a, J: PlaysPieces<P>, G: Gate, P> SlotLeader<'a, J, G, P> {
         ensures answer { IfOk result (λ outputs. AllZip J.meets items.items outputs.items) }
         ensures memory { OnErr result (IsErrOf result Fault.Memory) }
         ensures empty { vec_len items ≡ 0 → IsOk result }
+        ensures nothing { vec_len items ≡ 0 → DidNothing J.OpensSlots.view self.old self.new }
         ensures played { let jobs = slot_jobs J.OpensSlots.slot_count self.old (vec_len items) n_jobs in
             OnOk result (2 ≤ jobs → PlayedOnce J.OpensSlots.view jobs self.old self.new) }
         ensures direct { slot_jobs J.OpensSlots.slot_count self.old (vec_len items) n_jobs ≤ 1
@@ -64,6 +65,7 @@ impl<'a, J: PlaysPieces<P>, G: Gate, P> SlotLeader<'a, J, G, P> {
         ensures given_up { OnErr result (outputs.new.items ≡ []) }
         ensures memory { OnErr result (IsErrOf result Fault.Memory) }
         ensures empty { vec_len items ≡ 0 → IsOk result }
+        ensures nothing { vec_len items ≡ 0 → DidNothing J.OpensSlots.view self.old self.new }
         ensures played { let jobs = slot_jobs J.OpensSlots.slot_count self.old (vec_len items) n_jobs in
             OnOk result (2 ≤ jobs → PlayedOnce J.OpensSlots.view jobs self.old self.new) }
         ensures direct { slot_jobs J.OpensSlots.slot_count self.old (vec_len items) n_jobs ≤ 1
@@ -161,6 +163,7 @@ impl<'a, J: PlaysPieces<P, In = usize>, G: Gate, P> SlotLeader<'a, J, G, P> {
         ensures answer { IfOk result (λ outputs. AllZip J.meets (counted 0 n_jobs) outputs.items) }
         ensures memory { OnErr result (IsErrOf result Fault.Memory) }
         ensures empty { n_jobs ≡ 0 → IsOk result }
+        ensures nothing { n_jobs ≡ 0 → DidNothing J.OpensSlots.view self.old self.new }
         ensures played { OnOk result
             (2 ≤ n_jobs → PlayedOnce J.OpensSlots.view n_jobs self.old self.new) }
         ensures direct { n_jobs ≤ 1 → IsAsBefore J.OpensSlots.view self.old self.new }

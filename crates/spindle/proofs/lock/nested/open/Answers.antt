@@ -7,7 +7,7 @@ use Rattle.spindle.proofs.lock.nested.open.Goals as goal
 
 pub returns-in-Some-take-clause-promise : goal.returns-in-Some-take-clause-promise
 returns-in-Some-take-clause-promise g c =
-    let size = c.nested-crew.ensures.most ∙ ap (λ v. lock_threads v.pool c.args.max_threads) c.cx.view_is in
+    let size = c.nested-crew.ensures.most ∙ ap (λ pool. lock_threads pool c.args.max_threads) c.site_of-site.ensures.pool in
     let made = c.in_ok-child.ensures in let leads = c.take_lead-leader.ensures in (
       c.take_lead-leader.result,
       _,
@@ -22,5 +22,5 @@ returns-in-Some-take-clause-promise g c =
 
 pub returns-clause-promise : goal.returns-clause-promise
 returns-clause-promise g c =
-    let size = c.nested-crew.ensures.most ∙ ap (λ v. lock_threads v.pool c.args.max_threads) c.cx.view_is in
+    let size = c.nested-crew.ensures.most ∙ ap (λ pool. lock_threads pool c.args.max_threads) c.site_of-site.ensures.pool in
     IfOk-weaker c.lead_alone.result _ _ (λ r p. (p.0, p.1, (p.2.0 ∙ size, p.2.1), p.3)) c.lead_alone.ensures.promise

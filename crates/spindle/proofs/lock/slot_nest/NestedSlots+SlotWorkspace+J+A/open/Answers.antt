@@ -34,3 +34,6 @@ returns-clause-share g c = c.in_ok-share.ensures ∙ ap (λ n. arc_value n.table
 
 pub returns-clause-crew : goal.returns-clause-crew
 returns-clause-crew g c = ap (λ t. t.crew) (c.in_ok-share.ensures ∙ c.in_ok-tables-2.ensures.ok) ∙ c.in_ok-tables.ensures.crew
+
+pub returns-clause-idling : goal.returns-clause-idling
+returns-clause-idling g c = ap (λ t. t.sleep.idling) (c.in_ok-share.ensures ∙ c.in_ok-tables-2.ensures.ok) ∙ c.in_ok-tables.ensures.idling

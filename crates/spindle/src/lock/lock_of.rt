@@ -1,0 +1,183 @@
+//! The locks of a kind of job, by its name: each call opens one, and names no type but that kind.
+ghost use Rattle.std.specs.Prelude.{◌≡◌, ◌<◌, ◌≤◌, IfOk, OnErr, IsErrOf};
+ghost use Rattle.std.specs.Fn.{FnOnceReturnsAtMut};
+ghost use Rattle.spindle_crew.specs.Crews.{lock_threads};
+ghost use Rattle.spindle_trays.specs.Leaders.{hands_of, threads_of as tray_threads};
+ghost use Rattle.spindle.specs.SlotLeaders.{TakesLeaders, IsLeaderOf, threads_of};
+
+use crate::lock::slot_leader::SlotLeader;
+use crate::lock::slot_nest::UnderPieces;
+use crate::lock::{nested, slot_root};
+use spindle_parts::fault::Fault;
+use spindle_rounds::round_table::pieces::Pieces;
+use spindle_slots::job::remake::Remakes;
+use spindle_slots::pieces::of_kind::{ChunkOf, PieceOf};
+use spindle_slots::posts::slot_workspace::{MakesSlots, SlotWorkspace};
+use spindle_trays::job::Job;
+use spindle_trays::job::context::JobCx;
+use spindle_trays::job::gate::{Gate, NoGate};
+use spindle_trays::job::nest::Nest;
+use spindle_trays::lock::leader::Leader;
+use spindle_trays::lock::pool::Pool;
+use spindle_trays::lock::root;
+use spindle_trays::lock::workspace::Opens;
+use std::alloc::Global;
+use std::marker::PhantomData;
+use std::sync::Wait;
+use std::thread::Threads;
+
+/// The locks over jobs of kind J, as in `LockOf::<Bill>::with_slots(rt, alloc, pool, threads, slots, |leader| ..)`. No value of it is
+/// made. Each call is the function of its name, whose other types the compiler finds.
+pub struct LockOf<J> {
+    kind: PhantomData<J>,
+}
+
+impl<J> LockOf<J> {
+    /// Opens a lock with trays: `spindle::with_lock`.
+    pub fn with_lock<
+        G: Gate + Sync,
+        R,
+        F: FnOnce(&mut Leader<J, G, L>) -> R,
+        L: Send + Sync + Drop,
+        H: Threads + Wait + Sync,
+    >(rt: &H, alloc: Global, pool: &Pool<G>, max_threads: usize, f: F) -> Result<R, Fault>
+    where
+        J: Opens<L> + Send,
+        J::In: Send + Sync,
+        J::Out: Send,
+        J::Inner: Send,
+        <J::Inner as Nest>::Slots: Send + Sync,
+        requires some { 0 < max_threads }
+        requires callable { F.IsAlwaysCallable f }
+        ensures promise { IfOk result (λ r. (old : _) × (new : _)
+            × (tray_threads old ≡ lock_threads pool.now.threads max_threads)
+            × (hands_of old ≡ tray_threads old)
+            × FnOnceReturnsAtMut F.FnOnce f old r new) }
+        ensures memory { OnErr result (IsErrOf result Fault.Memory) }
+    {
+        root::with_lock::<J, G, R, F, L, H>(rt, alloc, pool, max_threads, f)
+    }
+
+    /// Opens a lock whose rounds have at most so many jobs: `spindle::with_slots`.
+    pub fn with_slots<
+        G: Gate + Sync,
+        R,
+        F: FnOnce(&mut SlotLeader<J, G, P>) -> R,
+        P: Drop,
+        H: Threads + Wait + Sync,
+    >(
+        rt: &H,
+        alloc: Global,
+        pool: &Pool<G>,
+        max_threads: usize,
+        slots: usize,
+        f: F,
+    ) -> Result<R, Fault>
+    where
+        J: MakesSlots<P, Pieces<PieceOf<J>>, SlotWorkspace<J>> + Send,
+        J::In: Send + Sync,
+        J::Out: Send,
+        J::Inner: Send,
+        <J::Inner as Nest>::Slots: Send + Sync,
+        requires some { 0 < max_threads }
+        requires slots { (1 ≤ slots) × (slots ≤ 4294967295) }
+        requires callable { TakesLeaders J.OpensSlots.slot_count slots F.FnOnce f }
+        ensures promise { IfOk result (λ r. (old : _) × (new : _)
+            × (threads_of old ≡ lock_threads pool.now.threads max_threads)
+            × (J.OpensSlots.slot_count old.post ≡ slots)
+            × FnOnceReturnsAtMut F.FnOnce f old r new) }
+        ensures memory { OnErr result (IsErrOf result Fault.Memory) }
+    {
+        slot_root::with_slots::<J, G, R, F, P, H>(rt, alloc, pool, max_threads, slots, f)
+    }
+
+    /// Opens a lock whose rounds remake lists in place, where J is `InPlace<M>`: `spindle::with_slots_in_place`.
+    pub fn with_slots_in_place<
+        G: Gate + Sync,
+        R,
+        F: FnOnce(&mut SlotLeader<J, G, P>) -> R,
+        P: Drop,
+        H: Threads + Wait + Sync,
+    >(
+        rt: &H,
+        alloc: Global,
+        pool: &Pool<G>,
+        max_threads: usize,
+        slots: usize,
+        f: F,
+    ) -> Result<R, Fault>
+    where
+        J: MakesSlots<P, Pieces<ChunkOf<J>>, SlotWorkspace<J>> + Remakes + Send,
+        J::In: Send + Sync,
+        J::Out: Send,
+        J::Item: Send,
+        J::Inner: Send,
+        <J::Inner as Nest>::Slots: Send + Sync,
+        requires some { 0 < max_threads }
+        requires slots { (1 ≤ slots) × (slots ≤ 4294967295) }
+        requires callable { TakesLeaders J.OpensSlots.slot_count slots F.FnOnce f }
+        ensures promise { IfOk result (λ r. (old : _) × (new : _)
+            × (threads_of old ≡ lock_threads pool.now.threads max_threads)
+            × (J.OpensSlots.slot_count old.post ≡ slots)
+            × FnOnceReturnsAtMut F.FnOnce f old r new) }
+        ensures memory { OnErr result (IsErrOf result Fault.Memory) }
+    {
+        slot_root::with_slots_in_place::<J, G, R, F, P, H>(rt, alloc, pool, max_threads, slots, f)
+    }
+
+    /// Opens a lock with slots in a job: `spindle::nested::with_slots`. (A lock with trays is the context's, `JobCx::with_lock`.)
+    pub fn nested_with_slots<
+        R,
+        F: FnOnce(&mut SlotLeader<J, NoGate, P>) -> R,
+        P: Drop,
+        H: Threads + Wait + Sync,
+    >(
+        rt: &H,
+        alloc: Global,
+        cx: &mut JobCx<'_, UnderPieces<J, PieceOf<J>>>,
+        max_threads: usize,
+        slots: usize,
+        f: F,
+    ) -> Result<R, Fault>
+    where
+        J: Job + MakesSlots<P, Pieces<PieceOf<J>>, SlotWorkspace<J>>,
+        requires some { 0 < max_threads }
+        requires slots { (1 ≤ slots) × (slots ≤ 4294967295) }
+        requires callable { TakesLeaders J.OpensSlots.slot_count slots F.FnOnce f }
+        ensures promise { IfOk result (λ r. (old : _) × (new : _)
+            × IsLeaderOf J.OpensSlots.slot_count (lock_threads cx.old.pool max_threads) slots old
+            × FnOnceReturnsAtMut F.FnOnce f old r new) }
+        ensures memory { OnErr result (IsErrOf result Fault.Memory) }
+        ensures same { cx.new ≡ cx.old }
+    {
+        nested::with_slots::<J, R, F, P, H>(rt, alloc, cx, max_threads, slots, f)
+    }
+
+    /// The same for rounds in place, where J is `InPlace<M>`: `spindle::nested::with_slots_in_place`.
+    pub fn nested_with_slots_in_place<
+        R,
+        F: FnOnce(&mut SlotLeader<J, NoGate, P>) -> R,
+        P: Drop,
+        H: Threads + Wait + Sync,
+    >(
+        rt: &H,
+        alloc: Global,
+        cx: &mut JobCx<'_, UnderPieces<J, ChunkOf<J>>>,
+        max_threads: usize,
+        slots: usize,
+        f: F,
+    ) -> Result<R, Fault>
+    where
+        J: MakesSlots<P, Pieces<ChunkOf<J>>, SlotWorkspace<J>> + Remakes,
+        requires some { 0 < max_threads }
+        requires slots { (1 ≤ slots) × (slots ≤ 4294967295) }
+        requires callable { TakesLeaders J.OpensSlots.slot_count slots F.FnOnce f }
+        ensures promise { IfOk result (λ r. (old : _) × (new : _)
+            × IsLeaderOf J.OpensSlots.slot_count (lock_threads cx.old.pool max_threads) slots old
+            × FnOnceReturnsAtMut F.FnOnce f old r new) }
+        ensures memory { OnErr result (IsErrOf result Fault.Memory) }
+        ensures same { cx.new ≡ cx.old }
+    {
+        nested::with_slots_in_place::<J, R, F, P, H>(rt, alloc, cx, max_threads, slots, f)
+    }
+}

@@ -1,0 +1,15 @@
+//! What nearly every caller imports: `use spindle::prelude::*;`.
+
+pub use crate::kernels::{Kernel, map};
+pub use crate::lock::{
+    ChunkRounds, End, Gate, InPlace, Job, JobCx, Leader, Limits, LockOf, NoGate, PlaceLeader, Pool,
+    Remake, Report, Rounds, SlotLeader, TellsFailures, Under, UnderInPlace, UnderSlots, reduce,
+    remake_one, run_one,
+};
+pub use spindle_lists::{
+    Chunk, ListRun, SharedList, Strip, gathered, joined_strips, tell_neighbours,
+};
+pub use spindle_parts::fault::Fault;
+pub use std::alloc::{AllocError, Global};
+pub use std::sync::Wait;
+pub use std::thread::Threads;
