@@ -36,9 +36,9 @@ module _ (p : ℕ → Bool) where
 pub rank-permutation : (xs ys : List ℕ) → IsPermutation xs ys → (key : ℕ) → rank ys key ≡ rank xs key
 rank-permutation xs ys same key = sum_by-IsPermutation (λ x. cond (ltb x key) 1 0) xs ys same
 
--- what jobs answer to keys in one table that ascends
-pub ranked : (table keys ranks : List ℕ) → IsNonDecreasing table
-    → AllZip IsRankOf (map (λ key. (key, table)) keys) ranks → ranks ≡ map (rank table) keys
+-- what is answered to keys in one table that ascends
+pub ranked : (table keys ranks : List ℕ) → IsNonDecreasing table → AllZip (IsRankOf table) keys ranks
+    → ranks ≡ map (rank table) keys
 ranked table [] [] up all = refl
 ranked table [] (r ∷ ranks) up all = absurd all
 ranked table (key ∷ keys) [] up all = absurd all

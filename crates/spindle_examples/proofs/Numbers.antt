@@ -1,6 +1,6 @@
 -- A function of each number from one on.
 use Rattle.std.proofs.Common.{◌≡◌, ℕ, zero, suc, ◌+◌, ◌<◌, ◌∷◌, map, refl, ap, ◌∙◌, arith}
-use Rattle.spindle_parts.specs.Pieces.{counted}
+use Rattle.spindle.specs.Pieces.{counted}
 
 -- two functions that agree from two places on
 pub same_values : {A : Type 0} (f g : ℕ → A) (n from to : ℕ) → ((i : ℕ) → i < n → f (from + i) ≡ g (to + i)) → map f (counted from n) ≡ map g (counted to n)

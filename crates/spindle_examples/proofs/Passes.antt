@@ -1,10 +1,10 @@
 -- A pass strip by strip is a pass over all values.
 use Rattle.std.proofs.Common.{◌≡◌, ℕ, zero, suc, ◌+◌, ◌*◌, ◌/◌, List, [], ◌∷◌, ◌++◌, length, map, get_or, refl, ap, sym, ◌∙◌, arith}
 use Rattle.std.specs.List.{AllZip}
-use Rattle.spindle_parts.specs.Pieces.{joined, counted}
+use Rattle.spindle.specs.Pieces.{joined, counted}
 use Rattle.spindle_examples.proofs.Numbers.{same_values}
-use Rattle.spindle_lists.specs.Strips.{first_of, last_of, items_of, told}
-use Rattle.spindle_lists.specs.declared.strips.Strip.{Strip}
+use Rattle.spindle.specs.Strips.{first_of, last_of, items_of, told}
+use Rattle.spindle.specs.Strip.{Strip}
 use Rattle.spindle_examples.specs.Stencil.{before, smooth_at, smooth, smooth_between, IsSmoothed}
 
 -- the first value of two lists

@@ -1,8 +1,8 @@
 -- Sums from a start, run by run.
 use Rattle.std.proofs.Common.{◌≡◌, ℕ, suc, ◌+◌, List, [], ◌∷◌, ◌++◌, Some, None, length, map, sum, take, refl, ap, sym, ◌∙◌, arith}
 use Rattle.std.proofs.lemmas.List.Sums.{sum_by-append, sum_by-cons}
-use Rattle.spindle_parts.specs.Pieces.{joined}
-use Rattle.spindle_parts.proofs.Lists.{joined_snoc}
+use Rattle.spindle.specs.Pieces.{joined}
+use Rattle.spindle.proofs.Lists.{joined_snoc}
 use Rattle.spindle_examples.specs.Prefix.{running, answers_to, continued}
 use Rattle.spindle_examples.specs.Wrapping.{wrapped}
 use Rattle.spindle_examples.proofs.Numbers.{same_values}

@@ -1,7 +1,7 @@
 -- A product place by place, and row by row.
 use Rattle.std.proofs.Common.{◌≡◌, ℕ, zero, suc, ◌+◌, ◌*◌, ◌<◌, ◌≤◌, List, [], ◌∷◌, ◌++◌, Vec, Global, length, map, min, take, get_or, IfOk, refl, ap, sym, ◌∙◌, arith, append_assoc, append-nil}
 use Rattle.std.specs.List.{AllZip}
-use Rattle.spindle_parts.specs.Pieces.{joined}
+use Rattle.spindle.specs.Pieces.{joined}
 use Rattle.spindle_examples.specs.Product.{dot, row_of, product}
 use Rattle.spindle_examples.specs.Blocks.{IsFilled}
 use Rattle.spindle_examples.specs.declared.block.Block.{Block}

@@ -6,10 +6,10 @@ use Rattle.std.specs.List.{AllZip}
 use Rattle.std.proofs.lemmas.Bool.{cases_lt}
 use Rattle.std.proofs.lemmas.List.{get_or_at, get_or_default}
 use Rattle.std.proofs.lemmas.List.Elements.{All-append, All-head, All-nil, All-tail}
-use Rattle.spindle_trays.specs.PieceRuns.{piece_at}
-use Rattle.spindle_trays.specs.Reports.{HasFailed, IsAnswered, IsFirstFailed, IsReport, NoneFailed, outputs_of}
-use Rattle.spindle_trays.specs.declared.lock.report.Report.{Report}
-use Rattle.spindle_trays.proofs.Reports.{all_answered, first_is_least}
+use Rattle.spindle.specs.PieceRuns.{piece_at}
+use Rattle.spindle.specs.Reports.{HasFailed, IsAnswered, IsFirstFailed, IsReport, NoneFailed, outputs_of}
+use Rattle.spindle.specs.Report.{Report}
+use Rattle.spindle.proofs.Reports.{all_answered, first_is_least}
 use Rattle.spindle_examples.specs.declared.batch.Order.{Order}
 use Rattle.spindle_examples.specs.Batch.{due, IsBillOf}
 use Rattle.spindle_examples.specs.Checked.{HasTooLarge}

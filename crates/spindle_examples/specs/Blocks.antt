@@ -2,7 +2,7 @@
 use Rattle.std.specs.Prelude.{◌≡◌, ℕ, List, Bool, true, ◌&&◌, IfOk}
 use Rattle.std.specs.Cmp.Lexicographic.{pointwise}
 use Rattle.std.specs.Cmp.{first_so, second_so}
-use Rattle.spindle_lists.specs.Same.{equal_lists_are_same}
+use Rattle.spindle.specs.Same.{equal_lists_are_same}
 use Rattle.spindle_examples.specs.Product.{product}
 use Rattle.spindle_examples.specs.declared.block.Block.{Block}
 use Rattle.spindle_examples.specs.declared.tile.Tile.{Tile}

@@ -1,8 +1,8 @@
 -- What comes of a batch of orders that one failure stops.
 use Rattle.std.specs.Prelude.{◌≡◌, ℕ, ◌^◌, ◌≤◌, List, map}
 use Rattle.std.specs.List.{All, Any}
-use Rattle.spindle_trays.specs.PieceRuns.{piece_at}
-use Rattle.spindle_trays.specs.Reports.{IsAnswered}
+use Rattle.spindle.specs.PieceRuns.{piece_at}
+use Rattle.spindle.specs.Reports.{IsAnswered}
 use Rattle.spindle_examples.specs.declared.batch.Order.{Order}
 use Rattle.spindle_examples.specs.declared.checked.Checked.{Checked}
 use Rattle.spindle_examples.specs.declared.checked.Checked.TheVariants.{Amounts, Stopped}

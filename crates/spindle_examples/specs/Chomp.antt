@@ -1,8 +1,8 @@
 -- The game of Chomp on three rows.
 use Rattle.std.specs.Prelude.{◌≡◌, ℕ, zero, suc, ◌+◌, ◌-◌, min, Bool, false, not, nat_lt, if◌then◌else◌, List, map, Result, IfOk}
 use Rattle.std.specs.List.{filter, list_any}
-use Rattle.spindle_parts.specs.Pieces.{counted}
-use Rattle.spindle_parts.specs.declared.fault.Fault.{Fault}
+use Rattle.spindle.specs.Pieces.{counted}
+use Rattle.spindle.specs.Fault.{Fault}
 use Rattle.spindle_examples.specs.declared.chomp.Board.{Board}
 
 -- how many squares are left

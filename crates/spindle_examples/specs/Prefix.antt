@@ -1,6 +1,6 @@
 -- Prefix sums: each place has the sum of all values up to it, that place counted.
 use Rattle.std.specs.Prelude.{ℕ, ◌+◌, List, [], ◌∷◌, Option, Some, None, length, map, sum, take}
-use Rattle.spindle_parts.specs.Pieces.{joined, counted}
+use Rattle.spindle.specs.Pieces.{joined, counted}
 use Rattle.spindle_examples.specs.Wrapping.{wrapped}
 
 -- the sum from a start up to each place

@@ -1,6 +1,6 @@
 -- The product of a matrix that is given by its rows and one whose columns stand one behind the other.
 use Rattle.std.specs.Prelude.{ℕ, zero, suc, ◌+◌, ◌*◌, ◌/◌, List, [], ◌∷◌, length, map, drop}
-use Rattle.spindle_parts.specs.Pieces.{joined, counted}
+use Rattle.spindle.specs.Pieces.{joined, counted}
 use Rattle.spindle_examples.specs.Wrapping.{wrapped}
 
 -- the products of what stands at the same place, summed, as far as both lists go

@@ -7,6 +7,6 @@ use Rattle.std.specs.List.Sorted.{IsNonDecreasing}
 abbrev pub rank : List ℕ → (key : ℕ) → ℕ
 rank numbers key = count_by (λ number. nat_lt number key) numbers
 
--- what a job answers to a key and a table that ascends: the key's rank in it
-abbrev pub IsRankOf : ℕ × List ℕ → ℕ → Type 0
-IsRankOf lookup answer = IsNonDecreasing lookup.1 → answer ≡ rank lookup.1 lookup.0
+-- what is answered to a key and a table that ascends: the key's rank in it
+abbrev pub IsRankOf : (table : List ℕ) → (key answer : ℕ) → Type 0
+IsRankOf table key answer = IsNonDecreasing table → answer ≡ rank table key

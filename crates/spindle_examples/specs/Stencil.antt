@@ -1,7 +1,7 @@
 -- A three-point stencil: each value becomes the mean of itself, twice, and of its two neighbours.
 use Rattle.std.specs.Prelude.{◌≡◌, ℕ, zero, suc, ◌+◌, ◌*◌, ◌/◌, List, [], ◌∷◌, length, map, get_or}
-use Rattle.spindle_parts.specs.Pieces.{counted}
-use Rattle.spindle_lists.specs.declared.strips.Strip.{Strip}
+use Rattle.spindle.specs.Pieces.{counted}
+use Rattle.spindle.specs.Strip.{Strip}
 
 -- the value before a place, 0 before the first
 abbrev pub before : List ℕ → ℕ → ℕ

@@ -5,11 +5,7 @@ ghost use Rattle.std.specs.List.{AllZip};
 ghost use Rattle.std.proofs.Common.{rules};
 ghost use Rattle.spindle_examples.specs.Batch.{IsBillOf};
 
-use spindle::lock::{End, Gate, Job, JobCx, Pool, TellsFailures};
-use spindle::{Fault, with_slots};
-use std::alloc::Global;
-use std::sync::Wait;
-use std::thread::Threads;
+use spindle::prelude::*;
 
 /// So many of an article, each at a price.
 #[derive(Clone, Copy, PartialEq, Eq)]
@@ -68,7 +64,7 @@ pub fn bills<G: Gate + Sync, H: Threads + Wait + Sync>(
     ensures bills { IfOk result (λ bills. AllZip IsBillOf orders.items bills.items) }
     ensures memory { OnErr result (IsErrOf result Fault.Memory) }
 {
-    with_slots::<Bill, _, _, _, _, _>(
+    LockOf::<Bill>::with_slots(
         rt,
         alloc,
         pool,

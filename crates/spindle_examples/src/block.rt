@@ -4,11 +4,7 @@ ghost use Rattle.std.specs.Prelude.{◌≡◌, IfOk, map};
 ghost use Rattle.spindle_examples.specs.Blocks.{rows_and_columns, IsFilled};
 
 use crate::tile::{MultiplyTile, worked};
-use spindle::lock::{JobCx, Remake, Under};
-use spindle::{Fault, ListRun, SharedList};
-use std::alloc::{AllocError, Global};
-use std::sync::Wait;
-use std::thread::Threads;
+use spindle::prelude::*;
 
 /// A block of the product: its rows of the left matrix, the columns, which stand one behind the other, and its entries, unless the
 /// round over its tiles was refused.

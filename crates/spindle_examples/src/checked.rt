@@ -1,18 +1,14 @@
-//! A batch of orders that one failure stops: once a job has found an order whose bill is too large no other job begins, and the
-//! caller is told where that was. In a batch whose orders are all well, each has its bill.
+//! A batch of orders that one failure stops: once a job has found an order whose bill is too large, a thread that has seen that begins no
+//! other job, and the caller is told where that was. In a batch whose orders are all well, each has its bill.
 ghost use Rattle.std.specs.Prelude.{◌≡◌, ◌<◌, None, IfOk, vec_len};
 ghost use Rattle.std.proofs.Common.{rules};
-ghost use Rattle.spindle_trays.specs.Reports.{IsReport};
-ghost use Rattle.spindle_trays.specs.Rounds.{job_count};
+ghost use Rattle.spindle.specs.Reports.{IsReport};
+ghost use Rattle.spindle.specs.Rounds.{job_count};
 ghost use Rattle.spindle_examples.specs.Batch.{IsBillOf};
 ghost use Rattle.spindle_examples.specs.Checked.{IsChecked};
 
 use crate::batch::{Bill, Order};
-use spindle::lock::{Gate, Pool, Report};
-use spindle::{Fault, with_lock};
-use std::alloc::Global;
-use std::sync::Wait;
-use std::thread::Threads;
+use spindle::prelude::*;
 
 /// What came of a batch.
 #[derive(Drop)]
@@ -36,7 +32,7 @@ fn report_of<G: Gate + Sync, H: Threads + Wait + Sync>(
     ensures { let n = job_count (vec_len orders) jobs in
         IfOk result (IsReport IsBillOf (λ bill. bill ≡ None) orders.items n) }
 {
-    with_lock::<Bill, _, _, _, _, _>(
+    LockOf::<Bill>::with_lock(
         rt,
         alloc,
         pool,

@@ -4,8 +4,7 @@ ghost use Rattle.std.specs.Prelude.{◌≡◌, ◌++◌, IfOk, OnOk};
 ghost use Rattle.spindle_examples.specs.Product.{dot, row_of, product};
 ghost use Rattle.spindle_examples.specs.Wrapping.{wrapped};
 
-use spindle::SharedList;
-use std::alloc::{AllocError, Global};
+use spindle::prelude::*;
 
 /// The entries of these rows, row by row.
 pub fn filled(

@@ -8,12 +8,9 @@ ghost use Rattle.spindle_examples.specs.Chomp.{replies_to, winning_bites, IsEval
 
 use crate::chomp::Board;
 pub use crate::recurse::{Evaluates, Recurse};
-use spindle::lock::{Gate, Job, JobCx, Nest, Pool, Under};
-use spindle::{Fault, run_one};
-use std::alloc::Global;
+use spindle::lock::Nest;
+use spindle::prelude::*;
 use std::marker::PhantomData;
-use std::sync::Wait;
-use std::thread::Threads;
 
 /// Evaluates a board by a round over what bites leave of it, whose jobs are of kind K.
 pub struct Evaluate<K> {

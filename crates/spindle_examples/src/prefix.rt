@@ -5,11 +5,7 @@ ghost use Rattle.spindle_examples.specs.Prefix.{prefix_sums, answers_to, continu
 ghost use Rattle.spindle_examples.specs.Wrapping.{wrapped};
 
 use crate::sums::Sums;
-use spindle::lock::{Gate, Leader, Pool};
-use spindle::{Fault, ListRun, SharedList, gathered, with_lock};
-use std::alloc::{AllocError, Global};
-use std::sync::Wait;
-use std::thread::Threads;
+use spindle::prelude::*;
 
 // One round: what is asked of each run, one behind the other.
 fn ask<G: Gate, H: Threads + Wait + Sync>(
@@ -85,7 +81,7 @@ pub fn summed<G: Gate + Sync, H: Threads + Wait + Sync>(
     requires { 0 < pieces }
     ensures { IfOk result (λ sums. sums.items ≡ prefix_sums values.items) }
 {
-    with_lock::<Sums, _, _, _, _, _>(
+    LockOf::<Sums>::with_lock(
         rt,
         alloc,
         pool,

@@ -4,11 +4,7 @@ ghost use Rattle.std.specs.Prelude.{◌≡◌, ◌<◌, IfOk, map};
 ghost use Rattle.spindle_examples.specs.Product.{product};
 
 use crate::block::{Multiply, blocks_of, entries_of};
-use spindle::lock::{Gate, InPlace, Pool};
-use spindle::{Fault, SharedList, gathered, remake_one};
-use std::alloc::Global;
-use std::sync::Wait;
-use std::thread::Threads;
+use spindle::prelude::*;
 
 /// The product of a matrix that is given by its rows and one whose columns stand one behind the other, each as long as a row:
 /// row by row, in 64 bits, by one round over so many blocks.

@@ -3,11 +3,7 @@ ghost use Rattle.std.proofs.Common.{rules};
 ghost use Rattle.spindle_examples.specs.Chomp.{IsEvaluation};
 
 use crate::chomp::Board;
-use spindle::Fault;
-use spindle::lock::{End, Job, JobCx};
-use std::alloc::Global;
-use std::sync::Wait;
-use std::thread::Threads;
+use spindle::prelude::*;
 
 /// The kinds of jobs that evaluate a board.
 pub trait Evaluates: Job<In = Board, Out = Result<bool, Fault>> {

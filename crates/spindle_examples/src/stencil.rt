@@ -2,14 +2,10 @@
 //! round, whose jobs change them where they stand. A job reads its own strip alone, since between two passes the leader tells
 //! each strip the value before it and the one behind it.
 ghost use Rattle.std.specs.Prelude.{◌≡◌, ◌<◌, ◌+◌, ◌*◌, ◌/◌, get_or, IfOk, OnOk};
-ghost use Rattle.spindle_lists.specs.Strips.{items_of};
+ghost use Rattle.spindle.specs.Strips.{items_of};
 ghost use Rattle.spindle_examples.specs.Stencil.{smooth, smooth_times, smooth_between, IsSmoothed};
 
-use spindle::lock::{End, Gate, InPlace, JobCx, PlaceLeader, Pool, Remake};
-use spindle::{Fault, SharedList, Strip, joined_strips, tell_neighbours, with_slots_in_place};
-use std::alloc::Global;
-use std::sync::Wait;
-use std::thread::Threads;
+use spindle::prelude::*;
 
 /// One pass over a strip.
 pub struct Smooth;
@@ -102,7 +98,7 @@ pub fn smoothed<G: Gate + Sync, H: Threads + Wait + Sync>(
     ensures { IfOk result (λ new. new.items ≡ smooth_times count values.items) }
 {
     let strips = SharedList::from_vec(alloc, values)?.strips(alloc, pieces, 0)?;
-    let strips = with_slots_in_place::<InPlace<Smooth>, _, _, _, _, _>(
+    let strips = LockOf::<InPlace<Smooth>>::with_slots_in_place(
         rt,
         alloc,
         pool,

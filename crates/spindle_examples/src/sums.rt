@@ -4,11 +4,7 @@ ghost use Rattle.std.proofs.Common.{rules};
 ghost use Rattle.spindle_examples.specs.Prefix.{running, sums_of};
 ghost use Rattle.spindle_examples.specs.Wrapping.{wrapped};
 
-use spindle::ListRun;
-use spindle::lock::{End, Job, JobCx};
-use std::alloc::{AllocError, Global};
-use std::sync::Wait;
-use std::thread::Threads;
+use spindle::prelude::*;
 
 /// Sums a run of the table: with a start, up to each place; with none, its total alone.
 pub struct Sums;

@@ -2,16 +2,11 @@
 //! of its own.
 ghost use Rattle.std.specs.Prelude.{◌≡◌, ◌==◌, IfOk, map};
 ghost use Rattle.std.proofs.Common.{rules};
-ghost use denote.Param.Send.{IsSync};
 ghost use Rattle.spindle_examples.specs.Product.{product};
 ghost use Rattle.spindle_examples.specs.Blocks.{tile_parts, equal_tiles_are_same};
 
 use crate::entries::filled;
-use spindle::lock::{End, Job, JobCx, Under};
-use spindle::{Fault, ListRun, SharedList, gathered};
-use std::alloc::{AllocError, Global};
-use std::sync::Wait;
-use std::thread::Threads;
+use spindle::prelude::*;
 
 /// The tiles of a block, where it has as many rows.
 const TILES: usize = 4;
@@ -58,7 +53,6 @@ pub fn worked<H: Threads + Wait + Sync>(
     columns: &SharedList<u64>,
     cx: &mut JobCx<Under<MultiplyTile>>,
 ) -> Result<Vec<u64>, Fault>
-    requires { IsSync H.row }
     ensures { IfOk result (λ entries. entries.items ≡ product rows.now columns.now) }
 {
     let runs = rows.share_out_evenly(alloc, TILES)?;

@@ -5,12 +5,8 @@ ghost use Rattle.std.proofs.Common.{rules};
 
 use crate::clocked::{Clocked, Span};
 use crate::stop::Stop;
-use spindle::lock::{End, Job, JobCx, Limits, NoGate, Pool, Under};
-use spindle::{Fault, run_one, with_lock};
-use std::alloc::Global;
+use spindle::prelude::*;
 use std::io::Print;
-use std::sync::Wait;
-use std::thread::Threads;
 
 /// The jobs of the one lock's round.
 const JOBS: usize = 8;
@@ -86,7 +82,7 @@ fn nested<H: Threads + Wait + Sync>(
 ) -> Result<Vec<Result<Vec<Span>, Fault>>, Fault> {
     let pool = Pool::new(4, Limits::new(), NoGate);
     let locks = Clocked::new(alloc)?.copies(alloc, LOCKS)?;
-    with_lock::<OpensLock, _, _, _, _, _>(rt, alloc, &pool, 4, |leader| {
+    LockOf::<OpensLock>::with_lock(rt, alloc, &pool, 4, |leader| {
         leader.for_each(rt, alloc, LOCKS, locks)
     })?
 }

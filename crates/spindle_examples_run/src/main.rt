@@ -38,7 +38,7 @@ fn main(rt: HostRuntime) -> Result<(), Stop> {
     println!(rt; "stencil {smooth:?}")?;
     let limits = vec![in alloc; 50u32, 20, 90, 20]?;
     let keys = vec![in alloc; 21u32, 20, 90, 100]?;
-    let ranks = ranks::ranks(&rt, alloc, &pool, 2, limits, keys)?;
+    let ranks = ranks::ranks(&rt, alloc, &pool, limits, keys)?;
     println!(rt; "ranks {ranks:?}")?;
     game(&rt, alloc, &pool)?;
     if env::var(&rt, "TRACE").is_ok() {

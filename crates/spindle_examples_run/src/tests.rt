@@ -244,10 +244,10 @@ fn ranks_in_a_lent_table_are_counts(rt: HostRuntime) -> Result<(), Fault> {
         for key in keys.as_slice() {
             plain.push(table.iter().filter(|number| **number < *key).count())?;
         }
-        for (threads, jobs) in [(1, 1), (1, 3), (4, 2), (4, 300)] {
+        for threads in [1, 2, 4] {
             let pool = Pool::new(threads, Limits::new(), NoGate);
-            let ranks = ranks::ranks(&rt, alloc, &pool, jobs, table.clone()?, keys.clone()?)?;
-            assert_eq!(rt; ranks, plain.clone()?, "{count} numbers, {jobs} jobs");
+            let ranks = ranks::ranks(&rt, alloc, &pool, table.clone()?, keys.clone()?)?;
+            assert_eq!(rt; ranks, plain.clone()?, "{count} numbers, {threads} threads");
         }
     }
     Ok(())

@@ -1,6 +1,6 @@
 -- Where no piece has failed the outputs are the amounts; else the first that has is the first with an order that comes to too much.
 use Rattle.std.proofs.Common.{◌≡◌, ◌∙◌, ◌<◌, length, map, unwrap_or, ap, vec_len, arith, rules}
-use Rattle.spindle_trays.specs.Rounds.{job_count}
+use Rattle.spindle.specs.Rounds.{job_count}
 use Rattle.spindle_examples.proofs.Reports.{all_amounts, first_too_large}
 use Rattle.spindle_examples.proofs.checked.check_orders.Goals as goal
 

@@ -1,6 +1,6 @@
 -- The entries of the first columns are added.
 use Rattle.std.proofs.Common.{◌≡◌, ◌*◌, ◌++◌, map, drop, length}
-use Rattle.spindle_parts.specs.Pieces.{counted}
+use Rattle.spindle.specs.Pieces.{counted}
 use Rattle.spindle_examples.specs.Product.{dot}
 use Rattle.spindle_examples.specs.Wrapping.{wrapped}
 use Rattle.spindle_examples.proofs.entries.add_row.Given as goal

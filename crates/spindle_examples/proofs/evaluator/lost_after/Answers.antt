@@ -6,9 +6,9 @@ use Rattle.std.proofs.lemmas.List.{length_push, length-map}
 use Rattle.std.proofs.lemmas.Iterator.Adapters.{YieldsList-from_vec}
 use Rattle.std.proofs.lemmas.Iterator.Consumers.{YieldsList-end}
 use Rattle.std.proofs.lemmas.Slice.Zip.{AllZip-long}
-use Rattle.spindle_parts.specs.Pieces.{counted}
-use Rattle.spindle_parts.proofs.Deals.{length-counted}
-use Rattle.spindle_lists.proofs.GatheredLists.{yielded_items}
+use Rattle.spindle.specs.Pieces.{counted}
+use Rattle.spindle.proofs.Deals.{length-counted}
+use Rattle.spindle.proofs.GatheredLists.{yielded_items}
 use Rattle.spindle_examples.specs.Chomp.{squares_of, after, bites_of, replies_to, wins, IsEvaluation}
 use Rattle.spindle_examples.proofs.Evaluations.{answered, one_passes, one_fails}
 use Rattle.spindle_examples.proofs.evaluator.lost_after.Goals as goal

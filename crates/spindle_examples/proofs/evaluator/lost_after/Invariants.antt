@@ -1,7 +1,7 @@
 -- Of the bites so far those after which the other one has lost.
 use Rattle.std.proofs.Common.{◌≡◌, ◌+◌, not, length}
 use Rattle.std.specs.List.{filter}
-use Rattle.spindle_parts.specs.Pieces.{counted}
+use Rattle.spindle.specs.Pieces.{counted}
 use Rattle.spindle_examples.specs.Chomp.{after, wins}
 use Rattle.spindle_examples.proofs.evaluator.lost_after.Given as goal
 

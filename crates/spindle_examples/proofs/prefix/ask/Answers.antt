@@ -1,8 +1,8 @@
 -- The answers of the runs, one behind the other.
 use Rattle.std.proofs.Common.{ℕ, List, Option, subst}
 use Rattle.std.specs.declared.alloc.AllocError.{AllocError}
-use Rattle.spindle_lists.specs.Gathered.{IsGathered}
-use Rattle.spindle_lists.proofs.GatheredLists.{gathered_values}
+use Rattle.spindle.specs.Gathered.{IsGathered}
+use Rattle.spindle.proofs.GatheredLists.{gathered_values}
 use Rattle.spindle_examples.specs.Prefix.{sums_of}
 use Rattle.spindle_examples.proofs.prefix.ask.Goals as goal
 

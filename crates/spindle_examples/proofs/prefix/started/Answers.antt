@@ -1,7 +1,7 @@
 -- One run more, with its start, and the start of the next one.
 use Rattle.std.proofs.Common.{rules, ◌≡◌, ℕ, List, Some, ◌+◌, ◌++◌, ◌∷◌, [], get_or, sum, take, ap, sym, ◌∙◌, arith}
 use Rattle.std.proofs.lemmas.List.{take_more, get_or-map}
-use Rattle.spindle_parts.specs.Pieces.{joined}
+use Rattle.spindle.specs.Pieces.{joined}
 use Rattle.spindle_examples.specs.Prefix.{continued}
 use Rattle.spindle_examples.specs.Wrapping.{wrapped}
 use Rattle.spindle_examples.proofs.Prefixes.{continued_snoc, start_more}

@@ -1,6 +1,6 @@
 -- The runs so far, and the start of the next one.
 use Rattle.std.proofs.Common.{◌≡◌, sum, take}
-use Rattle.spindle_parts.specs.Pieces.{joined}
+use Rattle.spindle.specs.Pieces.{joined}
 use Rattle.spindle_examples.specs.Prefix.{continued}
 use Rattle.spindle_examples.specs.Wrapping.{wrapped}
 use Rattle.spindle_examples.proofs.prefix.started.Given as goal

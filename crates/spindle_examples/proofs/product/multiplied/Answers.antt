@@ -1,9 +1,9 @@
 -- The entries of the blocks, one behind the other, are the product.
 use Rattle.std.proofs.Common.{ℕ, List, Vec, Global, IfOk, ◌≡◌, ◌∙◌, map, ap, subst, sym}
 use Rattle.std.specs.List.{AllZip}
-use Rattle.spindle_lists.specs.Gathered.{IsGathered}
-use Rattle.spindle_lists.proofs.GatheredLists.{gathered_values}
-use Rattle.spindle_parts.specs.declared.fault.Fault.{Fault}
+use Rattle.spindle.specs.Gathered.{IsGathered}
+use Rattle.spindle.proofs.GatheredLists.{gathered_values}
+use Rattle.spindle.specs.Fault.{Fault}
 use Rattle.spindle_examples.specs.Product.{product}
 use Rattle.spindle_examples.specs.Blocks.{rows_and_columns}
 use Rattle.spindle_examples.specs.declared.block.Block.{Block}

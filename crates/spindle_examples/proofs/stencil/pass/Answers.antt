@@ -3,8 +3,8 @@ use Rattle.std.proofs.Common.{◌≡◌, ℕ, List, ◌++◌, length, take, drop
 use Rattle.std.proofs.Math.Seq.{take-append_seam}
 use Rattle.std.specs.List.{AllZip}
 use Rattle.std.proofs.lemmas.Result.{on_ok_weaker}
-use Rattle.spindle_lists.specs.Strips.{told}
-use Rattle.spindle_lists.specs.declared.strips.Strip.{Strip}
+use Rattle.spindle.specs.Strips.{told}
+use Rattle.spindle.specs.Strip.{Strip}
 use Rattle.spindle_examples.specs.Stencil.{IsSmoothed}
 use Rattle.spindle_examples.proofs.Passes.{pass_of}
 use Rattle.spindle_examples.proofs.stencil.pass.Goals as goal

@@ -1,8 +1,8 @@
 -- The entries of the tiles, one behind the other, are the product.
 use Rattle.std.proofs.Common.{ℕ, List, ◌∙◌, ap, subst}
 use Rattle.std.specs.declared.alloc.AllocError.{AllocError}
-use Rattle.spindle_lists.specs.Gathered.{IsGathered}
-use Rattle.spindle_lists.proofs.GatheredLists.{gathered_values}
+use Rattle.spindle.specs.Gathered.{IsGathered}
+use Rattle.spindle.proofs.GatheredLists.{gathered_values}
 use Rattle.spindle_examples.specs.Product.{product}
 use Rattle.spindle_examples.specs.Blocks.{tile_parts}
 use Rattle.spindle_examples.specs.declared.tile.Tile.{Tile}

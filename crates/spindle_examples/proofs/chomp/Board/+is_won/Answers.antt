@@ -1,7 +1,7 @@
 -- A bite after which the other one has lost wins, and where there is none the board is lost.
 use Rattle.std.proofs.Common.{◌≡◌, ℕ, ◌-◌, ◌+◌, Bool, true, false, not, ap, sym, subst, ◌∙◌, arith}
 use Rattle.std.specs.List.{list_any}
-use Rattle.spindle_parts.specs.Pieces.{counted}
+use Rattle.spindle.specs.Pieces.{counted}
 use Rattle.spindle_examples.specs.Chomp.{squares_of, after, wins}
 use Rattle.spindle_examples.proofs.Evaluations.{wins_by, any_counted, none_more}
 use Rattle.spindle_examples.proofs.chomp.Board.+is_won.Goals as goal

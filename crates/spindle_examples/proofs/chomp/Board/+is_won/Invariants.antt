@@ -1,7 +1,7 @@
 -- A bite leaves fewer squares; so far no bite wins.
 use Rattle.std.proofs.Common.{◌≡◌, ◌-◌, ◌≤◌, false, not}
 use Rattle.std.specs.List.{list_any}
-use Rattle.spindle_parts.specs.Pieces.{counted}
+use Rattle.spindle.specs.Pieces.{counted}
 use Rattle.spindle_examples.specs.Chomp.{squares_of, after, wins}
 use Rattle.spindle_examples.proofs.chomp.Board.+is_won.Given as goal
 

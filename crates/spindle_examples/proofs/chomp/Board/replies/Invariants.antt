@@ -1,6 +1,6 @@
 -- What the bites so far leave.
 use Rattle.std.proofs.Common.{◌≡◌, ◌-◌, ◌≤◌, map}
-use Rattle.spindle_parts.specs.Pieces.{counted}
+use Rattle.spindle.specs.Pieces.{counted}
 use Rattle.spindle_examples.specs.Chomp.{squares_of, after}
 use Rattle.spindle_examples.proofs.chomp.Board.replies.Given as goal
 
