@@ -7,11 +7,7 @@
 //! - `empty`: as many numbers as threads, with a closure that does nothing.
 //! - `tiny8`: eight numbers a thread, each stirred; the results come as a list.
 //! - `stencil4k`, `stencil256k`: one is added to each of 4096 or 262144 numbers, in place, in one piece a thread.
-//! - `stencil100`: 4096 numbers are copied into one strip a thread, and a hundred passes of a three-point stencil change them in
-//!   place; before each pass the strips are told their neighbours' ends.
 //! - `map`: the squares of 4096 numbers, in four pieces a thread, as one list.
-//! - `product64`, `product256`: the product of two matrices of 64 or 256 rows and columns, in four pieces of rows a thread, as one
-//!   list.
 //!
 //! `try8` and `nested` have no line here.
 #![tactic(auto)]
@@ -20,7 +16,7 @@ ghost use Rattle.std.specs.Prelude.{◌≡◌};
 
 mod rounds;
 
-use crate::rounds::{empty, map, product, smooth, stencil, tiny};
+use crate::rounds::{empty, map, stencil, tiny};
 use spindle_timing::line::Line;
 use spindle_timing::settings::Settings;
 use spindle_timing::shape::{SHAPES, Shape};
@@ -33,13 +29,9 @@ fn main(rt: HostRuntime) -> Result<(), Stop> {
             match shape {
                 Shape::Empty => empty(&rt, &settings)?,
                 Shape::Tiny8 => tiny(&rt, &settings)?,
-                Shape::Try8 | Shape::Nested => {}
-                Shape::Stencil4k => stencil(&rt, &settings, shape, 4096)?,
-                Shape::Stencil256k => stencil(&rt, &settings, shape, 262144)?,
-                Shape::Stencil100 => smooth(&rt, &settings)?,
+                Shape::Stencil4k | Shape::Stencil256k => stencil(&rt, &settings, shape)?,
                 Shape::Map => map(&rt, &settings)?,
-                Shape::Product64 => product(&rt, &settings, shape, 64)?,
-                Shape::Product256 => product(&rt, &settings, shape, 256)?,
+                Shape::Try8 | Shape::Nested => {}
             }
         }
     }

@@ -2,207 +2,138 @@
 ghost use Rattle.std.specs.Prelude.{◌≡◌, ◌*◌, ◌<◌, ◌≤◌};
 ghost use denote.Param.Send.{IsSync};
 
-use crate::rounds::{PlaceRounds, Rounds, SlotRounds, TrayRounds};
-use spindle::lock::{
-    Gate, Job, Leader, Limits, Nest, NoGate, Opens, OpensSlots, PlacePost, Pool, Remakes,
-    SlotLeader,
-};
+use crate::series::{ListSeries, Listed, PlaceSeries, Placed, Plays, Series, TrySeries};
+use spindle::lock::{End, Nest, NoGate, Pool, Remakes};
 use spindle::{with_lock, with_slots, with_slots_in_place};
 use spindle_timing::line::Line;
 use spindle_timing::settings::Settings;
 use spindle_timing::shape::Shape;
-use spindle_timing::stop::{Stop, right};
-use spindle_timing::timing::{nanos_since, run};
+use spindle_timing::stop::Stop;
+use spindle_timing::timing::{run, wait_until};
 use std::alloc::Global;
 use std::rt::Clock;
 use std::sync::Wait;
-use std::thread::{Threads, yield_now};
-use std::time::Instant;
+use std::thread::Threads;
 
-/// No longer than so many nanoseconds are helpers waited for.
-const MOST_WAITED: u64 = 2_000_000_000;
+/// What locks that are timed need.
+pub trait Machine: Threads + Wait + Sync + Clock + Print + Alloc<A = Global> {}
 
-// The pool of the locks, with the default limits.
-fn pool(settings: &Settings) -> Pool<NoGate> {
-    Pool::new(settings.threads, Limits::new(), NoGate)
+impl<H: Threads + Wait + Sync + Clock + Print + Alloc<A = Global>> Machine for H {}
+
+/// What the locks are opened with.
+#[derive(Drop)]
+pub struct Bench<'a, H> {
+    /// The runtime.
+    pub rt: &'a H,
+    /// What is asked for.
+    pub settings: &'a Settings,
+    /// The pool.
+    pub pool: &'a Pool<NoGate>,
 }
 
-/// Runs a shape's rounds in a lock with a slot for each of their jobs.
-pub fn in_slots<
-    J: Job + Send,
-    S: SlotRounds<J>,
-    H: Threads + Wait + Sync + Clock + Print + Alloc<A = Global>,
->(rt: &H, settings: &Settings, shape: Shape) -> Result<(), Stop>
+/// Runs a shape in each kind of lock, over lists by jobs of kind J and in place by those of kind M.
+pub fn in_each<J: Listed + Send, M: Placed + Remakes<Inner = End> + Send, H: Machine>(
+    bench: &Bench<H>,
+    shape: Shape,
+) -> Result<(), Stop>
 where
     J::In: Send + Sync,
     J::Out: Send,
-    J::Inner: Send,
-    <J::Inner as Nest>::Slots: Send + Sync,
+    M::Item: Send,
 {
+    in_slots::<J, H>(bench, shape)?;
+    in_trays::<J, H>(bench, shape)?;
+    in_place::<M, H>(bench, Line::Place, shape)
+}
+
+// Runs a shape in a lock with a slot for each of its jobs.
+fn in_slots<J: Listed + Send, H: Machine>(bench: &Bench<H>, shape: Shape) -> Result<(), Stop>
+where
+    J::In: Send + Sync,
+    J::Out: Send,
+{
+    if !bench.settings.wants(Line::Slots, shape) {
+        return Ok(());
+    }
     with_slots::<J, NoGate, Result<(), Stop>, _, _, H>(
-        rt,
-        rt.alloc(),
-        &pool(settings),
-        settings.threads,
-        shape.jobs(settings.threads),
+        bench.rt,
+        bench.rt.alloc(),
+        bench.pool,
+        bench.settings.threads,
+        shape.jobs(bench.settings.threads),
         |leader| -> Result<(), Stop>
             requires { IsSync H.row }
-        { led::<_, S, H>(rt, settings, Line::Slots, shape, leader) },
+        { led::<ListSeries<J>, _, H>(bench, Line::Slots, shape, leader) },
     )?
 }
 
-/// Runs a shape's rounds in a lock with trays.
-pub fn in_trays<
-    J: Job + Send,
-    S: TrayRounds<J>,
-    H: Threads + Wait + Sync + Clock + Print + Alloc<A = Global>,
->(rt: &H, settings: &Settings, shape: Shape) -> Result<(), Stop>
+// Runs a shape in a lock with trays; `try8` in rounds that may stop.
+fn in_trays<J: Listed + Send, H: Machine>(bench: &Bench<H>, shape: Shape) -> Result<(), Stop>
 where
     J::In: Send + Sync,
     J::Out: Send,
-    J::Inner: Send,
-    <J::Inner as Nest>::Slots: Send + Sync,
 {
+    if !bench.settings.wants(Line::Trays, shape) {
+        return Ok(());
+    }
     with_lock::<J, NoGate, Result<(), Stop>, _, _, H>(
-        rt,
-        rt.alloc(),
-        &pool(settings),
-        settings.threads,
+        bench.rt,
+        bench.rt.alloc(),
+        bench.pool,
+        bench.settings.threads,
         |leader| -> Result<(), Stop>
             requires { IsSync H.row }
-        { led::<_, S, H>(rt, settings, Line::Trays, shape, leader) },
+        {
+            match shape {
+                Shape::Try8 => led::<TrySeries<J>, _, H>(bench, Line::Trays, shape, leader),
+                _ => led::<ListSeries<J>, _, H>(bench, Line::Trays, shape, leader),
+            }
+        },
     )?
 }
 
-/// Runs a shape's rounds in a lock with a slot for each of their jobs, in place.
-pub fn in_place<
-    J: Remakes + Send,
-    S: PlaceRounds<J>,
-    H: Threads + Wait + Sync + Clock + Print + Alloc<A = Global>,
->(rt: &H, settings: &Settings, shape: Shape) -> Result<(), Stop>
+/// Runs a shape in a lock with a slot for each of its jobs, in place.
+pub fn in_place<J: Placed + Send, H: Machine>(
+    bench: &Bench<H>,
+    line: Line,
+    shape: Shape,
+) -> Result<(), Stop>
 where
-    J::In: Send + Sync,
-    J::Out: Send,
     J::Item: Send,
     J::Inner: Send,
     <J::Inner as Nest>::Slots: Send + Sync,
 {
+    if !bench.settings.wants(line, shape) {
+        return Ok(());
+    }
     with_slots_in_place::<J, NoGate, Result<(), Stop>, _, _, H>(
-        rt,
-        rt.alloc(),
-        &pool(settings),
-        settings.threads,
-        shape.jobs(settings.threads),
+        bench.rt,
+        bench.rt.alloc(),
+        bench.pool,
+        bench.settings.threads,
+        shape.jobs(bench.settings.threads),
         |leader| -> Result<(), Stop>
             requires { IsSync H.row }
-        { led::<_, S, H>(rt, settings, Line::Place, shape, leader) },
+        { led::<PlaceSeries<J>, _, H>(bench, line, shape, leader) },
     )?
 }
 
-/// A leader that plays the rounds of a shape.
-trait Plays<S>: SeesThreads {
-    /// Plays one round.
-    fn play<H: Threads + Wait + Sync>(
-        &mut self,
-        rt: &H,
-        alloc: Global,
-        rounds: &mut S,
-    ) -> Result<(), Stop>
-        requires { IsSync H.row };
-}
-
-impl<'a, J: Job, S: SlotRounds<J>> Plays<S> for SlotLeader<'a, J, NoGate> {
-    fn play<H: Threads + Wait + Sync>(
-        &mut self,
-        rt: &H,
-        alloc: Global,
-        rounds: &mut S,
-    ) -> Result<(), Stop> {
-        rounds.in_slots(rt, alloc, self)
-    }
-}
-
-impl<'a, J: Job, S: TrayRounds<J>> Plays<S> for Leader<'a, J, NoGate> {
-    fn play<H: Threads + Wait + Sync>(
-        &mut self,
-        rt: &H,
-        alloc: Global,
-        rounds: &mut S,
-    ) -> Result<(), Stop> {
-        rounds.in_trays(rt, alloc, self)
-    }
-}
-
-impl<'a, J: Remakes, S: PlaceRounds<J>> Plays<S> for SlotLeader<'a, J, NoGate, PlacePost<J>> {
-    fn play<H: Threads + Wait + Sync>(
-        &mut self,
-        rt: &H,
-        alloc: Global,
-        rounds: &mut S,
-    ) -> Result<(), Stop> {
-        rounds.in_place(rt, alloc, self)
-    }
-}
-
-// Makes what the rounds start from, runs them with the leader of their lock, and prints their line.
-fn led<E: Plays<S>, S: Rounds, H: Threads + Wait + Sync + Clock + Print + Alloc<A = Global>>(
-    rt: &H,
-    settings: &Settings,
+// Runs a shape's series with the leader of its lock, and prints the line.
+fn led<S: Series, E: Plays<S>, H: Machine>(
+    bench: &Bench<H>,
     line: Line,
     shape: Shape,
     leader: &mut E,
 ) -> Result<(), Stop>
     requires { IsSync H.row }
 {
+    let (rt, settings) = (bench.rt, bench.settings);
     let alloc = rt.alloc();
-    let mut rounds = S::new(alloc, shape, shape.jobs(settings.threads))?;
-    await_helpers(rt, settings, &*leader)?;
-    let times = run(
-        rt,
-        alloc,
-        settings,
-        shape,
-        || -> Result<(), Stop>
-            requires { IsSync H.row }
-        { leader.play(rt, alloc, &mut rounds) },
-    )?;
-    right(rounds.is_right(times.rounds), shape)?;
-    times.print(rt, settings, line, shape)
-}
-
-/// A leader that tells whether all threads of its lock are there.
-trait SeesThreads {
-    fn are_all_there(&self) -> bool;
-}
-
-impl<'a, J: Opens<L>, G: Gate, L> SeesThreads for Leader<'a, J, G, L> {
-    fn are_all_there(&self) -> bool {
-        self.current_num_threads() == self.max_num_threads()
-    }
-}
-
-impl<'a, J: OpensSlots<P>, G: Gate, P> SeesThreads for SlotLeader<'a, J, G, P> {
-    fn are_all_there(&self) -> bool {
-        self.current_num_threads() == self.max_num_threads()
-    }
-}
-
-// Waits until all threads of the lock are there, so that no round is timed in which the leader is alone; for two
-// seconds at most, since a machine may start fewer. Rounds that are only checked don't wait.
-fn await_helpers(
-    rt: &(impl Wait + Clock),
-    settings: &Settings,
-    leader: &impl SeesThreads,
-) -> Result<(), Stop> {
-    if settings.is_check {
-        return Ok(());
-    }
-    let begin = Instant::now(rt)?;
-    for _ in rt.forever() {
-        if leader.are_all_there() || MOST_WAITED < nanos_since(rt, begin)? {
-            return Ok(());
-        }
-        yield_now();
-    }
-    unreachable!()
+    let mut series = S::new(alloc, shape, shape.jobs(settings.threads))?;
+    wait_until(rt, settings, || leader.has_all_threads())?;
+    let round = || -> Result<(), Stop>
+        requires { IsSync H.row }
+    { leader.play(rt, alloc, &mut series) };
+    let times = run(rt, alloc, settings, shape, round)?;
+    times.print(rt, settings, line, shape, series.is_right(times.rounds))
 }

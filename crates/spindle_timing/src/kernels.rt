@@ -1,7 +1,11 @@
-//! What the jobs compute.
-ghost use Rattle.std.specs.Prelude.{◌≤◌, length};
+//! What the jobs compute, and whether what came out is right.
+ghost use Rattle.std.specs.Prelude.{◌≡◌, IfOk};
+ghost use Rattle.spindle_timing.specs.Kernels.{one_more_of, squares_of};
 
 use std::alloc::{AllocError, Global};
+
+/// So many numbers stand between a place 16 bytes behind the beginning of a cache line and the next line.
+const BEFORE_A_LINE: usize = 6;
 
 /// 26 turns of a xorshift generator from the number and one more: about 50 ns in which no step overlaps another.
 pub fn stirred(number: u64) -> u64 {
@@ -14,47 +18,55 @@ pub fn stirred(number: u64) -> u64 {
     x
 }
 
-/// The products of what stands at the same place, summed, as far as both lists go; products and sum wrap.
-pub fn dot(row: &[u64], column: &[u64]) -> u64 {
-    let mut sum = 0u64;
-    for (x, y) in row.iter().zip(column) {
-        sum = sum.wrapping_add(x.wrapping_mul(*y));
-    }
-    sum
-}
-
-/// The entries of a row and all columns, which stand one behind the other, each as long as the row.
-pub fn entries_of(alloc: Global, row: &[u64], columns: &[u64]) -> Result<Vec<u64>, AllocError> {
-    let columns = columns.chunks(row.len().max(1));
-    columns.map(|column| dot(row, column)).collect(alloc)
-}
-
-/// The mean of a value, twice, and of its two neighbours.
-pub fn mean(before: u32, here: u32, behind: u32) -> u32 {
-    let sum = u64::from(before) + 2 * u64::from(here) + u64::from(behind);
-    (sum / 4) as u32
-}
-
-/// The values from one place up to another after one pass of the three-point stencil, with a 0 before all values and behind
-/// them.
-pub fn smoothed(
-    alloc: Global,
-    values: &[u32],
-    from: usize,
-    to: usize,
-) -> Result<Vec<u32>, AllocError>
-    requires in_order { from ≤ to }
-    requires in_slice { to ≤ length values.now }
+/// Each number and one more; the sum wraps.
+pub fn each_and_one(alloc: Global, numbers: &[u64]) -> Result<Vec<u64>, AllocError>
+    ensures { IfOk result (λ sums. sums.items ≡ one_more_of numbers.now) }
 {
-    let mut part = Vec::with_capacity(alloc, to - from)?;
-    for at in from..to {
-        let before = if at == 0 { 0 } else { values[at - 1] };
-        let behind = if at + 1 < values.len() {
-            values[at + 1]
-        } else {
-            0
-        };
-        part.push(mean(before, values[at], behind))?;
+    numbers.iter().map(|x| x.wrapping_add(1)).collect(alloc)
+}
+
+/// One more of each number, in its place; the sum wraps.
+pub fn one_more_each(numbers: &mut [u64])
+    ensures { numbers.new ≡ one_more_of numbers.old }
+{
+    for x in numbers {
+        *x = x.wrapping_add(1);
     }
-    Ok(part)
+}
+
+/// The same by whole cache lines, where the first number stands 16 bytes behind the beginning of one: first the numbers before the
+/// next line, and then the others.
+pub fn one_more_by_lines(numbers: &mut [u64])
+    ensures { numbers.new ≡ one_more_of numbers.old }
+{
+    let first = numbers.len().min(BEFORE_A_LINE);
+    let (before, lines) = numbers.split_at_mut(first);
+    one_more_each(before);
+    one_more_each(lines);
+}
+
+/// The square of each number; the product wraps.
+pub fn each_squared(alloc: Global, numbers: &[u64]) -> Result<Vec<u64>, AllocError>
+    ensures { IfOk result (λ squares. squares.items ≡ squares_of numbers.now) }
+{
+    numbers.iter().map(|x| x.wrapping_mul(*x)).collect(alloc)
+}
+
+/// Puts the square of each number into its place of the other list, as far as both go; the product wraps.
+pub fn square_each(numbers: &[u64], squares: &mut [u64]) {
+    let count = numbers.len().min(squares.len());
+    for at in 0..count {
+        squares[at] = numbers[at].wrapping_mul(numbers[at]);
+    }
+}
+
+/// Whether these are the squares of those numbers.
+pub fn are_squares(squares: &[u64], numbers: &[u64]) -> bool {
+    let wanted = numbers.iter().map(|x| x.wrapping_mul(*x));
+    squares.len() == numbers.len() && wanted.zip(squares).all(|(a, b)| a == *b)
+}
+
+/// Whether there are so many numbers, each of them this one.
+pub fn are_all(numbers: &[u64], count: usize, number: u64) -> bool {
+    numbers.len() == count && numbers.iter().all(|x| *x == number)
 }

@@ -7,9 +7,8 @@
 //! ```
 //!
 //! where the last four are whole nanoseconds a round: the best batch, the middle one, and those that a tenth and nine
-//! tenths of all batches stand below. A batch is 100 rounds between two readings of the clock (20 of `nested`, 10 of `stencil256k`,
-//! `stencil100` and `product64`, and one of `product256`); three batches warm up, then 300 count (100 of those), or as many as end
-//! within 0.8 seconds.
+//! tenths of all batches stand below. A batch is 100 rounds between two readings of the clock (20 of `nested`, 10 of `stencil256k`);
+//! three batches warm up, then 300 count (100 of those two), or as many as end within 0.8 seconds.
 //!
 //! SHAPE in the environment names the one shape to run, and POOL what to run it on: `slots` (lines named `zuflanto`), `trays`
 //! (`zuflanto-trays`), `place` (`zuflanto-place`) or `rayon` (`zuflanto-rayon`). No line is printed where nothing has that name;
@@ -19,9 +18,7 @@
 
 pub mod kernels;
 pub mod line;
-pub mod matrices;
 pub mod settings;
 pub mod shape;
 pub mod stop;
-pub mod strips;
 pub mod timing;

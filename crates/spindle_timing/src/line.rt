@@ -9,6 +9,8 @@ pub enum Line {
     Trays,
     /// A lock whose rounds are played in place.
     Place,
+    /// A lock whose rounds are played in place, of a pool with patience.
+    Patient,
     /// The kit's `rayon`.
     Rayon,
 }
@@ -20,6 +22,7 @@ impl Line {
             Line::Slots => "slots",
             Line::Trays => "trays",
             Line::Place => "place",
+            Line::Patient => "patient",
             Line::Rayon => "rayon",
         }
     }
@@ -30,6 +33,7 @@ impl Line {
             Line::Slots => "zuflanto",
             Line::Trays => "zuflanto-trays",
             Line::Place => "zuflanto-place",
+            Line::Patient => "zuflanto-patient",
             Line::Rayon => "zuflanto-rayon",
         }
     }

@@ -44,9 +44,11 @@ impl Settings {
         })
     }
 
-    /// Whether this line of a shape is asked for.
+    /// Whether this line of a shape is asked for. `try8` has none but that of trays.
     pub fn wants(&self, line: Line, shape: Shape) -> bool {
-        is_asked(self.pool.as_deref(), line.name()) && is_asked(self.shape.as_deref(), shape.name())
+        (shape != Shape::Try8 || line == Line::Trays)
+            && is_asked(self.pool.as_deref(), line.name())
+            && is_asked(self.shape.as_deref(), shape.name())
     }
 }
 

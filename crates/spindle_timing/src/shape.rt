@@ -1,20 +1,11 @@
 //! The shapes of rounds, by their names and sizes.
 ghost use Rattle.std.specs.Prelude.{◌≡◌, ◌*◌, ◌<◌, ◌≤◌};
 
-/// The numbers of a round of `map`.
-pub const MAPPED: usize = 4096;
-
-/// The numbers of a round of `stencil100`.
-pub const SMOOTHED: usize = 4096;
-
-/// The passes of a round of `stencil100`.
-pub const PASSES: usize = 100;
-
-/// The numbers of each list of `nested`.
-pub const NESTED_LEN: usize = 256;
-
-/// The parts of such a list: a job of an inner round has one.
+/// The parts of each list of `nested`: a job of an inner round has one.
 pub const NESTED_PARTS: usize = 4;
+
+/// The numbers of such a part.
+pub const PART_LEN: usize = 64;
 
 /// The rounds of each inner lock.
 pub const NESTED_ROUNDS: u64 = 16;
@@ -30,32 +21,23 @@ pub enum Shape {
     Try8,
     /// Two jobs that each open a lock and play rounds there.
     Nested,
-    /// Adds one to each of 4096 numbers.
+    /// Adds one to each of 4096 numbers, in a job a thread.
     Stencil4k,
-    /// Adds one to each of 262144 numbers.
+    /// Adds one to each of 262144 numbers, in a job a thread.
     Stencil256k,
-    /// `PASSES` passes of a three-point stencil over `SMOOTHED` numbers.
-    Stencil100,
-    /// Squares `MAPPED` numbers.
+    /// Squares 4096 numbers, in four jobs a thread.
     Map,
-    /// The product of two matrices of 64 rows and columns.
-    Product64,
-    /// The product of two matrices of 256 rows and columns.
-    Product256,
 }
 
 /// All shapes, in the order of their lines.
-pub const SHAPES: [Shape; 10] = [
+pub const SHAPES: [Shape; 7] = [
     Shape::Empty,
     Shape::Tiny8,
     Shape::Try8,
     Shape::Nested,
     Shape::Stencil4k,
     Shape::Stencil256k,
-    Shape::Stencil100,
     Shape::Map,
-    Shape::Product64,
-    Shape::Product256,
 ];
 
 impl Shape {
@@ -68,10 +50,7 @@ impl Shape {
             Shape::Nested => "nested",
             Shape::Stencil4k => "stencil4k",
             Shape::Stencil256k => "stencil256k",
-            Shape::Stencil100 => "stencil100",
             Shape::Map => "map",
-            Shape::Product64 => "product64",
-            Shape::Product256 => "product256",
         }
     }
 
@@ -82,9 +61,17 @@ impl Shape {
     {
         match self {
             Shape::Tiny8 | Shape::Try8 => threads * 8,
-            Shape::Map | Shape::Product64 | Shape::Product256 => threads * 4,
+            Shape::Map => threads * 4,
             Shape::Nested => 2,
             _ => threads,
+        }
+    }
+
+    /// The numbers of a round of a stencil or of `map`.
+    pub fn numbers(self) -> usize {
+        match self {
+            Shape::Stencil256k => 262144,
+            _ => 4096,
         }
     }
 
@@ -93,8 +80,8 @@ impl Shape {
         ensures { result ≤ 300 }
     {
         match self {
-            Shape::Empty | Shape::Tiny8 | Shape::Try8 | Shape::Stencil4k | Shape::Map => 300,
-            _ => 100,
+            Shape::Nested | Shape::Stencil256k => 100,
+            _ => 300,
         }
     }
 
@@ -103,19 +90,9 @@ impl Shape {
         ensures { 0 < result }
     {
         match self {
-            Shape::Product256 => 1,
             Shape::Nested => 20,
-            Shape::Stencil256k | Shape::Stencil100 | Shape::Product64 => 10,
+            Shape::Stencil256k => 10,
             _ => 100,
-        }
-    }
-
-    /// The rounds where they are only checked.
-    pub fn checked(self) -> u64 {
-        match self {
-            Shape::Product256 => 1,
-            Shape::Stencil100 | Shape::Product64 => 2,
-            _ => 20,
         }
     }
 }

@@ -1,5 +1,5 @@
 //! Why the program stops early.
-ghost use Rattle.std.specs.Prelude.{◌≡◌, true, OnOk};
+ghost use Rattle.std.specs.Prelude.{◌≡◌};
 
 use crate::shape::Shape;
 use spindle_parts::fault::Fault;
@@ -40,16 +40,5 @@ impl<T: Drop> From<AllocFailed<T>> for Stop {
 impl From<io::Error> for Stop {
     fn from(error: io::Error) -> Stop {
         Stop::System(error)
-    }
-}
-
-/// Stops where the rounds of a shape answered something wrong.
-pub fn right(is_right: bool, shape: Shape) -> Result<(), Stop>
-    ensures { OnOk result (is_right ≡ true) }
-{
-    if is_right {
-        Ok(())
-    } else {
-        Err(Stop::Wrong(shape))
     }
 }

@@ -1,5 +1,5 @@
 //! The clock, batches of rounds, and the printed line.
-ghost use Rattle.std.specs.Prelude.{◌≡◌, ◌<◌};
+ghost use Rattle.std.specs.Prelude.{◌≡◌, ◌<◌, true, OnOk};
 
 use crate::line::Line;
 use crate::settings::Settings;
@@ -7,6 +7,8 @@ use crate::shape::Shape;
 use crate::stop::Stop;
 use std::alloc::Global;
 use std::rt::Clock;
+use std::sync::Wait;
+use std::thread::yield_now;
 use std::time::Instant;
 
 /// So many batches come before those that count.
@@ -17,6 +19,12 @@ const LEAST: usize = 3;
 
 /// No batch begins after so many nanoseconds.
 const MOST_NANOS: u64 = 800_000_000;
+
+/// No longer than so many nanoseconds are threads waited for.
+const MOST_WAITED: u64 = 2_000_000_000;
+
+/// The rounds of each line where they are only checked.
+const CHECKED: u64 = 20;
 
 /// What a shape's batches took.
 #[derive(Drop)]
@@ -38,7 +46,7 @@ pub fn run<H: Clock, F: FnMut() -> Result<(), Stop>>(
     requires callable { F.IsAlwaysCallable round }
 {
     if settings.is_check {
-        checked(alloc, shape, round)
+        checked(alloc, round)
     } else {
         timed(rt, alloc, shape, round)
     }
@@ -78,57 +86,77 @@ fn timed<H: Clock, F: FnMut() -> Result<(), Stop>>(
 }
 
 // Runs a few rounds, with no clock.
-fn checked<F: FnMut() -> Result<(), Stop>>(
-    alloc: Global,
-    shape: Shape,
-    mut round: F,
-) -> Result<Times, Stop>
+fn checked<F: FnMut() -> Result<(), Stop>>(alloc: Global, mut round: F) -> Result<Times, Stop>
     requires callable { F.IsAlwaysCallable round }
 {
-    for _ in 0..shape.checked() {
+    for _ in 0..CHECKED {
         round()?;
     }
     Ok(Times {
         batches: Vec::new(alloc),
-        rounds: shape.checked(),
+        rounds: CHECKED,
     })
 }
 
-/// The nanoseconds from an instant up to now.
-pub fn nanos_since(rt: &impl Clock, begin: Instant) -> Result<u64, Stop> {
+/// Waits until this holds, so that no round is timed in which a leader is alone; for two seconds at most, since a machine may start
+/// fewer threads. Rounds that are only checked don't wait.
+pub fn wait_until<H: Wait + Clock, F: FnMut() -> bool>(
+    rt: &H,
+    settings: &Settings,
+    mut holds: F,
+) -> Result<(), Stop>
+    requires callable { F.IsAlwaysCallable holds }
+{
+    if settings.is_check {
+        return Ok(());
+    }
+    let begin = Instant::now(rt)?;
+    for _ in rt.forever() {
+        if holds() || MOST_WAITED < nanos_since(rt, begin)? {
+            return Ok(());
+        }
+        yield_now();
+    }
+    unreachable!()
+}
+
+// The nanoseconds from an instant up to now.
+fn nanos_since(rt: &impl Clock, begin: Instant) -> Result<u64, Stop> {
     let elapsed = begin.elapsed(rt)?;
     let seconds = elapsed.as_secs().saturating_mul(1_000_000_000);
     Ok(seconds.saturating_add(u64::from(elapsed.subsec_nanos())))
 }
 
 impl Times {
-    /// Prints the line of a shape, or that its rounds were right where they were only checked.
+    /// Prints the line of a shape, or that its rounds were right where they were only checked. Stops where they were wrong.
     pub fn print(
         &self,
         rt: &impl Print,
         settings: &Settings,
         line: Line,
         shape: Shape,
-    ) -> Result<(), Stop> {
+        is_right: bool,
+    ) -> Result<(), Stop>
+        ensures { OnOk result (is_right ≡ true) }
+    {
+        if !is_right {
+            return Err(Stop::Wrong(shape));
+        }
         let (head, name) = (line.head(), shape.name());
         if settings.is_check {
             println!(rt; "{head} {name} right")?;
             return Ok(());
         }
         let threads = settings.threads;
-        let best = self.below(0, 10);
-        let median = self.below(5, 10);
-        let low = self.below(1, 10);
-        let high = self.below(9, 10);
+        let (best, median) = (self.after(0), self.after(5));
+        let (low, high) = (self.after(1), self.after(9));
         println!(rt; "{head} {name} {threads} {best} {median} {low} {high}")?;
         Ok(())
     }
 
     // The batch that so many tenths of all stand below, or 0 where there is none.
-    fn below(&self, part: usize, parts: usize) -> u64
-        requires { 0 < parts }
-    {
-        let place = self.batches.len().saturating_mul(part) / parts;
+    fn after(&self, tenths: usize) -> u64 {
+        let place = self.batches.len().saturating_mul(tenths) / 10;
         self.batches.get(place).copied().unwrap_or(0)
     }
 }
