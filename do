@@ -3,6 +3,54 @@
 set -eu
 cd "$(dirname "$0")"
 
+# The crates of this repository that a crate stands on, lowest first, and then itself.
+chain() {
+  local low
+  for low in $(sed -nE "s/^$1( [^:]*)?: *//p" crates.txt); do
+    if [ -d "crates/$low" ]; then chain "$low"; fi
+  done
+  printf '%s\n' "$1"
+}
+
+#: prove                prove and build the program, for ./spindle-run, with a line a crate and its time
+prove() {
+  local crate words start said
+  said=$(mktemp)
+  for crate in $(chain spindle_run | awk '!seen[$0]++'); do
+    start=$SECONDS words="lib"
+    if [ -e "crates/$crate/src/main.rt" ]; then words="run -- cut 0 0"; fi
+    if ! (cd "crates/$crate" && rt $words) >"$said" 2>&1 </dev/null; then
+      cat "$said"
+      printf '%s: not proved\n' "$crate" && return 1
+    fi
+    printf '%s: proved in %d s\n' "$crate" $((SECONDS - start))
+  done
+  touch crates/spindle_run/out/spindle_run
+  printf 'all: proved in %d min; ./spindle-run runs what was proved\n' $(((SECONDS + 59) / 60))
+}
+
+#: add-to FOLDER        put the library's crates, and their lines of crates.txt, into another repository
+add-to() {
+  local crate to=${1:?which folder}
+  for crate in $(chain spindle | awk '!seen[$0]++'); do
+    if [ -e "$to/crates/$crate" ] || grep -qsE "^$crate[ :]" "$to/crates.txt"; then
+      printf '%s has %s already: nothing more was changed\n' "$to" "$crate" && return 1
+    fi
+  done
+  mkdir -p "$to/crates"
+  if [ -s "$to/crates.txt" ] && [ -n "$(tail -c 1 "$to/crates.txt")" ]; then echo >>"$to/crates.txt"; fi
+  for crate in $(chain spindle | awk '!seen[$0]++'); do
+    mkdir "$to/crates/$crate"
+    tar -c -C "crates/$crate" --exclude=must-fail --exclude=out . | tar -x -C "$to/crates/$crate"
+    grep -E "^$crate[ :]" crates.txt >>"$to/crates.txt"
+  done
+  cp LICENSE "$to/crates/spindle/"
+  printf "A crate of yours: a line 'mine: spindle' in %s/crates.txt.\n" "$to"
+  if [ "$(cat "$to/HANDLES" 2>/dev/null)" != "$(cat HANDLES)" ]; then
+    printf "%s/HANDLES must hold this line: %s\n" "$to" "$(cat HANDLES)"
+  fi
+}
+
 #: check [CRATE..]      prove the crates (all of them, where none is named) over what earlier checks kept
 check() {
   if [ $# = 0 ]; then rt all check; fi
@@ -12,18 +60,19 @@ check() {
 #: test [CRATE..]       the quick one, of some minutes: the names in the documents, and the tests, with nothing proved
 test() {
   .ci/documents
-  local crate said status=0 crates=${*:-$(.ci/crates '#\[test\]')}
-  declare -A players
   said=$(mktemp -d)
-  for crate in $crates; do
-    (cd "crates/$crate" && rt try --test) >"$said/$crate" 2>&1 &
-    players[$crate]=$!
-  done
-  for crate in $crates; do
-    wait "${players[$crate]}" || status=1
-    sed "/ \.\.\. ok$/d; s/^/$crate: /" "$said/$crate"
-  done
-  rm -rf "$said"
+  export said
+  export -f try_tests
+  # As many crates side by side as PLAYERS says, or as there are processors.
+  printf '%s\n' ${*:-$(.ci/crates '#\[test\]')} | xargs -P "${PLAYERS:-$(nproc)}" -I{} bash -euc 'try_tests {}'
+}
+
+# Plays the tests of crate $1 unproved, and prints all but the lines of those that held.
+try_tests() {
+  local status=0
+  .ci/idle
+  (cd "crates/$1" && rt try --test --seconds 600) >"$said/$1" 2>&1 || status=1
+  sed "/ \.\.\. ok$/d; s/^/$1: /" "$said/$1"
   return $status
 }
 
@@ -53,6 +102,6 @@ format() {
 figures() { .ci/figures; }
 
 case ${1:-} in
-  check | test | refusals | edits | bench | format | figures) "$@" ;;
+  prove | add-to | check | test | refusals | edits | bench | format | figures) "$@" ;;
   *) sed -n 's|^#: |./do |p' do && exit 2 ;;
 esac
