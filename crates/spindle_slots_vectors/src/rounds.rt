@@ -1,8 +1,9 @@
 //! Rounds in a lock with slots of their own, for rows that need no more of its leader.
 ghost use Rattle.std.specs.Prelude.{◌<◌, ◌≤◌};
+ghost use denote.Param.Send.{IsSync};
 
 use crate::jobs::Seen;
-use spindle::lock::{Gate, Job, Nest, PlaysPieces, Pool, SlotLeader};
+use spindle::lock::{Gate, Job, Nest, OpensSlots, Pool, Rounds, SlotLeader};
 use spindle::{Fault, with_slots};
 use std::alloc::Global;
 use std::sync::Wait;
@@ -36,49 +37,58 @@ where
         most,
         slots,
         |leader|
-            requires { 0 < jobs }
-        { play(rt, alloc, leader, jobs, rounds, items) },
+            requires jobs { 0 < jobs }
+            requires sync { IsSync H.row }
+        { play::<J, _, _>(rt, alloc, leader, jobs, rounds, items) },
     )?
 }
 
+/// A leader that can be looked at, and that tells its helpers to rest.
+pub trait Seeing {
+    /// What it sees of its lock.
+    fn seen(&self) -> Seen;
+
+    /// Tells its helpers to rest.
+    fn relieve(&mut self);
+}
+
+impl<'a, J: OpensSlots<P>, G: Gate, P> Seeing for SlotLeader<'a, J, G, P> {
+    fn seen(&self) -> Seen {
+        (
+            self.current_thread_index(),
+            self.current_num_threads(),
+            self.max_num_threads(),
+        )
+    }
+
+    fn relieve(&mut self) {
+        self.relieve_workers();
+    }
+}
+
 // The rounds of a leader.
-fn play<J: PlaysPieces<P>, G: Gate, P, H: Threads + Wait + Sync>(
+fn play<J: Job, E: Rounds<J> + Seeing, H: Threads + Wait + Sync>(
     rt: &H,
     alloc: Global,
-    leader: &mut SlotLeader<J, G, P>,
+    leader: &mut E,
     jobs: usize,
     rounds: usize,
     items: &[J::In],
 ) -> Result<(Vec<J::Out>, Vec<Seen>), Fault>
-    requires { 0 < jobs }
+    requires jobs { 0 < jobs }
+    requires sync { IsSync H.row }
 {
     let mut answers = Vec::new(alloc);
+    let mut answered = Vec::new(alloc);
     let mut seen = Vec::new(alloc);
     for round in 0..rounds {
         if round % 2 == 1 {
-            leader.relieve_workers();
+            leader.relieve();
         }
-        play_once(rt, alloc, leader, jobs, items, &mut answers)?;
-        seen.push((
-            leader.current_thread_index(),
-            leader.current_num_threads(),
-            leader.max_num_threads(),
-        ))?;
+        let mut inputs = items.to_vec(alloc)?;
+        leader.for_each_into(rt, alloc, jobs, &mut inputs, &mut answered)?;
+        answers.append(&mut answered)?;
+        seen.push(leader.seen())?;
     }
     Ok((answers, seen))
-}
-
-// One round, whose answers come to the end of the list.
-fn play_once<J: PlaysPieces<P>, G: Gate, P, H: Threads + Wait + Sync>(
-    rt: &H,
-    alloc: Global,
-    leader: &mut SlotLeader<J, G, P>,
-    jobs: usize,
-    items: &[J::In],
-    answers: &mut Vec<J::Out>,
-) -> Result<(), Fault>
-    requires { 0 < jobs }
-{
-    let mut answered = leader.for_each(rt, alloc, jobs, items.to_vec(alloc)?)?;
-    Ok(answers.append(&mut answered)?)
 }
