@@ -33,8 +33,7 @@ mod series;
 use crate::kinds::{AddOne, Nothing, Square, Stir};
 use crate::locks::{Bench, Machine, in_each, in_place};
 use crate::nested::{AddOneToPart, InRounds};
-use crate::series::Placed;
-use spindle::lock::{InPlace, Limits, Nest, NoGate, Pool};
+use spindle::lock::{InPlace, Limits, NoGate, Pool};
 use spindle_timing::line::Line;
 use spindle_timing::settings::Settings;
 use spindle_timing::shape::{SHAPES, Shape};
@@ -66,22 +65,17 @@ fn main(rt: HostRuntime) -> Result<(), Stop> {
 
 // Runs `nested` with helpers that look for inner locks at each turn of their wait, and with patient ones.
 fn in_both<H: Machine>(bench: &Bench<H>) -> Result<(), Stop> {
-    in_rounds::<InPlace<AddOneToPart>, H>(bench, Line::Place)?;
+    in_rounds::<H>(bench, Line::Place)?;
     let pool = Pool::new(bench.settings.threads, Limits::new(), NoGate).with_patience(PATIENCE);
     let patient = Bench {
         rt: bench.rt,
         settings: bench.settings,
         pool: &pool,
     };
-    in_rounds::<InPlace<AddOneToPart>, H>(&patient, Line::Patient)
+    in_rounds::<H>(&patient, Line::Patient)
 }
 
-// Runs `nested` in place all through, over a kind of inner job. It is generic in that kind, so that no check meets both kinds.
-fn in_rounds<J: Placed + Send, H: Machine>(bench: &Bench<H>, line: Line) -> Result<(), Stop>
-where
-    J::Item: Send,
-    J::Inner: Send,
-    <J::Inner as Nest>::Slots: Send + Sync,
-{
-    in_place::<InPlace<InRounds<J>>, H>(bench, line, Shape::Nested)
+// Runs `nested` in place all through.
+fn in_rounds<H: Machine>(bench: &Bench<H>, line: Line) -> Result<(), Stop> {
+    in_place::<InPlace<InRounds<InPlace<AddOneToPart>>>, H>(bench, line, Shape::Nested)
 }
