@@ -42,7 +42,7 @@ fn ranges_of_four(round: &Round<Bare>) -> (u64, u64, u64, u64)
     )
 }
 
-/// Claims and finishes the last number of the remainder three times.
+/// Claims and finishes the first number left of the remainder three times.
 fn three_rest(round: &Round<Bare>, seat: &mut Seat<Bare>) -> (Option<u64>, Option<u64>, Option<u64>)
     requires seated { IsSeatAt round.now.init seat.old }
     requires free { MayClaim seat.old.me.0 }

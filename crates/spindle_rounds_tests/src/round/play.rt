@@ -98,7 +98,7 @@ pub fn own_from_to(round: &Round<Bare>, seat: &mut Seat<Bare>, t: usize, from: u
     right
 }
 
-/// Claims and finishes the last number of the remainder.
+/// Claims and finishes the first number left of the remainder.
 pub fn rest(round: &Round<Bare>, seat: &mut Seat<Bare>) -> Option<u64>
     requires seated { IsSeatAt round.now.init seat.old }
     requires free { MayClaim seat.old.me.0 }
