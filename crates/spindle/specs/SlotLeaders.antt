@@ -1,8 +1,18 @@
--- What contracts see of the leader of a lock with slots. Its post is hidden behind a type P:
+-- What contracts see of the leader of a lock with slots, or in place. Its post is hidden behind a type P:
 -- what is known of the seat in it is told by a function of P.
+--
+-- Its rounds promise the same four things as those of a lock with trays, which Leaders of the crate spindle_trays names.
+--
+-- clause          word         sentence
+-- answer, remade  AllZip       an Ok answers the items: an output for each, in their order, or what became of it in its place
+-- refused         IsForMemory  a refusal is Memory, and never of a round of no items: no piece is lost
+-- trail           PlayedAs     the leader did nothing, or published once, that many jobs, in a round that has ended: by what came of it
+-- goes_on         GoesOn       it leads the same lock, with as many threads and slots, and may run the next round
 use denote.Ref.{MutBor}
 use Rattle.std.specs.Fn.{Once, FnOnceTakesAtMut, FnOnceReturnsAtMut}
-use Rattle.std.specs.Prelude.{◌≡◌, ℕ, min}
+use Rattle.std.specs.Prelude.{◌≡◌, ◌≤◌, ℕ, min, OnOk, OnErr, IsOk, IsErrOf, Result}
+use Rattle.spindle_parts.specs.declared.fault.Fault.{Fault}
+use Rattle.spindle_parts.specs.declared.fault.Fault.TheVariants.{Memory}
 use Rattle.spindle_parts.specs.declared.requests.plays.Account.{Account}
 use Rattle.spindle_crew.specs.Accounts as accounts
 use Rattle.spindle_crew.specs.Notices as notices
@@ -26,6 +36,10 @@ IsLeaderOf slot_count threads slots leader = (threads_of leader ≡ threads)
 abbrev pub account_of : {J G P I O N S : Type 0} → SlotLeader J G P I O N S → Account
 account_of leader = accounts.account_of leader.runner.notices
 
+-- a call over so many items is refused for want of memory alone, and never one over none
+abbrev pub IsForMemory : {T : Type 0} → (items : ℕ) → Result T Fault → Type 0
+IsForMemory items result = OnErr result (IsErrOf result Memory) × (items ≡ 0 → IsOk result)
+
 -- it told the idle threads to rest, and did nothing else at the ledger
 abbrev pub AnnouncedRest : {J G P I O N S : Type 0} → (old new : SlotLeader J G P I O N S) → Type 0
 AnnouncedRest old new = notices.AnnouncedRest (account_of old) (account_of new)
@@ -47,6 +61,11 @@ slots_of slot_count leader = slot_count leader.post
 -- the slots of a lock whose leader has its kind of job's own post, as every caller's has
 abbrev pub lock_slots : {J G K A B C I O N S : Type 0} → SlotLeader J G (KeptPost K A B C) I O N S → ℕ
 lock_slots leader = leader.post.post.slots
+
+-- it leads the same lock
+abbrev pub IsSameLock : {J G P I O N S : Type 0} → (P → ℕ) → (old new : SlotLeader J G P I O N S)
+    → Type 0
+IsSameLock slot_count old new = (threads_of new ≡ threads_of old) × IsAsBefore slot_count old new
 
 -- f may be called with each leader whose lock has so many slots
 abbrev pub TakesLeaders : {J G P I O N S F R : Type 0} → (P → ℕ) → (slots : ℕ)
@@ -76,3 +95,16 @@ IsBetweenRounds view leader = MayFill (view leader.post)
 abbrev pub PlayedOnce : {J G P I O N S V : Type 0} → (P → View V) → (jobs : ℕ)
     → (old new : SlotLeader J G P I O N S) → Type 0
 PlayedOnce view jobs old new = PlayedRound jobs (view old.post) (view new.post)
+
+-- the lock goes on: it leads the same lock, and may run the next round
+abbrev pub GoesOn : {J G P I O N S V : Type 0} → (P → View V) → (P → ℕ)
+    → (old new : SlotLeader J G P I O N S) → Type 0
+GoesOn view slot_count old new = IsSameLock slot_count old new × IsBetweenRounds view new
+
+-- what it did for a round of so many jobs, by what came of that: it played the round,
+-- but made no step for one job, nor where it was refused, and did nothing for none
+abbrev pub PlayedAs : {J G P I O N S V T : Type 0} → (P → View V) → (jobs : ℕ)
+    → (old new : SlotLeader J G P I O N S) → Result T Fault → Type 0
+PlayedAs view jobs old new result = OnOk result (2 ≤ jobs → PlayedOnce view jobs old new)
+    × OnErr result (IsAsBefore view old new)
+    × (jobs ≤ 1 → IsAsBefore view old new) × (jobs ≡ 0 → DidNothing view old new)

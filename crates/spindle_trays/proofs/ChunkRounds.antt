@@ -25,9 +25,6 @@ pub some_items : {T : Type 0} (list : List T) (empty : Bool) → (IsTrue empty �
 some_items [] empty both isnt = let is = both.1 refl in absurd cc
 some_items (x ∷ xs) empty both isnt = omega arith
 
-pub no_items : {T : Type 0} (list : List T) (empty : Bool) → (IsTrue empty ↔ (list ≡ [])) → empty ≡ false → length list ≡ 0 → false ≡ true
-no_items list empty both isnt none = let some = some_items list empty both isnt in absurd (omega (arith, some, none))
-
 -- an empty list is no chunk, and nothing comes of it
 pub mapped_nothing : {T U E : Type 0} (Meets : List T → Result (Vec U Global) E → Type 0) (n_jobs : ℕ) (list : List T) (all : Vec U Global)
     → list ≡ [] → all.items ≡ [] → IsMapped {E = E} Meets n_jobs list (Ok all)

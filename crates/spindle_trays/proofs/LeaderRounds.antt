@@ -1,8 +1,9 @@
 -- Rounds of a leader: their jobs, where it stands between them, refusals that are passed on, and what a lost piece tells.
-use Rattle.std.proofs.Common.{◌≡◌, ℕ, ◌+◌, ◌<◌, ◌≤◌, ◌↔◌, Bool, true, false, List, None, Some, ⊎_elim, inl, inr, Result, Ok, Err, ap, ◌∙◌, replicate, zero, suc, sym}
-use Rattle.std.proofs.Common.{arith, length, min, ◌==◌, Vec, Global, vec_len, IsErrOf, IsErrAnd, IfErr, OnErr, subst}
+use Rattle.std.proofs.Common.{◌≡◌, ◌≢◌, ℕ, ◌+◌, ◌<◌, ◌≤◌, ◌↔◌, Bool, true, false, List, None, Some, ⊎_elim, inl, inr, Result, Ok, Err, ap, ◌∙◌, replicate, zero, suc, sym}
+use Rattle.std.proofs.Common.{arith, length, min, ◌==◌, Vec, Global, vec_len, IsErrOf, IsErrAnd, IfErr, OnErr, OnOk, subst}
 use Rattle.std.proofs.lemmas.Bool.{cases_lt, false≢true}
-use Rattle.spindle_parts.specs.declared.fault.Fault.TheVariants.{Lost}
+use Rattle.spindle_parts.specs.declared.fault.Fault.{Fault}
+use Rattle.spindle_parts.specs.declared.fault.Fault.TheVariants.{Memory, Lost}
 use Rattle.spindle_rounds.specs.Leftovers.{IsMarked}
 use Rattle.spindle_rounds.specs.Passing.{InNext}
 use Rattle.spindle_rounds.specs.RoundShown.{Showed}
@@ -17,7 +18,7 @@ use Rattle.spindle_trays.specs.Rounds.{job_count}
 use Rattle.spindle_rounds.specs.RoundConditions.{MayFill}
 use Rattle.spindle_crew.specs.Posts.{LastPublished, party_view}
 use Rattle.spindle_crew.specs.declared.leader_post.LeaderPost.{LeaderPost}
-use Rattle.spindle_trays.specs.Leaders.{hands_of, AreLeft, IsTryRefusal, TriedOnce}
+use Rattle.spindle_trays.specs.Leaders.{hands_of, AreLeft, IsTryRefusal, MadeNoStep, PlayedAs, PlayedOnce, TriedOnce}
 use Rattle.spindle_trays.specs.Reports.{is_marked, least_lost, IsNoted}
 use Rattle.spindle_trays.proofs.Reports.{least_first, least_within}
 use Rattle.spindle_trays.specs.declared.lock.leader.Leader.{Leader}
@@ -49,22 +50,14 @@ pub all_jobs : {A : Type 0} (count jobs : ℕ) (list : List A) (items : Vec A Gl
     → count ≡ jobs
 all_jobs count jobs list items c e enough = rw (c, e) (omega arith)
 
--- a round of items has some
-pub no_items : (len : ℕ) (empty : Bool) → empty ≡ (len == 0) → empty ≡ false → len ≡ 0 → false ≡ true
-no_items len empty is isnt none = sym isnt ∙ is ∙ ap (λ n. n == 0) {x = len} {y = 0} none
-
--- and so some jobs
+-- a round of some items has some jobs
 pub some_jobs : (items n_jobs : ℕ) (empty : Bool) → empty ≡ (items == 0) → empty ≡ false → (0 < items → 0 < n_jobs) → 0 < job_count items n_jobs
 some_jobs zero n_jobs empty is isnt more = absurd (false≢true (sym isnt ∙ is))
 some_jobs (suc items) n_jobs empty is isnt more = let some = more (omega arith) in omega (arith, some)
 
--- a number of jobs isn't one and more
-pub past_one : (jobs : ℕ) → 1 < jobs → jobs ≤ 1 → ⊥
-past_one jobs h k = omega arith
-
--- one item is at most one job
-pub few_jobs : (n : ℕ) → n ≤ 1 → job_count n n ≤ 1
-few_jobs n few = omega arith
+-- and one of some numbers
+pub some_numbers : (n : ℕ) → n ≢ 0 → 0 < job_count n n
+some_numbers n some = omega arith
 
 -- a loop ends at its end
 pub same_end : (n m : ℕ) → n ≤ m → m ≤ n → n ≡ m
@@ -76,6 +69,18 @@ not_one n m e some isnt one = isnt (omega arith)
 
 pub not_two : (n m : ℕ) → n ≡ m → n ≡ 1 → 2 ≤ m → ⊥
 not_two n m e one two = omega arith
+
+-- a leader alone, which is refused for want of memory alone, played what there was
+pub played_alone : {J G L I O N S T : Type 0} (jobs : ℕ) (old new : Leader J G L I O N S) (r : Result T Fault) → 0 < jobs
+    → OnOk r (2 ≤ jobs → PlayedOnce jobs old new) → (jobs ≤ 1 → MadeNoStep old new) → OnErr r (IsErrOf r Memory × MadeNoStep old new)
+    → PlayedAs jobs old new r
+played_alone jobs old new (Ok t) some played direct memory = (played, direct, λ none. absurd (omega (arith, some, none)))
+played_alone {T = T} jobs old new (Err x) some played direct memory =
+    let same : Memory ≡ x = cc in subst (λ z. PlayedAs {T = T} jobs old new (Err z)) same memory.1
+
+-- and of two jobs or more nothing is told but what was played
+pub played_two : {P Q R : Type 0} (jobs : ℕ) → 2 ≤ jobs → P → (2 ≤ jobs → P) × (jobs ≤ 1 → Q) × (jobs ≡ 0 → R)
+played_two jobs two played = ((λ _. played), (λ one. absurd (omega (arith, two, one))), λ none. absurd (omega (arith, two, none)))
 
 -- a leader at its post is between two rounds
 pub between : {T S N : Type 0} (p : LeaderPost T S N) → MayFill (party_view p.post.barrier)

@@ -1,4 +1,15 @@
--- What contracts see of a leader.
+-- What contracts see of a leader, and the words for what its calls promise.
+--
+-- A call that runs a round promises four things, by four words; a round that may stop has the second word of a line.
+--
+-- clause          word                     sentence
+-- answer, report  AllZip, IsReport         an Ok answers the items: an output for each, in their order; or a report of what ran and what was skipped
+-- refused         IsRefusal, IsTryRefusal  a refusal is Memory or Lost(k), and never of a round of no jobs
+-- trail           PlayedAs, TriedAs        the leader did nothing, or published once, that many jobs, in a round that has ended: by what came of it
+-- goes_on         GoesOn                   it leads the same lock, with as many threads and hands, and may run the next round
+--
+-- Leaders of locks with slots and in place have the same words, said of their posts in SlotLeaders of the crate spindle. The calls of a job's
+-- context have answer and refused: the locks that they open are closed when they return, and the context is the same.
 use denote.Ref.{MutBor}
 use Rattle.std.specs.Fn.{Once, FnOnceReturnsAtMut}
 use Rattle.std.specs.Prelude.{◌≡◌, ◌⊎◌, ◌↔◌, ℕ, ◌<◌, ◌≤◌, Bool, List, Vec, Result, Ok, Err, true}
@@ -61,6 +72,10 @@ AnnouncedRest old new = notices.AnnouncedRest (account_of old) (account_of new)
 abbrev pub IsBetweenRounds : {J G L I O N S : Type 0} → Leader J G L I O N S → Type 0
 IsBetweenRounds leader = MayFill (view_of leader)
 
+-- the lock goes on: it leads the same lock, and may run the next round
+abbrev pub GoesOn : {J G L I O N S : Type 0} → (old new : Leader J G L I O N S) → Type 0
+GoesOn old new = IsSameLock old new × IsBetweenRounds new
+
 -- it made no step at the round table, so its trail is as before
 abbrev pub MadeNoStep : {J G L I O N S : Type 0} → (old new : Leader J G L I O N S) → Type 0
 MadeNoStep old new = view_of new ≡ view_of old
@@ -74,12 +89,14 @@ abbrev pub PlayedOnce : {J G L I O N S : Type 0}
     → (jobs : ℕ) → (old new : Leader J G L I O N S) → Type 0
 PlayedOnce jobs old new = PlayedRound jobs (view_of old) (view_of new)
 
--- where its round of so many jobs was refused: for want of memory it made no step, and a piece is
--- lost only from a round that was played
-abbrev pub LeftByRefusal : {J G L I O N S : Type 0}
-    → (jobs : ℕ) → (old new : Leader J G L I O N S) → Fault → Type 0
-LeftByRefusal jobs old new Memory = MadeNoStep old new
-LeftByRefusal jobs old new (Lost k) = PlayedOnce jobs old new
+-- what it did for a round of so many jobs, by what came of that: it played the round,
+-- but made no step for one job, nor where memory was wanting, and did nothing for none
+abbrev pub PlayedAs : {J G L I O N S T : Type 0}
+    → (jobs : ℕ) → (old new : Leader J G L I O N S) → Result T Fault → Type 0
+PlayedAs jobs old new (Ok t) = (2 ≤ jobs → PlayedOnce jobs old new)
+    × (jobs ≤ 1 → MadeNoStep old new) × (jobs ≡ 0 → DidNothing old new)
+PlayedAs jobs old new (Err Memory) = MadeNoStep old new
+PlayedAs jobs old new (Err (Lost k)) = PlayedOnce jobs old new
 
 -- it published once, so many jobs in a round that may stop, and that round has ended
 abbrev pub TriedOnce : {J G L I O N S : Type 0}
@@ -111,11 +128,10 @@ IsTryRefusal {B = B} Meets Fails items jobs old new (Lost k) = (k < jobs) × (2 
     ⊎ ((2 ≤ hands_of old) × (ran : List (ℕ × Vec B Global))
     × All (IsAnswered Meets items jobs) ran × Any (HasFailed Fails) ran))
 
--- what it did for a round of so many jobs that may stop, by what came of that: it played the round,
--- but made no step for one job or none, nor where memory was wanting
+-- the same of a round that may stop
 abbrev pub TriedAs : {J G L I O N S T : Type 0}
     → (jobs : ℕ) → (old new : Leader J G L I O N S) → Result T Fault → Type 0
-TriedAs jobs old new (Ok t) =
-    (2 ≤ jobs → TriedOnce jobs old new) × (jobs ≤ 1 → MadeNoStep old new)
+TriedAs jobs old new (Ok t) = (2 ≤ jobs → TriedOnce jobs old new)
+    × (jobs ≤ 1 → MadeNoStep old new) × (jobs ≡ 0 → DidNothing old new)
 TriedAs jobs old new (Err Memory) = MadeNoStep old new
 TriedAs jobs old new (Err (Lost k)) = TriedOnce jobs old new

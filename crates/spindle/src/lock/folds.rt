@@ -1,5 +1,5 @@
 //! Folding a list: each job folds a chunk of it, and the caller's thread folds what they answer.
-ghost use Rattle.std.specs.Prelude.{◌≡◌, IfOk, IfErr, IsOk, fold, length};
+ghost use Rattle.std.specs.Prelude.{◌≡◌, IfOk, IfErr, fold, length};
 ghost use Rattle.spindle.specs.Folds.{IsAssociative, IsNeutral, total_of};
 ghost use Rattle.spindle_crew.specs.Crews.{lock_threads};
 ghost use Rattle.spindle.specs.OneRound.{asked_jobs};
@@ -122,7 +122,6 @@ where
     ensures refused { let threads = pool.now.threads in
         let jobs = job_count (length list.now) (asked_jobs threads n_jobs) in
         IfErr result (IsRefusal (lock_threads threads jobs) jobs) }
-    ensures empty { length list.now ≡ 0 → IsOk result }
 {
     if list.is_empty() {
         return Ok(C::neutral());

@@ -1,5 +1,5 @@
 //! One round in a lock of its own: for callers who run one list, and no other in the same lock.
-ghost use Rattle.std.specs.Prelude.{◌≡◌, ◌<◌, IfOk, IfErr, IsOk, vec_len};
+ghost use Rattle.std.specs.Prelude.{◌≡◌, ◌<◌, IfOk, IfErr, vec_len};
 ghost use Rattle.std.specs.List.{AllZip};
 ghost use Rattle.spindle_trays.specs.Leaders.{hands_of};
 ghost use Rattle.spindle_crew.specs.Crews.{lock_threads};
@@ -38,7 +38,6 @@ where
     ensures refused { let threads = pool.now.threads in
         let jobs = job_count (vec_len items) (asked_jobs threads n_jobs) in
         IfErr result (IsRefusal (lock_threads threads jobs) jobs) }
-    ensures empty { vec_len items ≡ 0 → IsOk result }
 {
     if items.is_empty() {
         return Ok(Vec::new(alloc));

@@ -1,8 +1,9 @@
 //! Rounds in place as a value: a lock is opened for it and plays it, where a closure can't be, since its jobs open locks too. One
 //! round over a list is such a value, which the caller needn't write.
-ghost use Rattle.std.specs.Prelude.{◌≡◌, ◌<◌, ◌≤◌, IfOk, IsOk, OnOk, OnErr, IsErrOf, vec_len};
+ghost use Rattle.std.specs.Prelude.{◌≡◌, ◌<◌, ◌≤◌, IfOk, OnOk, OnErr, IsErrOf, vec_len};
 ghost use Rattle.std.specs.List.{AllZip};
 ghost use denote.Param.Send.{IsSync};
+ghost use Rattle.spindle.specs.SlotLeaders.{IsForMemory};
 
 use crate::lock::place_rounds::remake;
 use crate::lock::slot_leader::SlotLeader;
@@ -123,8 +124,7 @@ where
     J::Inner: Send,
     <J::Inner as Nest>::Slots: Send + Sync,
     ensures remade { IfOk result (λ new. AllZip J.remade items.items new.items) }
-    ensures memory { OnErr result (IsErrOf result Fault.Memory) }
-    ensures empty { vec_len items ≡ 0 → IsOk result }
+    ensures refused { IsForMemory (vec_len items) result }
 {
     if items.is_empty() {
         return Ok(items);

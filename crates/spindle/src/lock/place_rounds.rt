@@ -1,11 +1,11 @@
 //! Locks whose rounds are played in place: a job is given its item by value, and answers what becomes of it.
-ghost use Rattle.std.specs.Prelude.{◌≡◌, ◌<◌, ◌≤◌, IfOk, OnOk, OnErr, IsOk, IsErrOf, min, vec_len};
+ghost use Rattle.std.specs.Prelude.{◌≡◌, ◌<◌, ◌≤◌, OnOk, OnErr, min, vec_len};
 ghost use Rattle.std.specs.List.{AllZip};
 ghost use denote.Param.Send.{IsSync};
 ghost use Rattle.spindle_crew.specs.Accounts.{account_of};
 ghost use Rattle.spindle_rounds.specs.RoundConditions.{MayFill};
 ghost use Rattle.spindle_rounds.specs.Working.{PlayedRound};
-ghost use Rattle.spindle.specs.SlotLeaders.{threads_of, slot_jobs, DidNothing, IsAsBefore, IsBetweenRounds, PlayedOnce};
+ghost use Rattle.spindle.specs.SlotLeaders.{slot_jobs, GoesOn, IsForMemory, PlayedAs};
 
 use crate::lock::slot_leader::SlotLeader;
 use spindle_parts::fault::Fault;
@@ -37,17 +37,11 @@ impl<'a, J: PlaysInPlace<P>, G: Gate, P> SlotLeader<'a, J, G, P> {
         requires jobs { 0 < vec_len items.old → 0 < n_jobs }
         ensures remade { OnOk result (AllZip J.remade items.old.items items.new.items) }
         ensures kept { OnErr result (items.new.items ≡ items.old.items) }
-        ensures memory { OnErr result (IsErrOf result Fault.Memory) }
-        ensures empty { vec_len items.old ≡ 0 → IsOk result }
-        ensures nothing { vec_len items.old ≡ 0 → DidNothing J.OpensSlots.view self.old self.new }
-        ensures played { let jobs = slot_jobs J.OpensSlots.slot_count self.old (vec_len items.old) n_jobs in
-            OnOk result (2 ≤ jobs → PlayedOnce J.OpensSlots.view jobs self.old self.new) }
-        ensures direct { slot_jobs J.OpensSlots.slot_count self.old (vec_len items.old) n_jobs ≤ 1
-            → IsAsBefore J.OpensSlots.view self.old self.new }
-        ensures left { OnErr result (IsAsBefore J.OpensSlots.view self.old self.new) }
-        ensures between { IsBetweenRounds J.OpensSlots.view self.new }
-        ensures lock { threads_of self.new ≡ threads_of self.old }
-        ensures slots { IsAsBefore J.OpensSlots.slot_count self.old self.new }
+        ensures refused { IsForMemory (vec_len items.old) result }
+        ensures trail { PlayedAs J.OpensSlots.view
+            (slot_jobs J.OpensSlots.slot_count self.old (vec_len items.old) n_jobs)
+            self.old self.new result }
+        ensures goes_on { GoesOn J.OpensSlots.view J.OpensSlots.slot_count self.old self.new }
     {
         remake::<J, P, G, H>(rt, alloc, &mut self.runner, &mut self.post, n_jobs, items)
     }
@@ -66,13 +60,13 @@ pub(crate) fn remake<J: PlaysInPlace<P>, P, G: Gate, H: Threads + Wait + Sync>(
     requires sync { IsSync H.row }
     ensures remade { OnOk result (AllZip J.remade items.old.items items.new.items) }
     ensures kept { OnErr result (items.new.items ≡ items.old.items) }
-    ensures memory { OnErr result (IsErrOf result Fault.Memory) }
-    ensures empty { vec_len items.old ≡ 0 → IsOk result }
-    ensures nothing { vec_len items.old ≡ 0
+    ensures refused { IsForMemory (vec_len items.old) result }
+    ensures nothing { min (vec_len items.old) (min n_jobs (J.OpensSlots.slot_count post.old)) ≡ 0
         → (J.OpensSlots.view post.new ≡ J.OpensSlots.view post.old)
         × (account_of runner.new.notices ≡ account_of runner.old.notices) }
     ensures played { let jobs = min (vec_len items.old) (min n_jobs (J.OpensSlots.slot_count post.old)) in
-        OnOk result (2 ≤ jobs → PlayedRound jobs (J.OpensSlots.view post.old) (J.OpensSlots.view post.new)) }
+        OnOk result (2 ≤ jobs
+        → PlayedRound jobs (J.OpensSlots.view post.old) (J.OpensSlots.view post.new)) }
     ensures direct { min (vec_len items.old) (min n_jobs (J.OpensSlots.slot_count post.old)) ≤ 1
         → J.OpensSlots.view post.new ≡ J.OpensSlots.view post.old }
     ensures left { OnErr result (J.OpensSlots.view post.new ≡ J.OpensSlots.view post.old) }

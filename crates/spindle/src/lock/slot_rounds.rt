@@ -2,11 +2,12 @@
 //!
 //! A round goes one way: items, pieces, slots, outputs. All memory that a round takes is taken before its first job, and want
 //! of memory is the only thing that it is refused for.
-ghost use Rattle.std.specs.Prelude.{◌≡◌, ◌<◌, ◌≤◌, [], refl, IfOk, OnOk, OnErr, IsOk, IsErrOf, length, vec_len, vec_capacity};
+ghost use Rattle.std.specs.Prelude.{◌≡◌, ◌<◌, ◌≤◌, [], refl, IfOk, OnOk, OnErr, IsErrOf, length, vec_len, vec_capacity};
 ghost use Rattle.std.specs.List.{AllZip};
+ghost use Rattle.std.proofs.Common.{not-suc-le-zero};
 ghost use Rattle.spindle_parts.specs.Pieces.{counted};
 ghost use Rattle.spindle_parts.specs.declared.fault.Fault.TheVariants.{Memory};
-ghost use Rattle.spindle.specs.SlotLeaders.{threads_of, slots_of, slot_jobs, DidNothing, IsAsBefore, IsBetweenRounds, PlayedOnce};
+ghost use Rattle.spindle.specs.SlotLeaders.{threads_of, slots_of, slot_jobs, GoesOn, IsAsBefore, IsBetweenRounds, IsForMemory, PlayedAs, PlayedOnce};
 
 use crate::lock::slot_leader::SlotLeader;
 use spindle_parts::fault::Fault;
@@ -34,17 +35,11 @@ impl<'a, J: PlaysPieces<P>, G: Gate, P> SlotLeader<'a, J, G, P> {
     ) -> Result<Vec<J::Out>, Fault>
         requires jobs { 0 < vec_len items → 0 < n_jobs }
         ensures answer { IfOk result (λ outputs. AllZip J.meets items.items outputs.items) }
-        ensures memory { OnErr result (IsErrOf result Fault.Memory) }
-        ensures empty { vec_len items ≡ 0 → IsOk result }
-        ensures nothing { vec_len items ≡ 0 → DidNothing J.OpensSlots.view self.old self.new }
-        ensures played { let jobs = slot_jobs J.OpensSlots.slot_count self.old (vec_len items) n_jobs in
-            OnOk result (2 ≤ jobs → PlayedOnce J.OpensSlots.view jobs self.old self.new) }
-        ensures direct { slot_jobs J.OpensSlots.slot_count self.old (vec_len items) n_jobs ≤ 1
-            → IsAsBefore J.OpensSlots.view self.old self.new }
-        ensures left { OnErr result (IsAsBefore J.OpensSlots.view self.old self.new) }
-        ensures between { IsBetweenRounds J.OpensSlots.view self.new }
-        ensures lock { threads_of self.new ≡ threads_of self.old }
-        ensures slots { IsAsBefore J.OpensSlots.slot_count self.old self.new }
+        ensures refused { IsForMemory (vec_len items) result }
+        ensures trail { PlayedAs J.OpensSlots.view
+            (slot_jobs J.OpensSlots.slot_count self.old (vec_len items) n_jobs)
+            self.old self.new result }
+        ensures goes_on { GoesOn J.OpensSlots.view J.OpensSlots.slot_count self.old self.new }
     {
         let mut outputs = Vec::new(alloc);
         self.round_into(rt, alloc, n_jobs, items, &mut outputs)?;
@@ -63,17 +58,11 @@ impl<'a, J: PlaysPieces<P>, G: Gate, P> SlotLeader<'a, J, G, P> {
         requires jobs { 0 < vec_len items → 0 < n_jobs }
         ensures answer { OnOk result (AllZip J.meets items.items outputs.new.items) }
         ensures given_up { OnErr result (outputs.new.items ≡ []) }
-        ensures memory { OnErr result (IsErrOf result Fault.Memory) }
-        ensures empty { vec_len items ≡ 0 → IsOk result }
-        ensures nothing { vec_len items ≡ 0 → DidNothing J.OpensSlots.view self.old self.new }
-        ensures played { let jobs = slot_jobs J.OpensSlots.slot_count self.old (vec_len items) n_jobs in
-            OnOk result (2 ≤ jobs → PlayedOnce J.OpensSlots.view jobs self.old self.new) }
-        ensures direct { slot_jobs J.OpensSlots.slot_count self.old (vec_len items) n_jobs ≤ 1
-            → IsAsBefore J.OpensSlots.view self.old self.new }
-        ensures left { OnErr result (IsAsBefore J.OpensSlots.view self.old self.new) }
-        ensures between { IsBetweenRounds J.OpensSlots.view self.new }
-        ensures lock { threads_of self.new ≡ threads_of self.old }
-        ensures slots { IsAsBefore J.OpensSlots.slot_count self.old self.new }
+        ensures refused { IsForMemory (vec_len items) result }
+        ensures trail { PlayedAs J.OpensSlots.view
+            (slot_jobs J.OpensSlots.slot_count self.old (vec_len items) n_jobs)
+            self.old self.new result }
+        ensures goes_on { GoesOn J.OpensSlots.view J.OpensSlots.slot_count self.old self.new }
     {
         outputs.clear();
         let slots = J::slots(&self.post);
@@ -110,9 +99,7 @@ impl<'a, J: PlaysPieces<P>, G: Gate, P> SlotLeader<'a, J, G, P> {
         ensures played { OnOk result
             (PlayedOnce J.OpensSlots.view (S.pieces items.old) self.old self.new) }
         ensures left { OnErr result (IsAsBefore J.OpensSlots.view self.old self.new) }
-        ensures between { IsBetweenRounds J.OpensSlots.view self.new }
-        ensures lock { threads_of self.new ≡ threads_of self.old }
-        ensures slots { IsAsBefore J.OpensSlots.slot_count self.old self.new }
+        ensures goes_on { GoesOn J.OpensSlots.view J.OpensSlots.slot_count self.old self.new }
     {
         let (runner, post) = (&mut self.runner, &mut self.post);
         let played = J::play(rt, alloc, post, runner, items, outputs);
@@ -126,7 +113,7 @@ impl<'a, J: PlaysPieces<P>, G: Gate, P> SlotLeader<'a, J, G, P> {
 impl<'a, J: PlaysPieces<P>, G: Gate, P> Rounds<J> for SlotLeader<'a, J, G, P> {
     ghost threads = { λ leader. threads_of leader };
 
-    ghost refuses = { λ _ _ fault. fault ≡ Memory };
+    ghost refuses = { λ _ jobs fault. (fault ≡ Memory) × (0 < jobs) };
 
     ghost rests = { λ leader. IsBetweenRounds J.OpensSlots.view leader };
 
@@ -147,7 +134,9 @@ impl<'a, J: PlaysPieces<P>, G: Gate, P> Rounds<J> for SlotLeader<'a, J, G, P> {
         self.round_into(rt, alloc, n_jobs, items, outputs)
     }
 
-    ghost may_want_memory = { λ _ _. refl };
+    ghost may_want_memory = { λ _ _ some. (refl, some) };
+
+    ghost never_of_none = { λ _ _ refused. not-suc-le-zero refused.1 };
 }
 
 impl<'a, J: PlaysPieces<P, In = usize>, G: Gate, P> SlotLeader<'a, J, G, P> {
@@ -161,16 +150,9 @@ impl<'a, J: PlaysPieces<P, In = usize>, G: Gate, P> SlotLeader<'a, J, G, P> {
     ) -> Result<Vec<J::Out>, Fault>
         requires slots { n_jobs ≤ slots_of J.OpensSlots.slot_count self.old }
         ensures answer { IfOk result (λ outputs. AllZip J.meets (counted 0 n_jobs) outputs.items) }
-        ensures memory { OnErr result (IsErrOf result Fault.Memory) }
-        ensures empty { n_jobs ≡ 0 → IsOk result }
-        ensures nothing { n_jobs ≡ 0 → DidNothing J.OpensSlots.view self.old self.new }
-        ensures played { OnOk result
-            (2 ≤ n_jobs → PlayedOnce J.OpensSlots.view n_jobs self.old self.new) }
-        ensures direct { n_jobs ≤ 1 → IsAsBefore J.OpensSlots.view self.old self.new }
-        ensures left { OnErr result (IsAsBefore J.OpensSlots.view self.old self.new) }
-        ensures between { IsBetweenRounds J.OpensSlots.view self.new }
-        ensures lock { threads_of self.new ≡ threads_of self.old }
-        ensures slots { IsAsBefore J.OpensSlots.slot_count self.old self.new }
+        ensures refused { IsForMemory n_jobs result }
+        ensures trail { PlayedAs J.OpensSlots.view n_jobs self.old self.new result }
+        ensures goes_on { GoesOn J.OpensSlots.view J.OpensSlots.slot_count self.old self.new }
     {
         let _slots = J::slots(&self.post);
         if n_jobs == 0 {

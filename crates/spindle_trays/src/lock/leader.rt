@@ -1,11 +1,11 @@
 //! The leader of a lock: rounds over lists of items.
 //!
 //! A round goes one way: items, pieces, jobs, outputs. All memory that a round takes is taken before its first job.
-ghost use Rattle.std.specs.Prelude.{◌≡◌, ◌<◌, ◌≤◌, [], IfOk, IfErr, OnOk, OnErr, IsOk, IsNone, IsErrOf, vec_len, vec_capacity};
+ghost use Rattle.std.specs.Prelude.{◌≡◌, ◌<◌, ◌≤◌, [], IfOk, IfErr, OnOk, OnErr, IsNone, IsErrOf, vec_len, vec_capacity};
 ghost use Rattle.std.specs.List.{AllZip};
 ghost use Rattle.std.specs.Fn.{FnOnceReturnsAtMut};
 ghost use Rattle.spindle_parts.specs.Pieces.{counted};
-ghost use Rattle.spindle_trays.specs.Leaders.{crew_of, threads_of, hands_of, AnnouncedRest, DidNothing, IsBetweenRounds, MadeNoStep, PlayedOnce, LeftByRefusal};
+ghost use Rattle.spindle_trays.specs.Leaders.{crew_of, threads_of, hands_of, AnnouncedRest, GoesOn, IsSameLock, MadeNoStep, PlayedAs, PlayedOnce};
 ghost use Rattle.spindle_trays.specs.Rounds.{job_count, IsRefusal};
 
 use crate::job::Job;
@@ -68,18 +68,11 @@ impl<'a, J: Opens<L>, G: Gate, L> Leader<'a, J, G, L> {
     ) -> Result<Vec<J::Out>, Fault>
         requires jobs { 0 < vec_len items → 0 < n_jobs }
         ensures answer { IfOk result (λ outputs. AllZip J.meets items.items outputs.items) }
-        ensures refused { IfErr result
-            (IsRefusal (hands_of self.old) (job_count (vec_len items) n_jobs)) }
-        ensures empty { vec_len items ≡ 0 → IsOk result }
-        ensures nothing { vec_len items ≡ 0 → DidNothing self.old self.new }
-        ensures played { let jobs = job_count (vec_len items) n_jobs in
-            OnOk result (2 ≤ jobs → PlayedOnce jobs self.old self.new) }
-        ensures direct { job_count (vec_len items) n_jobs ≤ 1 → MadeNoStep self.old self.new }
-        ensures left { IfErr result
-            (LeftByRefusal (job_count (vec_len items) n_jobs) self.old self.new) }
-        ensures between { IsBetweenRounds self.new }
-        ensures lock { threads_of self.new ≡ threads_of self.old }
-        ensures hands { hands_of self.new ≡ hands_of self.old }
+        ensures refused { let jobs = job_count (vec_len items) n_jobs in
+            IfErr result (IsRefusal (hands_of self.old) jobs) }
+        ensures trail { let jobs = job_count (vec_len items) n_jobs in
+            PlayedAs jobs self.old self.new result }
+        ensures goes_on { GoesOn self.old self.new }
     {
         let mut outputs = Vec::new(alloc);
         self.round_into(rt, alloc, n_jobs, items, &mut outputs)?;
@@ -98,18 +91,11 @@ impl<'a, J: Opens<L>, G: Gate, L> Leader<'a, J, G, L> {
         requires jobs { 0 < vec_len items → 0 < n_jobs }
         ensures answer { OnOk result (AllZip J.meets items.items outputs.new.items) }
         ensures given_up { OnErr result (outputs.new.items ≡ []) }
-        ensures refused { IfErr result
-            (IsRefusal (hands_of self.old) (job_count (vec_len items) n_jobs)) }
-        ensures empty { vec_len items ≡ 0 → IsOk result }
-        ensures nothing { vec_len items ≡ 0 → DidNothing self.old self.new }
-        ensures played { let jobs = job_count (vec_len items) n_jobs in
-            OnOk result (2 ≤ jobs → PlayedOnce jobs self.old self.new) }
-        ensures direct { job_count (vec_len items) n_jobs ≤ 1 → MadeNoStep self.old self.new }
-        ensures left { IfErr result
-            (LeftByRefusal (job_count (vec_len items) n_jobs) self.old self.new) }
-        ensures between { IsBetweenRounds self.new }
-        ensures lock { threads_of self.new ≡ threads_of self.old }
-        ensures hands { hands_of self.new ≡ hands_of self.old }
+        ensures refused { let jobs = job_count (vec_len items) n_jobs in
+            IfErr result (IsRefusal (hands_of self.old) jobs) }
+        ensures trail { let jobs = job_count (vec_len items) n_jobs in
+            PlayedAs jobs self.old self.new result }
+        ensures goes_on { GoesOn self.old self.new }
     {
         outputs.clear();
         if items.is_empty() {
@@ -140,8 +126,7 @@ impl<'a, J: Opens<L>, G: Gate, L> Leader<'a, J, G, L> {
         ensures given_up { OnErr result (outputs.new.items ≡ []) }
         ensures played { OnOk result (2 ≤ jobs → PlayedOnce jobs self.old self.new) }
         ensures direct { jobs ≤ 1 → MadeNoStep self.old self.new }
-        ensures lock { threads_of self.new ≡ threads_of self.old }
-        ensures hands { hands_of self.new ≡ hands_of self.old }
+        ensures lock { IsSameLock self.old self.new }
     {
         if jobs == 1 {
             let inputs = items.as_slice();
@@ -170,10 +155,8 @@ impl<'a, J: Opens<L>, G: Gate, L> Leader<'a, J, G, L> {
         ensures answer { OnOk result (AllZip J.meets items.items outputs.new.items) }
         ensures given_up { OnErr result (outputs.new.items ≡ []) }
         ensures refused { IfErr result (IsRefusal (hands_of self.old) jobs) }
-        ensures played { OnOk result (PlayedOnce jobs self.old self.new) }
-        ensures left { IfErr result (LeftByRefusal jobs self.old self.new) }
-        ensures lock { threads_of self.new ≡ threads_of self.old }
-        ensures hands { hands_of self.new ≡ hands_of self.old }
+        ensures trail { PlayedAs jobs self.old self.new result }
+        ensures lock { IsSameLock self.old self.new }
     {
         let pieces = Pieces::new(SharedList::from_vec(alloc, items)?, jobs);
         let trays = J::trays(self.workspace);
@@ -245,17 +228,11 @@ impl<'a, J: Opens<L, In = usize>, G: Gate, L> Leader<'a, J, G, L> {
         n_jobs: usize,
     ) -> Result<Vec<J::Out>, Fault>
         ensures answer { IfOk result (λ outputs. AllZip J.meets (counted 0 n_jobs) outputs.items) }
-        ensures refused { IfErr result
-            (IsRefusal (hands_of self.old) (job_count n_jobs n_jobs)) }
-        ensures empty { n_jobs ≡ 0 → IsOk result }
-        ensures nothing { n_jobs ≡ 0 → DidNothing self.old self.new }
-        ensures played { let jobs = job_count n_jobs n_jobs in
-            OnOk result (2 ≤ jobs → PlayedOnce jobs self.old self.new) }
-        ensures direct { n_jobs ≤ 1 → MadeNoStep self.old self.new }
-        ensures left { IfErr result (LeftByRefusal (job_count n_jobs n_jobs) self.old self.new) }
-        ensures between { IsBetweenRounds self.new }
-        ensures lock { threads_of self.new ≡ threads_of self.old }
-        ensures hands { hands_of self.new ≡ hands_of self.old }
+        ensures refused { let jobs = job_count n_jobs n_jobs in
+            IfErr result (IsRefusal (hands_of self.old) jobs) }
+        ensures trail { let jobs = job_count n_jobs n_jobs in
+            PlayedAs jobs self.old self.new result }
+        ensures goes_on { GoesOn self.old self.new }
     {
         if n_jobs == 0 {
             return Ok(Vec::new(alloc));

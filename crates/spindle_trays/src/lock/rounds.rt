@@ -2,13 +2,13 @@
 //!
 //! Code that only runs rounds names `Rounds` and takes either leader.
 ghost use denote.Param.Send.{IsSync};
-ghost use Rattle.std.specs.Prelude.{◌≡◌, ◌<◌, [], ℕ, IfOk, IfErr, OnOk, OnErr, IsOk, length, vec_len};
+ghost use Rattle.std.specs.Prelude.{◌≡◌, ◌<◌, [], ℕ, IfOk, IfErr, OnOk, OnErr, length, vec_len};
 ghost use Rattle.std.specs.List.{AllZip};
 ghost use Rattle.spindle_parts.specs.declared.fault.Fault.{Fault};
 ghost use Rattle.spindle_parts.specs.declared.fault.Fault.TheVariants.{Memory};
 ghost use Rattle.spindle_trays.specs.ChunkRounds.{IsMapped};
 ghost use Rattle.spindle_trays.specs.Leaders.{threads_of, hands_of, IsBetweenRounds};
-ghost use Rattle.spindle_trays.specs.Rounds.{job_count, IsRefusal};
+ghost use Rattle.spindle_trays.specs.Rounds.{job_count, never_of_none, GoesOnAs, IsRefusal};
 
 use crate::job::Job;
 use crate::job::gate::Gate;
@@ -53,14 +53,13 @@ pub trait Rounds<J: Job> {
         ensures taken { items.new.items ≡ [] }
         ensures given_up { OnErr result (outputs.new.items ≡ []) }
         ensures refused { IfErr result (refuses self.old (job_count (vec_len items.old) n_jobs)) }
-        ensures empty { vec_len items.old ≡ 0 → IsOk result }
-        ensures rests { rests self.new }
-        ensures lock { threads self.new ≡ threads self.old }
-        ensures hands { (jobs : ℕ) → (fault : Fault) → refuses self.new jobs fault
-            → refuses self.old jobs fault };
+        ensures goes_on { GoesOnAs threads refuses rests self.old self.new };
 
-    /// Each of its rounds may be refused for want of memory.
-    ghost may_want_memory: { (leader : Self) → (jobs : ℕ) → refuses leader jobs Memory };
+    /// Each of its rounds may be refused for want of memory,
+    ghost may_want_memory: { (leader : Self) → (jobs : ℕ) → 0 < jobs → refuses leader jobs Memory };
+
+    /// but a round of no jobs is never refused.
+    ghost never_of_none: { (leader : Self) → (fault : Fault) → refuses leader 0 fault → ⊥ };
 }
 
 impl<'a, J: Opens<L>, G: Gate, L> Rounds<J> for Leader<'a, J, G, L> {
@@ -86,7 +85,9 @@ impl<'a, J: Opens<L>, G: Gate, L> Rounds<J> for Leader<'a, J, G, L> {
         self.round_into(rt, alloc, n_jobs, items, outputs)
     }
 
-    ghost may_want_memory = { λ _ _. tt };
+    ghost may_want_memory = { λ _ _ some. some };
+
+    ghost never_of_none = { λ leader. never_of_none (hands_of leader) };
 }
 
 /// Rounds over the chunks of one list, by jobs that answer a list or a failure each. Whatever runs rounds over such jobs has them.
@@ -113,11 +114,8 @@ pub trait ChunkRounds<
         ensures answer { IfOk result (λ all. IsMapped J.meets n_jobs list.now all) }
         ensures refused { IfErr result
             (Self.Rounds.refuses self.old (job_count (length list.now) n_jobs)) }
-        ensures empty { length list.now ≡ 0 → IsOk result }
-        ensures rests { Self.Rounds.rests self.new }
-        ensures lock { Self.Rounds.threads self.new ≡ Self.Rounds.threads self.old }
-        ensures hands { (jobs : ℕ) → (fault : Fault) → Self.Rounds.refuses self.new jobs fault
-            → Self.Rounds.refuses self.old jobs fault }
+        ensures goes_on { GoesOnAs Self.Rounds.threads Self.Rounds.refuses
+            Self.Rounds.rests self.old self.new }
     {
         let _threads = self.max_num_threads();
         if list.is_empty() {

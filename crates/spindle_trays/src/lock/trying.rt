@@ -2,7 +2,7 @@
 ghost use Rattle.std.specs.Prelude.{◌≡◌, ℕ, ◌<◌, ◌≤◌, Bool, List, None, IfOk, IfErr, OnOk, OnErr, IsErrOf, length, vec_len};
 ghost use Rattle.std.specs.List.{Contains};
 ghost use Rattle.spindle_rounds.specs.Leftovers.{IsMarked};
-ghost use Rattle.spindle_trays.specs.Leaders.{hands_of, AreLeft, IsBetweenRounds, IsSameLock, IsTryRefusal, MadeNoStep, TriedAndMarked, TriedAs};
+ghost use Rattle.spindle_trays.specs.Leaders.{hands_of, AreLeft, GoesOn, IsSameLock, IsTryRefusal, MadeNoStep, TriedAndMarked, TriedAs};
 ghost use Rattle.spindle_trays.specs.Reports.{IsNoted, IsOfNone, IsReport};
 ghost use Rattle.spindle_trays.specs.Rounds.{job_count};
 
@@ -47,7 +47,7 @@ impl<'a, J: Opens<L>, G: Gate, L> Leader<'a, J, G, L> {
             IfErr result (IsTryRefusal J.meets J.fails items.items jobs self.old self.new) }
         ensures trail { let jobs = job_count (vec_len items) n_jobs in
             TriedAs jobs self.old self.new result }
-        ensures goes_on { IsSameLock self.old self.new × IsBetweenRounds self.new }
+        ensures goes_on { GoesOn self.old self.new }
     {
         let mut report = Report::new(alloc);
         self.try_for_each_into(rt, alloc, n_jobs, items, &mut report)?;
@@ -75,7 +75,7 @@ impl<'a, J: Opens<L>, G: Gate, L> Leader<'a, J, G, L> {
             IfErr result (IsTryRefusal J.meets J.fails items.items jobs self.old self.new) }
         ensures trail { let jobs = job_count (vec_len items) n_jobs in
             TriedAs jobs self.old self.new result }
-        ensures goes_on { IsSameLock self.old self.new × IsBetweenRounds self.new }
+        ensures goes_on { GoesOn self.old self.new }
     {
         let Report { ran, skipped } = mem::replace(report, Report::new(alloc));
         if items.is_empty() {

@@ -1,5 +1,5 @@
 //! Rounds of a job's own: each opens a lock in the job, unless it has one job, which runs at once.
-ghost use Rattle.std.specs.Prelude.{◌≡◌, ◌<◌, ◌≤◌, IfOk, IfErr, OnErr, IsErrOf, IsOk, vec_len};
+ghost use Rattle.std.specs.Prelude.{◌≡◌, ◌<◌, ◌≤◌, IfOk, IfErr, OnErr, IsErrOf, vec_len};
 ghost use Rattle.std.specs.List.{AllZip};
 ghost use Rattle.spindle_parts.specs.Pieces.{counted};
 ghost use Rattle.spindle_trays.specs.Leaders.{hands_of};
@@ -32,7 +32,6 @@ impl<'a, K: Job> JobCx<'a, Under<K>> {
         ensures answer { IfOk result (λ outputs. AllZip K.meets items.items outputs.items) }
         ensures refused { let jobs = job_count (vec_len items) n_jobs in
             IfErr result (IsRefusal (hands_in self.old jobs) jobs) }
-        ensures empty { vec_len items ≡ 0 → IsOk result }
         ensures same { self.new ≡ self.old }
     {
         if items.is_empty() {
@@ -84,7 +83,6 @@ impl<'a, K: Job<In = usize>> JobCx<'a, Under<K>> {
         ensures answer { IfOk result (λ outputs. AllZip K.meets (counted 0 n_jobs) outputs.items) }
         ensures refused { let jobs = job_count n_jobs n_jobs in
             IfErr result (IsRefusal (hands_in self.old jobs) jobs) }
-        ensures empty { n_jobs ≡ 0 → IsOk result }
         ensures same { self.new ≡ self.old }
     {
         if n_jobs == 0 {

@@ -1,6 +1,5 @@
 -- The totals of the chunks have the total of the list.
-use Rattle.std.proofs.Common.{◌≡◌, false, true, ap, ◌∙◌}
-use Rattle.std.proofs.lemmas.List.{nil_from_length}
+use Rattle.std.proofs.Common.{ap, ◌∙◌}
 use Rattle.spindle.specs.Folds.{total_of}
 use Rattle.spindle.proofs.Folds.{total_of_chunks}
 use Rattle.spindle.proofs.lock.folds.reduce.Goals as goal
@@ -13,9 +12,3 @@ returns-clause-answer g c =
     c.combined.ensures
     ∙ total_of_chunks C.combine C.neutral C.of laws.associative laws.is_neutral c.in_ok-chunks.chunks.items totals.totals.items totals.ensures.answer
     ∙ ap (total_of C.combine C.neutral C.of) c.in_ok-chunks.ensures.joined
-
-pub returns-in_err-chunks-clause-empty : goal.returns-in_err-chunks-clause-empty
-returns-in_err-chunks-clause-empty g c = λ none. let no : false ≡ true = c.if-is_empty.ensures.1 (nil_from_length _ none) in absurd cc
-
-pub returns-in_err-totals-clause-empty : goal.returns-in_err-totals-clause-empty
-returns-in_err-totals-clause-empty g c = λ none. let no : false ≡ true = c.if-is_empty.ensures.1 (nil_from_length _ none) in absurd cc

@@ -1,12 +1,9 @@
 -- There is a job: one is asked for at least, and there are items.
-use Rattle.std.proofs.Common.{ℕ, ◌<◌, arith, refl, sym, subst}
+use Rattle.std.proofs.Common.{ℕ, ◌<◌, arith, sym, subst}
 use Rattle.std.proofs.Math.Nat.{pos_of_ne-zero}
 use Rattle.spindle.proofs.Jobs.{some_jobs}
 use Rattle.spindle.proofs.lock.one_round.run_one.Goals as goal
 use Rattle.spindle.proofs.lock.one_round.run_one.Goals.{then-n_jobs-eq0, else-n_jobs-eq0}
-
-pub returns-then-is_empty-clause-empty : goal.returns-then-is_empty-clause-empty
-returns-then-is_empty-clause-empty g c = λ _. refl
 
 pub with_lock-requires-clause-some : goal.with_lock-requires-clause-some
 with_lock-requires-clause-some g c κs within =

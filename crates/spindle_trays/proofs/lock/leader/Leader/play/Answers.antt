@@ -1,16 +1,17 @@
 -- A round that is refused leaves no outputs.
-use Rattle.std.proofs.Common.{ap, refl, ◌∙◌}
+use Rattle.std.proofs.Common.{◌<◌, ap, arith, refl, ◌∙◌}
 use Rattle.std.proofs.lemmas.Result.{err_from_is_err_and}
-use Rattle.spindle_trays.proofs.LeaderRounds.{all_jobs, passed_on}
+use Rattle.spindle_trays.proofs.LeaderRounds.{all_jobs, passed_on, played_two}
 use Rattle.spindle_trays.proofs.lock.leader.Leader.play.Goals as goal
 
 pub returns-in_err-from_vec : goal.returns-in_err-from_vec
 returns-in_err-from_vec g c = let p = err_from_is_err_and c.from_residual.result c.from_residual.ensures.1 in
-    rw (p.1, p.2) (record { answer = tt; given_up = c.requires.empty; refused = tt; played = tt; left = refl; lock = refl; hands = refl })
+    let some : 0 < c.args.jobs = omega (arith, c.requires.jobs.0) in
+    rw (p.1, p.2) (record { answer = tt; given_up = c.requires.empty; refused = some; trail = refl; lock = (refl, refl) })
 
 pub returns-in_err-hand_out : goal.returns-in_err-hand_out
 returns-in_err-hand_out g c = rw (passed_on c.from_residual-in_err-hand_out.result c.from_residual-in_err-hand_out.ensures.1 c.in_err-hand_out.ensures)
-    (record { answer = tt; given_up = c.requires.empty; refused = tt; played = tt; left = refl; lock = refl; hands = refl })
+    (record { answer = tt; given_up = c.requires.empty; refused = omega (arith, c.requires.jobs.0); trail = refl; lock = (refl, refl) })
 
 pub returns-in-Ok : goal.returns-in-Ok
 returns-in-Ok g c = let p = c.new-pieces.ensures in let own = c.in_ok-from_vec.ensures.items in let a = c.play_ahead-first.ensures in
@@ -19,10 +20,8 @@ returns-in-Ok g c = let p = c.new-pieces.ensures in let own = c.in_ok-from_vec.e
       answer = rw (p.items ∙ own) at c.in-Ok.ensures.answers;
       given_up = tt;
       refused = tt;
-      played = rw same at a.played;
-      left = tt;
-      lock = ap (λ t. t.now.crew.most) a.tables;
-      hands = ap (λ t. t.now.crew.threads) a.tables;
+      trail = played_two c.args.jobs c.requires.jobs.0 (rw same at a.played);
+      lock = (ap (λ t. t.now.crew.most) a.tables, ap (λ t. t.now.crew.threads) a.tables);
     }
 
 pub returns : goal.returns
@@ -32,8 +31,6 @@ returns g c = let p = c.new-pieces.ensures in let own = c.in_ok-from_vec.ensures
       answer = tt;
       given_up = c.clear.ensures.items;
       refused = (rw same at c.in-Err.ensures.lost, c.requires.jobs.0, c.requires.threads);
-      played = tt;
-      left = rw same at a.played;
-      lock = ap (λ t. t.now.crew.most) a.tables;
-      hands = ap (λ t. t.now.crew.threads) a.tables;
+      trail = rw same at a.played;
+      lock = (ap (λ t. t.now.crew.most) a.tables, ap (λ t. t.now.crew.threads) a.tables);
     }

@@ -1,5 +1,5 @@
 -- What was skipped is marked, what is marked the round has left, and one job alone marks none.
-use Rattle.std.proofs.Common.{◌≡◌, ◌≤◌, ℕ, true, Some, Contains, sym, subst, refl, ◌∙◌}
+use Rattle.std.proofs.Common.{◌≡◌, ◌≤◌, ℕ, true, Some, Contains, arith, sym, subst, refl, ◌∙◌}
 use Rattle.std.proofs.lemmas.Result.{err_from_is_err_and}
 use Rattle.spindle_rounds.specs.Leftovers.{IsMarked}
 use Rattle.spindle_trays.proofs.LeaderRounds.{passed_on, none_marked, left_same, lost_refusal, lost_played}
@@ -27,7 +27,7 @@ returns-in-Ok g c = let e = c.in_ok-try_jobs.ensures in let n = c.args.pieces.no
       skipped = λ two. left_same n (Contains report.skipped.items) (IsMarked marks) old new c.in-Ok.ensures.skipped
           (subst (λ xs. AreLeft n (IsMarked xs) old new) (sym c.as_slice.ensures.value) (e.tried two).1);
       refused = tt;
-      trail = (λ two. (e.tried two).0, λ one. (e.direct one).0);
+      trail = ((λ two. (e.tried two).0), (λ one. (e.direct one).0), λ none. absurd (omega (arith, c.args.pieces.now.some, none)));
       lock = e.lock;
     }
 

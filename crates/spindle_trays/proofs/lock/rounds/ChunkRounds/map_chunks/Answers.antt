@@ -1,8 +1,8 @@
 -- An empty list is no chunk, and a round over chunks has the jobs of one over the list.
-use Rattle.std.proofs.Common.{ℕ, IfErr, subst, refl, rules}
-use Rattle.std.proofs.lemmas.Bool.{false≢true}
+use Rattle.std.proofs.Common.{ℕ, ◌<◌, IfErr, arith, length, subst, refl, rules}
 use Rattle.std.proofs.lemmas.Result.{IfOk-from_err}
-use Rattle.spindle_trays.proofs.ChunkRounds.{no_items, some_items, mapped_nothing, jobs_of_chunks}
+use Rattle.spindle_trays.specs.Rounds.{job_count}
+use Rattle.spindle_trays.proofs.ChunkRounds.{some_items, mapped_nothing, jobs_of_chunks}
 use Rattle.spindle_trays.proofs.LeaderRounds.{passed_on}
 use Rattle.spindle_trays.proofs.lock.rounds.ChunkRounds.map_chunks.Goals as goal
 
@@ -17,18 +17,13 @@ returns-in_err-for_each_into-clause-refused g c =
     subst (λ (jobs : ℕ). IfErr c.from_residual-in_err-for_each_into.result (g.Self.Rounds.refuses c.args.self.now jobs)) same (search rules)
 
 pub returns-in_err-chunks : goal.returns-in_err-chunks
-returns-in_err-chunks g c = rw (passed_on c.from_residual.result c.from_residual.ensures.1 c.in_err-chunks.ensures.memory)
-    (record {
+returns-in_err-chunks g c = let some = some_items c.args.list.now c.is_empty.result c.is_empty.ensures c.if-is_empty.false in
+    let more : 0 < job_count (length c.args.list.now) c.args.n_jobs = omega (arith, some, c.requires.jobs some) in
+    rw (passed_on c.from_residual.result c.from_residual.ensures.1 c.in_err-chunks.ensures.memory) (record {
       answer = tt;
-      refused = search rules;
-      empty = no_items _ _ c.is_empty.ensures c.if-is_empty.false;
-      rests = c.max_num_threads-threads.ensures.rests;
-      lock = refl;
-      hands = λ jobs fault refused. refused;
+      refused = search (rules, more);
+      goes_on = (refl, c.max_num_threads-threads.ensures.rests, λ jobs fault refused. refused);
     })
 
 pub returns-in_err-for_each_into-clause-answer : goal.returns-in_err-for_each_into-clause-answer
 returns-in_err-for_each_into-clause-answer g c = IfOk-from_err _ _ c.from_residual-in_err-for_each_into.ensures.0
-
-pub returns-in_err-for_each_into-clause-empty : goal.returns-in_err-for_each_into-clause-empty
-returns-in_err-for_each_into-clause-empty g c none = absurd (false≢true (no_items _ _ c.is_empty.ensures c.if-is_empty.false none))
