@@ -6,17 +6,15 @@
 #[cfg(test)]
 mod checks;
 #[cfg(test)]
-mod fault_rows;
+mod ends;
 #[cfg(test)]
-mod grid_rows;
+mod plays;
 #[cfg(test)]
-mod line_rows;
+mod rows;
 #[cfg(test)]
-mod machine_rows;
+mod streams;
 #[cfg(test)]
 mod trials;
-#[cfg(test)]
-mod word_rows;
 
 pub use spindle_commands::{Stop, run};
 use std::env;

@@ -1,14 +1,16 @@
-//! Plays of the machine by their worked rows.
+//! Plays of the machine: the worked rows, a line of steps and the line that answers it.
 use crate::checks::{holds, is};
-use crate::trials::{Row, outcome};
-use spindle_commands::Stop;
+use crate::trials::outcome;
 use std::alloc::AllocError;
 use std::sync::Wait;
 use std::test::Fail;
 use std::thread::Threads;
 
-/// A helper closes by leaving: the leader has arrived, and the last member that is in goes.
-const CLOSED_BY_EXIT: [Row<'static>; 13] = [
+// A step, and its answer.
+type Line = (&'static str, &'static str);
+
+// A helper closes by leaving: the leader has arrived, and the last member that is in goes.
+const CLOSED_BY_EXIT: [Line; 13] = [
     ("join 0", "00010001"),
     ("join 1", "00020002"),
     ("publish 0 2", "00020002"),
@@ -24,8 +26,8 @@ const CLOSED_BY_EXIT: [Row<'static>; 13] = [
     ("end 1", "80010001"),
 ];
 
-/// A helper comes in mid-round, waits, leaves, comes again and goes before the leader closes.
-const COMES_AND_GOES: [Row<'static>; 17] = [
+// A helper comes in mid-round, waits, leaves, comes again and goes before the leader closes.
+const COMES_AND_GOES: [Line; 17] = [
     ("join 0", "00010001"),
     ("publish 0 2", "00010001"),
     ("join 1", "00020002"),
@@ -45,8 +47,8 @@ const COMES_AND_GOES: [Row<'static>; 17] = [
     ("end 0", "80010001"),
 ];
 
-/// A leave is refused under a closer.
-const LEAVES_UNDER_A_CLOSER: [Row<'static>; 7] = [
+// A leave is refused under a closer.
+const LEAVES_UNDER_A_CLOSER: [Line; 7] = [
     ("join 0", "00010001"),
     ("join 1", "00020002"),
     ("arrive 0", "00020001"),
@@ -56,8 +58,8 @@ const LEAVES_UNDER_A_CLOSER: [Row<'static>; 7] = [
     ("end 1", "80020002"),
 ];
 
-/// One leaves while it waits, and the other closes.
-const LEAVES_WHILE_IT_WAITS: [Row<'static>; 7] = [
+// One leaves while it waits, and the other closes.
+const LEAVES_WHILE_IT_WAITS: [Line; 7] = [
     ("join 0", "00010001"),
     ("join 1", "00020002"),
     ("arrive 0", "00020001"),
@@ -67,15 +69,15 @@ const LEAVES_WHILE_IT_WAITS: [Row<'static>; 7] = [
     ("end 1", "80010001"),
 ];
 
-/// A sole exit ends the round.
-const EXITS_ALONE: [Row<'static>; 3] = [
+// A sole exit ends the round.
+const EXITS_ALONE: [Line; 3] = [
     ("join 0", "00010001"),
     ("exit 0", "80000000"),
     ("join 1", "80010001"),
 ];
 
-/// The last one that is in exits, and closes.
-const LAST_ONE_EXITS: [Row<'static>; 8] = [
+// The last one that is in exits, and closes.
+const LAST_ONE_EXITS: [Line; 8] = [
     ("join 0", "00010001"),
     ("join 1", "00020002"),
     ("join 2", "00030003"),
@@ -86,8 +88,8 @@ const LAST_ONE_EXITS: [Row<'static>; 8] = [
     ("end 2", "80020002"),
 ];
 
-/// A round of one party that it stops itself.
-const STOPPED: [Row<'static>; 9] = [
+// A round of one party that it stops itself.
+const STOPPED: [Line; 9] = [
     ("join 0", "00010001"),
     ("publish-try 0 3", "00010001"),
     ("rest 0", "00010001 0"),
@@ -99,16 +101,16 @@ const STOPPED: [Row<'static>; 9] = [
     ("end 0", "80010001"),
 ];
 
-/// A round that may not stop.
-const MAY_NOT_STOP: [Row<'static>; 4] = [
+// A round that may not stop.
+const MAY_NOT_STOP: [Line; 4] = [
     ("join 0", "00010001"),
     ("publish 0 3", "00010001"),
     ("rest 0", "00010001 0"),
     ("stop 0", "refused"),
 ];
 
-/// Another party sees the stop, and takes nothing more.
-const SEEN: [Row<'static>; 11] = [
+// Another party sees the stop, and takes nothing more.
+const SEEN: [Line; 11] = [
     ("join 0", "00010001"),
     ("join 1", "00020002"),
     ("publish-try 0 8", "00020002"),
@@ -122,8 +124,8 @@ const SEEN: [Row<'static>; 11] = [
     ("arrive 0", "00020000"),
 ];
 
-/// A whole published round of two parties.
-const WHOLE_ROUND: [Row<'static>; 26] = [
+// A whole published round of two parties.
+const WHOLE_ROUND: [Line; 26] = [
     ("join 0", "00010001"),
     ("join 1", "00020002"),
     ("publish 1 5", "refused"),
@@ -152,83 +154,55 @@ const WHOLE_ROUND: [Row<'static>; 26] = [
     ("join 2", "80030003"),
 ];
 
-/// Whether each line is answered as its row says.
-fn plays<H: Threads + Wait + AllocGlobal + Sync>(rt: &H, rows: &[Row]) -> Result<bool, AllocError> {
-    let mut input = String::new(rt.alloc());
-    let mut text = String::new(rt.alloc());
-    for (line, answer) in rows {
-        add_row(&mut input, &mut text, line, answer)?;
-    }
-    Ok(outcome(rt, "steps", input.as_str())?.is(text.as_str()))
-}
+const PLAYS: [&[Line]; 10] = [
+    &WHOLE_ROUND,
+    &CLOSED_BY_EXIT,
+    &COMES_AND_GOES,
+    &LEAVES_UNDER_A_CLOSER,
+    &LEAVES_WHILE_IT_WAITS,
+    &EXITS_ALONE,
+    &LAST_ONE_EXITS,
+    &STOPPED,
+    &MAY_NOT_STOP,
+    &SEEN,
+];
 
-fn add_row(
-    input: &mut String,
-    text: &mut String,
-    line: &str,
-    answer: &str,
-) -> Result<(), AllocError> {
-    writeln!(input, "{line}")?;
-    writeln!(text, "{answer}")
-}
-
-#[test]
-fn a_round_without_jobs(rt: HostRuntime) -> Result<(), Fail> {
-    holds(&rt, plays(&rt, &LEAVES_UNDER_A_CLOSER)?);
-    holds(&rt, plays(&rt, &LEAVES_WHILE_IT_WAITS)?);
-    holds(&rt, plays(&rt, &EXITS_ALONE)?);
-    holds(&rt, plays(&rt, &LAST_ONE_EXITS)?);
-    Ok(())
-}
-
-#[test]
-fn a_whole_published_round(rt: HostRuntime) -> Result<(), Fail> {
-    holds(&rt, plays(&rt, &WHOLE_ROUND)?);
-    Ok(())
-}
-
-#[test]
-fn parties_come_and_go(rt: HostRuntime) -> Result<(), Fail> {
-    holds(&rt, plays(&rt, &COMES_AND_GOES)?);
-    holds(&rt, plays(&rt, &CLOSED_BY_EXIT)?);
-    Ok(())
-}
-
-/// Plays the rows with one more party, which comes and goes before each line at which there is no closer.
-fn plays_with_a_visitor<H: Threads + Wait + AllocGlobal + Sync>(
+// Whether each line is answered as the play says; with a visitor, one more party comes and goes before each line at which there is
+// no closer, but the first.
+fn is_answered<H: Threads + Wait + AllocGlobal + Sync>(
     rt: &H,
-    rows: &[Row],
+    play: &[Line],
+    visitor: bool,
 ) -> Result<bool, AllocError> {
     let mut input = String::new(rt.alloc());
     let mut text = String::new(rt.alloc());
     let mut word = 0;
-    for (place, (line, answer)) in rows.iter().enumerate() {
-        let closing = word & 0x7fff == 0;
-        if place > 0 && !closing {
+    for (line, answer) in play {
+        if visitor && word & 0x7fff != 0 {
             let with_visitor = u64::from(word) + 0x00010001;
             writeln!(input, "join 2\nexit 2")?;
             writeln!(text, "{with_visitor:08x}\n{word:08x}")?;
         }
-        add_row(&mut input, &mut text, line, answer)?;
-        if let Some(digits) = answer.get(..8) {
-            word = u32::from_str_radix(digits, 16).unwrap_or(word);
-        }
+        writeln!(input, "{line}")?;
+        writeln!(text, "{answer}")?;
+        word = word_of(answer).unwrap_or(word);
     }
-    Ok(outcome(rt, "steps", input.as_str())?.is(text.as_str()))
+    Ok(outcome(rt, "steps", input.as_bytes())?.is(text.as_str(), Ok(())))
+}
+
+// The barrier word that an answer begins with.
+fn word_of(answer: &str) -> Option<u32> {
+    u32::from_str_radix(answer.get(..8)?, 16).ok()
 }
 
 #[test]
-fn a_visitor_changes_no_answer(rt: HostRuntime) -> Result<(), Fail> {
-    holds(&rt, plays_with_a_visitor(&rt, &COMES_AND_GOES)?);
-    holds(&rt, plays_with_a_visitor(&rt, &CLOSED_BY_EXIT)?);
-    Ok(())
-}
-
-#[test]
-fn a_stopped_round_ends_with_jobs_left(rt: HostRuntime) -> Result<(), Fail> {
-    holds(&rt, plays(&rt, &STOPPED)?);
-    holds(&rt, plays(&rt, &MAY_NOT_STOP)?);
-    holds(&rt, plays(&rt, &SEEN)?);
+fn each_play_is_answered_line_by_line(rt: HostRuntime) -> Result<(), Fail> {
+    for play in PLAYS {
+        holds(&rt, is_answered(&rt, play, false)?);
+    }
+    for play in [&CLOSED_BY_EXIT[..], &COMES_AND_GOES[..]] {
+        holds(&rt, is_answered(&rt, play, true)?);
+    }
     Ok(())
 }
 
@@ -238,7 +212,7 @@ fn the_last_place_is_taken(rt: HostRuntime) -> Result<(), Fail> {
     for party in 0..32768u32 {
         writeln!(input, "join {party}")?;
     }
-    let played = outcome(&rt, "steps", input.as_str())?;
+    let played = outcome(&rt, "steps", input.as_bytes())?;
     is(
         &rt,
         (played.end, played.text.len()),
@@ -246,16 +220,5 @@ fn the_last_place_is_taken(rt: HostRuntime) -> Result<(), Fail> {
     );
     holds(&rt, played.text.starts_with(b"00010001\n00020002\n"));
     holds(&rt, played.text.ends_with(b"7ffe7ffe\n7fff7fff\nrefused\n"));
-    Ok(())
-}
-
-#[test]
-fn refused_memory_leaves_the_answers_before(rt: HostRuntime) -> Result<(), Fail> {
-    let whole = "00010001\n00020002\n00030003\n00030002\n";
-    if let Ok(trial) = outcome(&rt, "steps", "join 0\njoin 7\njoin 900\narrive 7\n") {
-        holds(&rt, whole.as_bytes().starts_with(trial.text.as_slice()));
-        holds(&rt, trial.text.len() % 9 == 0);
-        holds(&rt, trial.is(whole) || trial.end == Err(Stop::Memory));
-    }
     Ok(())
 }
