@@ -79,6 +79,13 @@ try_tests() {
 #: refusals [CRATE..]   play the tests named refused_ with each of their allocations refused in turn
 refusals() { .ci/refusals "$@"; }
 
+#: soak [SECONDS]       play uneven jobs in each kind of lock for so long (15), with nothing proved, and check each answer
+soak() {
+  local seconds=${1:-15}
+  # A round goes on where the time is over, and the build takes a minute.
+  (cd crates/spindle_soak && rt try --seconds $((60 + 2 * seconds)) -- "$seconds")
+}
+
 #: edits CRATE          try a crate's must-fail edits, which the prover must refuse, one after another
 edits() { rt must-fail "${1:?which crate}"; }
 
@@ -102,6 +109,6 @@ format() {
 figures() { .ci/figures; }
 
 case ${1:-} in
-  prove | add-to | check | test | refusals | edits | bench | format | figures) "$@" ;;
+  prove | add-to | check | test | refusals | soak | edits | bench | format | figures) "$@" ;;
   *) sed -n 's|^#: |./do |p' do && exit 2 ;;
 esac

@@ -1,91 +1,41 @@
-//! Rows of the calls that spare a caller his own: one round in a lock of its own, folds, chunks of one list, and rounds into a list
-//! that the caller keeps.
+//! Rows of the calls that spare a caller his own. No clause says how many jobs and threads one call has, and that the memory of a
+//! list which the caller keeps serves again.
 ghost use Rattle.std.specs.Prelude.{◌≡◌, ◌<◌};
 ghost use denote.Param.Send.{IsSync};
 
 use crate::checks::{are, holds, is};
-use crate::chunks::{AddOne, Halve, LastOdd, Odd};
+use crate::chunks::AddOne;
 use crate::jobs::{Calls, Counting, Place, Square};
 use spindle::lock::{ChunkRounds, Limits, NoGate, Pool, Rounds};
-use spindle::{Fault, SharedList, reduce, run_one, with_lock, with_slots};
+use spindle::{Fault, SharedList, run_one, with_lock, with_slots};
 use std::alloc::Global;
 use std::process::Abort;
 use std::sync::Wait;
 use std::test::Fail;
 use std::thread::Threads;
 
-#[test]
-fn one_call_answers_in_order(rt: HostRuntime) -> Result<(), Fault> {
-    let alloc = rt.alloc();
-    let pool = Pool::new(4, Limits::new(), NoGate);
-    for jobs in [0, 1, 3, 10, 11, usize::MAX] {
-        let numbers = vec![in alloc; 0, 1, 2, 3, 4, 5, 6, 7, 8, 9]?;
-        let squares = run_one::<Square>(&rt, alloc, &pool, jobs, numbers)?;
-        are(&rt, &squares, &[0, 1, 4, 9, 16, 25, 36, 49, 64, 81]);
-        let squares = run_one::<Square>(&rt, alloc, &pool, jobs, Vec::new(alloc))?;
-        holds(&rt, squares.is_empty());
-    }
-    Ok(())
-}
+// The jobs that are asked for over ten numbers in a pool of three threads, those that run, and the threads of their lock.
+const ONE_CALL: [(usize, usize, usize); 6] = [
+    (0, 3, 3),
+    (1, 1, 1),
+    (2, 2, 2),
+    (4, 4, 3),
+    (11, 10, 3),
+    (usize::MAX, 10, 3),
+];
 
-// The jobs of one call over ten numbers, in a pool of three threads.
 #[test]
-fn no_number_of_jobs_asks_for_one_a_thread(rt: HostRuntime) -> Result<(), Fault> {
+fn one_call_has_no_more_threads_than_jobs(rt: HostRuntime) -> Result<(), Fault> {
     let alloc = rt.alloc();
-    for (asked, jobs) in [(0, 3), (1, 1), (2, 2), (4, 4), (11, 10)] {
+    for (asked, jobs, threads) in ONE_CALL {
         let calls = Calls::new();
         let pool = Pool::new(3, Limits::new(), Counting { calls: &calls });
         let numbers = vec![in alloc; 0, 1, 2, 3, 4, 5, 6, 7, 8, 9]?;
-        let squares = run_one::<Square>(&rt, alloc, &pool, asked, numbers)?;
-        is(&rt, squares.len(), 10);
+        let places = run_one::<Place>(&rt, alloc, &pool, asked, numbers)?;
         is(&rt, calls.in_all(), (jobs, jobs));
-    }
-    Ok(())
-}
-
-// The threads of the lock of one call, in a pool of four.
-#[test]
-fn the_lock_of_one_call_has_no_more_threads_than_jobs(rt: HostRuntime) -> Result<(), Fault> {
-    let alloc = rt.alloc();
-    let pool = Pool::new(4, Limits::new(), NoGate);
-    for (jobs, threads) in [(0, 4), (1, 1), (2, 2), (4, 4), (9, 4)] {
-        let numbers = vec![in alloc; 0, 1, 2, 3, 4, 5, 6, 7, 8, 9]?;
-        let places = run_one::<Place>(&rt, alloc, &pool, jobs, numbers)?;
+        is(&rt, places.len(), 10);
         holds(&rt, places.iter().all(|place| place.2 == threads));
     }
-    Ok(())
-}
-
-#[test]
-fn a_fold_keeps_the_order_of_its_list(rt: HostRuntime) -> Result<(), Fault> {
-    let alloc = rt.alloc();
-    let pool = Pool::new(4, Limits::new(), NoGate);
-    let list = SharedList::from_vec(alloc, vec![in alloc; 2, 7, 4, 4, 9, 6, 5, 8, 8, 2]?)?;
-    let even = SharedList::from_vec(alloc, vec![in alloc; 2, 4]?)?;
-    let none = SharedList::from_vec(alloc, Vec::new(alloc))?;
-    for jobs in [0, 1, 3, 10, usize::MAX] {
-        is(&rt, reduce::<LastOdd>(&rt, alloc, &pool, jobs, &list)?, 5);
-        is(&rt, reduce::<LastOdd>(&rt, alloc, &pool, jobs, &even)?, 0);
-        is(&rt, reduce::<LastOdd>(&rt, alloc, &pool, jobs, &none)?, 0);
-    }
-    Ok(())
-}
-
-// What a leader answers to a table of five by chunks.
-fn add_by_chunks<
-    R: ChunkRounds<u32, u64, std::alloc::AllocError, AddOne>,
-    H: Threads + Wait + Abort + Sync,
->(rt: &H, alloc: Global, leader: &mut R) -> Result<(), Fault>
-    requires { IsSync H.row }
-{
-    let table = SharedList::from_vec(alloc, vec![in alloc; 0u32, 7, 9, 2, u32::MAX]?)?;
-    for jobs in [1, 2, 5, usize::MAX] {
-        let sums = leader.map_chunks(rt, alloc, jobs, &table)??;
-        are(rt, &sums, &[1, 8, 10, 3, 4294967296]);
-    }
-    let none = SharedList::from_vec(alloc, Vec::new(alloc))?;
-    let sums = leader.map_chunks(rt, alloc, 0, &none)??;
-    is(rt, sums.len(), 0);
     Ok(())
 }
 
@@ -93,37 +43,15 @@ fn add_by_chunks<
 fn chunks_are_one_list_again(rt: HostRuntime) -> Result<(), Fault> {
     let alloc = rt.alloc();
     let pool = Pool::new(4, Limits::new(), NoGate);
-    for threads in [1, 4] {
-        with_lock::<AddOne, _, _, _, _, _>(&rt, alloc, &pool, threads, |leader| {
-            add_by_chunks(&rt, alloc, leader)
-        })??;
-        with_slots::<AddOne, _, _, _, _, _>(&rt, alloc, &pool, threads, 3, |leader| {
-            add_by_chunks(&rt, alloc, leader)
-        })??;
-    }
+    let table = SharedList::from_vec(alloc, vec![in alloc; 0u32, 7, 9, 2, u32::MAX]?)?;
+    let sums = with_slots::<AddOne, _, _, _, _, _>(&rt, alloc, &pool, 4, 3, |leader| {
+        leader.map_chunks(&rt, alloc, 5, &table)
+    })???;
+    are(&rt, &sums, &[1, 8, 10, 3, 4294967296]);
     Ok(())
 }
 
-#[test]
-fn the_first_chunk_that_fails_is_answered(rt: HostRuntime) -> Result<(), Fault> {
-    let alloc = rt.alloc();
-    let pool = Pool::new(4, Limits::new(), NoGate);
-    let even = SharedList::from_vec(alloc, vec![in alloc; 2, 6, 4, 0]?)?;
-    let odd = SharedList::from_vec(alloc, vec![in alloc; 2, 6, 5, 0, 7]?)?;
-    with_lock::<Halve, _, _, _, _, _>(&rt, alloc, &pool, 4, |leader| {
-        for jobs in [1, 2, 5] {
-            let Ok(halves) = leader.map_chunks(&rt, alloc, jobs, &even)? else {
-                return Err(Fault::Memory);
-            };
-            are(&rt, &halves, &[1, 3, 2, 0]);
-            let failed = leader.map_chunks(&rt, alloc, jobs, &odd)?;
-            holds(&rt, matches!(failed, Err(Odd::Element(5))));
-        }
-        Ok::<(), Fault>(())
-    })?
-}
-
-// Two rounds into one list, whose memory serves again.
+// Rounds into one list, whose memory serves again.
 fn square_into<R: Rounds<Square>, H: Threads + Wait + Abort + Sync>(
     rt: &H,
     alloc: Global,

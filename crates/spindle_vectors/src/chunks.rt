@@ -3,8 +3,6 @@
 ghost use Rattle.std.specs.Prelude.{◌≡◌, ◌+◌, ◌/◌, IfOk, map};
 ghost use Rattle.std.proofs.Common.{rules};
 
-#[cfg(test)]
-use crate::checks::{are, is};
 use spindle::ListRun;
 use spindle::lock::{Combine, End, Job, JobCx};
 use std::alloc::{AllocError, Global};
@@ -130,26 +128,4 @@ impl Combine for LastOdd {
     ghost associative = { later_associative };
 
     ghost is_neutral = { (refl, λ _ _. refl) };
-}
-
-#[cfg(test)]
-mod tests {
-    use super::*;
-    use spindle::SharedList;
-    use std::test::Fail;
-
-    #[test]
-    fn each_element_of_a_chunk_becomes_one_more(rt: HostRuntime) -> Result<(), Fail> {
-        let alloc = rt.alloc();
-        let table = SharedList::from_vec(alloc, vec![in alloc; 0u32, 7, u32::MAX]?)?;
-        let chunks = table.share_out(alloc, &[1, 2])?;
-        is(&rt, chunks.len(), 2);
-        are(&rt, one_more(alloc, chunks[0].as_slice())?.as_slice(), &[1]);
-        are(
-            &rt,
-            one_more(alloc, chunks[1].as_slice())?.as_slice(),
-            &[8, 4294967296],
-        );
-        Ok(())
-    }
 }

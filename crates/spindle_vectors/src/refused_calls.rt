@@ -1,8 +1,9 @@
 //! What a refused allocation leaves of the calls that open a lock of their own, or go over a list by chunks: no job was run, and the
 //! same call with memory answers in full.
 //!
-//! Each of these tests ends well whichever one of its allocations is refused. With memory for all, they show the full answers.
-ghost use Rattle.std.specs.Prelude.{◌<◌};
+//! Each of these tests ends well whichever one of its allocations is refused, so of two equal calls one answers, and a call that
+//! fails a test by its refusal takes no memory. With memory for all, they show the full answers.
+ghost use Rattle.std.specs.Prelude.{◌<◌, ◌≤◌};
 
 use crate::checks::{are, holds, is};
 use crate::chunks::{Halve, LastOdd};
@@ -18,16 +19,20 @@ fn refused_call_of_one_round_has_run_no_job(rt: HostRuntime) -> Result<(), Fault
     for jobs in [1, 4] {
         let calls = Calls::new();
         let pool = Pool::new(4, Limits::new(), Counting { calls: &calls });
-        let squares = match run_one::<Square>(&rt, alloc, &pool, jobs, seven_items(alloc)?) {
-            Ok(squares) => squares,
-            Err(fault) => {
-                holds(&rt, matches!(fault, Fault::Memory));
-                is(&rt, calls.in_all(), (0, 0));
-                run_one::<Square>(&rt, alloc, &pool, jobs, seven_items(alloc)?)?
+        for _ in 0..2 {
+            let before = calls.in_all();
+            match run_one::<Square>(&rt, alloc, &pool, jobs, seven_items(alloc)?) {
+                Ok(squares) => {
+                    holds(&rt, are_seven_squares(squares.as_slice()));
+                    is(&rt, calls.since(before), (jobs, jobs));
+                }
+                Err(_) => is(&rt, calls.since(before), (0, 0)),
             }
-        };
-        holds(&rt, are_seven_squares(squares.as_slice()));
-        is(&rt, calls.in_all(), (jobs, jobs));
+        }
+        holds(&rt, calls.in_all() != (0, 0));
+        let before = calls.in_all();
+        let none = run_one::<Square>(&rt, alloc, &pool, 0, Vec::new(alloc))?;
+        is(&rt, (none.capacity(), calls.since(before)), (0, (0, 0)));
     }
     Ok(())
 }
@@ -50,31 +55,19 @@ fn refused_fold_has_run_no_job(rt: HostRuntime) -> Result<(), Fault> {
     let calls = Calls::new();
     let pool = Pool::new(4, Limits::new(), Counting { calls: &calls });
     let list = list_of(alloc, [2, 7, 4, 6])?;
-    let total = match reduce::<LastOdd>(&rt, alloc, &pool, 0, &list) {
-        Ok(total) => total,
-        Err(fault) => {
-            holds(&rt, matches!(fault, Fault::Memory));
-            is(&rt, calls.in_all(), (0, 0));
-            reduce::<LastOdd>(&rt, alloc, &pool, 0, &list)?
+    for _ in 0..2 {
+        let before = calls.in_all();
+        match reduce::<LastOdd>(&rt, alloc, &pool, 0, &list) {
+            Ok(total) => is(&rt, (total, calls.since(before)), (7, (4, 4))),
+            Err(_) => is(&rt, calls.since(before), (0, 0)),
         }
-    };
-    is(&rt, total, 7);
-    is(&rt, calls.in_all(), (4, 4));
-    Ok(())
-}
-
-// An empty list that took memory would be refused it once.
-#[test]
-fn refused_nothing_where_a_call_has_no_items(rt: HostRuntime) -> Result<(), Fault> {
-    let alloc = rt.alloc();
-    let calls = Calls::new();
-    let pool = Pool::new(4, Limits::new(), Counting { calls: &calls });
-    let squares = run_one::<Square>(&rt, alloc, &pool, 0, Vec::new(alloc))?;
-    is(&rt, squares.capacity(), 0);
+    }
+    let before = calls.in_all();
+    holds(&rt, before != (0, 0));
     if let Ok(none) = SharedList::from_vec(alloc, Vec::new(alloc)) {
         is(&rt, reduce::<LastOdd>(&rt, alloc, &pool, 0, &none)?, 0);
     }
-    is(&rt, calls.in_all(), (0, 0));
+    is(&rt, calls.since(before), (0, 0));
     Ok(())
 }
 
@@ -98,49 +91,33 @@ fn refused_round_over_chunks_is_answered_when_asked_again(rt: HostRuntime) -> Re
     Ok(())
 }
 
-#[test]
-fn refused_round_into_a_kept_list_leaves_it_empty(rt: HostRuntime) -> Result<(), Fault> {
-    let alloc = rt.alloc();
-    let calls = Calls::new();
-    let pool = Pool::new(4, Limits::new(), Counting { calls: &calls });
-    let mut squares = Vec::new(alloc);
-    let mut items = seven_items(alloc)?;
-    let played = with_slots::<Square, _, _, _, _, _>(&rt, alloc, &pool, 4, 4, |leader| {
-        leader.for_each_into(&rt, alloc, 4, &mut items, &mut squares)
-    });
-    if let Ok(Ok(())) = played {
-        holds(&rt, are_seven_squares(squares.as_slice()));
-        is(&rt, calls.in_all(), (4, 4));
-    } else {
-        is(&rt, (squares.len(), calls.in_all()), (0, (0, 0)));
-    }
-    Ok(())
-}
-
 // With as many jobs as items no list is shared, and the room of a round serves the next one: where one of three rounds is refused,
 // it is the first, and no job has run.
 #[test]
 fn refused_rounds_in_slots_are_refused_before_the_first(rt: HostRuntime) -> Result<(), Fault> {
     let alloc = rt.alloc();
-    let calls = Calls::new();
-    let pool = Pool::new(4, Limits::new(), Counting { calls: &calls });
-    let mut squares = Vec::new(alloc);
-    let mut lists = [
-        seven_items(alloc)?,
-        seven_items(alloc)?,
-        seven_items(alloc)?,
-    ];
-    let played = with_slots::<Square, _, _, _, _, _>(&rt, alloc, &pool, 4, 7, |leader| {
-        for items in &mut lists {
-            leader.for_each_into(&rt, alloc, 7, items, &mut squares)?;
+    for (jobs, rounds) in [(4, 1), (7, 3)] {
+        let calls = Calls::new();
+        let pool = Pool::new(4, Limits::new(), Counting { calls: &calls });
+        let mut squares = Vec::new(alloc);
+        let mut lists = [
+            seven_items(alloc)?,
+            seven_items(alloc)?,
+            seven_items(alloc)?,
+        ];
+        let played = with_slots::<Square, _, _, _, _, _>(&rt, alloc, &pool, 4, 7, |leader| {
+            for items in lists.iter_mut().take(rounds) {
+                leader.for_each_into(&rt, alloc, jobs, items, &mut squares)?;
+            }
+            Ok::<(), Fault>(())
+        });
+        if let Ok(Ok(())) = played {
+            holds(&rt, are_seven_squares(squares.as_slice()));
+            let all = jobs.wrapping_mul(rounds);
+            is(&rt, calls.in_all(), (all, all));
+        } else {
+            is(&rt, (squares.len(), calls.in_all()), (0, (0, 0)));
         }
-        Ok::<(), Fault>(())
-    });
-    if let Ok(Ok(())) = played {
-        holds(&rt, are_seven_squares(squares.as_slice()));
-        is(&rt, calls.in_all(), (21, 21));
-    } else {
-        is(&rt, calls.in_all(), (0, 0));
     }
     Ok(())
 }

@@ -1,0 +1,88 @@
+//! Rounds of uneven jobs by the thousand, in each kind of lock and in locks that jobs open, with few threads and with 64, without
+//! a pause before sleep and with the default limits. Each answer is checked; a wrong one ends the program.
+//!
+//! The word says for how many seconds, 15 where there is none. A line a kind has its rounds, how long the longest took, and the
+//! memory that the program has then.
+#![tactic(auto)]
+
+mod kinds;
+mod rounds;
+
+use crate::kinds::{InSlots, InTrays, Places, Turns};
+use crate::rounds::{Machine, Seen, in_place, in_slots, in_trays};
+use anyhow::bail;
+use spindle::prelude::*;
+use std::time::Duration;
+use std::{env, fs};
+
+/// What is played: the kind of lock, and of those that its jobs open.
+const KINDS: [&str; 6] = [
+    "trays",
+    "slots",
+    "place",
+    "trays in trays",
+    "slots in slots",
+    "place in place",
+];
+
+fn main(rt: HostRuntime) -> anyhow::Result<()> {
+    let word = env::args(&rt)?.nth(1);
+    let seconds = match word {
+        Some(word) => word.as_str().parse::<u64>()?,
+        None => 15,
+    };
+    // Each kind is played in six pools.
+    let share = Duration::from_millis(seconds.saturating_mul(1000) / 36);
+    for kind in KINDS {
+        let mut seen = Seen::new(&rt)?;
+        for threads in [2, 5, 64] {
+            for limits in [Limits::new(), Limits { spin: 0, pause: 0 }] {
+                let pool = Pool::new(threads, limits, NoGate);
+                seen.go_on(&rt, share)?;
+                for _ in 0..u64::MAX {
+                    if seen.is_over(&rt)? {
+                        break;
+                    }
+                    play(&rt, kind, &pool, &mut seen)?;
+                }
+            }
+        }
+        if !seen.is_right {
+            bail!("{kind}: a wrong answer");
+        }
+        print(&rt, kind, &seen)?;
+    }
+    Ok(())
+}
+
+// Plays rounds in a lock of this kind.
+fn play<H: Machine>(
+    rt: &H,
+    kind: &str,
+    pool: &Pool<NoGate>,
+    seen: &mut Seen,
+) -> anyhow::Result<()> {
+    match kind {
+        "trays" => in_trays::<Turns, H>(rt, pool, seen),
+        "slots" => in_slots::<Turns, H>(rt, pool, seen),
+        "place" => in_place::<Turns, H>(rt, pool, seen),
+        "trays in trays" => in_trays::<InTrays, H>(rt, pool, seen),
+        "slots in slots" => in_slots::<InSlots, H>(rt, pool, seen),
+        _ => in_place::<Places, H>(rt, pool, seen),
+    }
+}
+
+// Prints a kind's line. The system counts the memory in pages of 4 kB.
+fn print<H: Machine>(rt: &H, kind: &str, seen: &Seen) -> anyhow::Result<()> {
+    let text = fs::read_to_string(rt, "/proc/self/statm")?;
+    let pages = text
+        .as_str()
+        .split(' ')
+        .nth(1)
+        .unwrap_or("0")
+        .parse::<u64>()?;
+    let (rounds, worst) = (seen.rounds, seen.worst.as_micros());
+    let memory = pages.saturating_mul(4);
+    println!(rt; "{kind}: {rounds} rounds, the longest took {worst} us, {memory} kB of memory")?;
+    Ok(())
+}

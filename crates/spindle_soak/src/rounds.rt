@@ -1,0 +1,199 @@
+//! Rounds of random sizes in one lock, and what they have shown.
+ghost use Rattle.std.specs.Prelude.{◌≡◌, ◌<◌, IfOk};
+ghost use denote.Param.Send.{IsSync};
+
+use spindle::lock::Nest;
+use spindle::prelude::*;
+use std::io;
+use std::rt::{Clock, Files};
+use std::time::{Duration, Instant};
+
+/// What the program needs of its runtime.
+pub trait Machine: Threads + Wait + Sync + Clock + Print + Files + Alloc<A = Global> {}
+
+impl<H: Threads + Wait + Sync + Clock + Print + Files + Alloc<A = Global>> Machine for H {}
+
+/// The rounds of a kind so far.
+#[derive(Drop)]
+pub struct Seen {
+    /// Of the last round.
+    random: u64,
+    /// How many there were.
+    pub rounds: u64,
+    /// How long the longest took.
+    pub worst: Duration,
+    /// Whether each answer was right.
+    pub is_right: bool,
+    start: Instant,
+    end: Duration,
+}
+
+/// The rounds of one lock.
+const ROUNDS: u64 = 50;
+
+/// The slots of a lock with slots, which are fewer than the jobs of some of its rounds.
+const SLOTS: usize = 25;
+
+/// Plays rounds over jobs of kind J in a lock with trays.
+pub fn in_trays<J: Job<In = u64, Out = u64> + Send, H: Machine>(
+    rt: &H,
+    pool: &Pool<NoGate>,
+    seen: &mut Seen,
+) -> anyhow::Result<()>
+where
+    J::Inner: Send,
+    <J::Inner as Nest>::Slots: Send + Sync,
+{
+    let threads = pool.max_num_threads();
+    LockOf::<J>::with_lock(
+        rt,
+        rt.alloc(),
+        pool,
+        threads,
+        |leader| -> anyhow::Result<()>
+            requires { IsSync H.row }
+        { lists::<J, _, H>(rt, leader, seen) },
+    )?
+}
+
+/// The same in a lock with slots.
+pub fn in_slots<J: Job<In = u64, Out = u64> + Send, H: Machine>(
+    rt: &H,
+    pool: &Pool<NoGate>,
+    seen: &mut Seen,
+) -> anyhow::Result<()>
+where
+    J::Inner: Send,
+    <J::Inner as Nest>::Slots: Send + Sync,
+{
+    let threads = pool.max_num_threads();
+    LockOf::<J>::with_slots(
+        rt,
+        rt.alloc(),
+        pool,
+        threads,
+        SLOTS,
+        |leader| -> anyhow::Result<()>
+            requires { IsSync H.row }
+        { lists::<J, _, H>(rt, leader, seen) },
+    )?
+}
+
+/// The same in a lock in place.
+pub fn in_place<M: Remake<Item = u64> + Send, H: Machine>(
+    rt: &H,
+    pool: &Pool<NoGate>,
+    seen: &mut Seen,
+) -> anyhow::Result<()>
+where
+    M::Inner: Send,
+    <M::Inner as Nest>::Slots: Send + Sync,
+{
+    let threads = pool.max_num_threads();
+    LockOf::<InPlace<M>>::with_slots_in_place(
+        rt,
+        rt.alloc(),
+        pool,
+        threads,
+        SLOTS,
+        |leader| -> anyhow::Result<()>
+            requires { IsSync H.row }
+        { places::<M, H>(rt, leader, seen) },
+    )?
+}
+
+fn lists<J: Job<In = u64, Out = u64>, E: Rounds<J>, H: Machine>(
+    rt: &H,
+    leader: &mut E,
+    seen: &mut Seen,
+) -> anyhow::Result<()>
+    requires { IsSync H.row }
+{
+    let mut answers = Vec::new(rt.alloc());
+    for _ in 0..ROUNDS {
+        let (jobs, mut numbers) = seen.next_round(rt.alloc())?;
+        let begun = seen.start.elapsed(rt)?;
+        leader.for_each_into(rt, rt.alloc(), jobs, &mut numbers, &mut answers)?;
+        seen.note(begun, seen.start.elapsed(rt)?, &answers);
+        if seen.is_over(rt)? {
+            break;
+        }
+    }
+    Ok(())
+}
+
+fn places<M: Remake<Item = u64>, H: Machine>(
+    rt: &H,
+    leader: &mut PlaceLeader<M, NoGate>,
+    seen: &mut Seen,
+) -> anyhow::Result<()> {
+    for _ in 0..ROUNDS {
+        let (jobs, mut numbers) = seen.next_round(rt.alloc())?;
+        let begun = seen.start.elapsed(rt)?;
+        leader.remake_each(rt, rt.alloc(), jobs, &mut numbers)?;
+        seen.note(begun, seen.start.elapsed(rt)?, &numbers);
+        if seen.is_over(rt)? {
+            break;
+        }
+    }
+    Ok(())
+}
+
+impl Seen {
+    /// None.
+    pub fn new(rt: &impl Clock) -> io::Result<Seen> {
+        Ok(Seen {
+            random: 88172645463325252,
+            rounds: 0,
+            worst: Duration::ZERO,
+            is_right: true,
+            start: Instant::now(rt)?,
+            end: Duration::ZERO,
+        })
+    }
+
+    /// More are to come for so long.
+    pub fn go_on(&mut self, rt: &impl Clock, time: Duration) -> io::Result<()> {
+        self.end = self.start.elapsed(rt)?.saturating_add(time);
+        Ok(())
+    }
+
+    /// Whether this time is over.
+    pub fn is_over(&self, rt: &impl Clock) -> io::Result<bool> {
+        Ok(self.end <= self.start.elapsed(rt)?)
+    }
+
+    // The jobs of the next round, and its numbers, one after the other.
+    fn next_round(&mut self, alloc: Global) -> Result<(usize, Vec<u64>), AllocError>
+        ensures { IfOk result (λ round. 0 < round.0) }
+    {
+        let x = self.random ^ (self.random << 13);
+        let x = x ^ (x >> 7);
+        self.random = x ^ (x << 17);
+        let jobs = 1 + (self.random >> 50) as usize % 50;
+        let numbers = (self.first()..self.first().saturating_add(self.count())).collect(alloc)?;
+        Ok((jobs, numbers))
+    }
+
+    // The first number of the last round.
+    fn first(&self) -> u64 {
+        1 + self.random % 4000000000
+    }
+
+    // How many there were.
+    fn count(&self) -> u64 {
+        (self.random >> 8) % 40
+    }
+
+    // Notes a round from its begin to its end, and whether its answers are three times its numbers.
+    fn note(&mut self, begun: Duration, ended: Duration, answers: &[u64]) {
+        self.rounds = self.rounds.saturating_add(1);
+        self.worst = self.worst.max(ended.saturating_sub(begun));
+        let mut number = self.first();
+        for answer in answers {
+            self.is_right = self.is_right & (*answer == number.wrapping_mul(3));
+            number = number.wrapping_add(1);
+        }
+        self.is_right = self.is_right & (answers.len() as u64 == self.count());
+    }
+}
