@@ -107,7 +107,7 @@ fn refused_rounds_in_slots_are_refused_before_the_first(rt: HostRuntime) -> Resu
         ];
         let played = with_slots::<Square, _, _, _, _, _>(&rt, alloc, &pool, 4, 7, |leader| {
             for items in lists.iter_mut().take(rounds) {
-                leader.for_each_into(&rt, alloc, jobs, items, &mut squares)?;
+                leader.for_each_into(&rt, alloc, jobs.max(1), items, &mut squares)?;
             }
             Ok::<(), Fault>(())
         });
