@@ -2,7 +2,7 @@
 //! a pause before sleep and with the default limits. Each answer is checked; a wrong one ends the program.
 //!
 //! The word says for how many seconds, 15 where there is none. A line a kind has its rounds, how long the longest took, and the
-//! memory that the program has then.
+//! memory that the program has then. With 0 a round is played in each lock, and nothing is printed.
 #![tactic(auto)]
 
 mod kinds;
@@ -31,28 +31,35 @@ fn main(rt: HostRuntime) -> anyhow::Result<()> {
         Some(word) => word.as_str().parse::<u64>()?,
         None => 15,
     };
-    // Each kind is played in six pools.
     let share = Duration::from_millis(seconds.saturating_mul(1000) / 36);
     for kind in KINDS {
-        let mut seen = Seen::new(&rt)?;
-        for threads in [2, 5, 64] {
-            for limits in [Limits::new(), Limits { spin: 0, pause: 0 }] {
-                let pool = Pool::new(threads, limits, NoGate);
-                seen.go_on(&rt, share)?;
-                for _ in 0..u64::MAX {
-                    if seen.is_over(&rt)? {
-                        break;
-                    }
-                    play(&rt, kind, &pool, &mut seen)?;
-                }
-            }
-        }
+        let seen = in_each_pool(&rt, kind, share)?;
         if !seen.is_right {
             bail!("{kind}: a wrong answer");
         }
-        print(&rt, kind, &seen)?;
+        if 0 < seconds {
+            print(&rt, kind, &seen)?;
+        }
     }
     Ok(())
+}
+
+// Opens locks of a kind, one after the other, for so long in each of six pools.
+fn in_each_pool<H: Machine>(rt: &H, kind: &str, share: Duration) -> anyhow::Result<Seen> {
+    let mut seen = Seen::new(rt)?;
+    for threads in [2, 5, 64] {
+        for limits in [Limits::new(), Limits { spin: 0, pause: 0 }] {
+            let pool = Pool::new(threads, limits, NoGate);
+            seen.go_on(rt, share)?;
+            for _ in 0..u64::MAX {
+                play(rt, kind, &pool, &mut seen)?;
+                if seen.is_over(rt)? {
+                    break;
+                }
+            }
+        }
+    }
+    Ok(seen)
 }
 
 // Plays rounds in a lock of this kind.
@@ -65,10 +72,10 @@ fn play<H: Machine>(
     match kind {
         "trays" => in_trays::<Turns, H>(rt, pool, seen),
         "slots" => in_slots::<Turns, H>(rt, pool, seen),
-        "place" => in_place::<Turns, H>(rt, pool, seen),
+        "place" => in_place::<InPlace<Turns>, H>(rt, pool, seen),
         "trays in trays" => in_trays::<InTrays, H>(rt, pool, seen),
         "slots in slots" => in_slots::<InSlots, H>(rt, pool, seen),
-        _ => in_place::<Places, H>(rt, pool, seen),
+        _ => in_place::<InPlace<Places>, H>(rt, pool, seen),
     }
 }
 

@@ -2,8 +2,9 @@
 ghost use Rattle.std.specs.Prelude.{◌≡◌, ◌<◌, IfOk};
 ghost use denote.Param.Send.{IsSync};
 
-use spindle::lock::Nest;
+use spindle::lock::{Nest, PlaysInPlace, Remakes};
 use spindle::prelude::*;
+use spindle::with_slots_in_place;
 use std::io;
 use std::rt::{Clock, Files};
 use std::time::{Duration, Instant};
@@ -79,26 +80,25 @@ where
     )?
 }
 
-/// The same in a lock in place.
-pub fn in_place<M: Remake<Item = u64> + Send, H: Machine>(
+/// The same in a lock in place, where J is `InPlace<M>`.
+pub fn in_place<J: Remakes<In = (), Out = (), Item = u64> + Send, H: Machine>(
     rt: &H,
     pool: &Pool<NoGate>,
     seen: &mut Seen,
 ) -> anyhow::Result<()>
 where
-    M::Inner: Send,
-    <M::Inner as Nest>::Slots: Send + Sync,
+    J::Inner: Send,
+    <J::Inner as Nest>::Slots: Send + Sync,
 {
-    let threads = pool.max_num_threads();
-    LockOf::<InPlace<M>>::with_slots_in_place(
+    with_slots_in_place::<J, NoGate, anyhow::Result<()>, _, _, H>(
         rt,
         rt.alloc(),
         pool,
-        threads,
+        pool.max_num_threads(),
         SLOTS,
         |leader| -> anyhow::Result<()>
             requires { IsSync H.row }
-        { places::<M, H>(rt, leader, seen) },
+        { places::<_, H>(rt, leader, seen) },
     )?
 }
 
@@ -112,31 +112,54 @@ fn lists<J: Job<In = u64, Out = u64>, E: Rounds<J>, H: Machine>(
     let mut answers = Vec::new(rt.alloc());
     for _ in 0..ROUNDS {
         let (jobs, mut numbers) = seen.next_round(rt.alloc())?;
-        let begun = seen.start.elapsed(rt)?;
+        let begun = seen.now(rt)?;
         leader.for_each_into(rt, rt.alloc(), jobs, &mut numbers, &mut answers)?;
-        seen.note(begun, seen.start.elapsed(rt)?, &answers);
-        if seen.is_over(rt)? {
+        if seen.note(rt, begun, answers.as_slice())? {
             break;
         }
     }
     Ok(())
 }
 
-fn places<M: Remake<Item = u64>, H: Machine>(
-    rt: &H,
-    leader: &mut PlaceLeader<M, NoGate>,
-    seen: &mut Seen,
-) -> anyhow::Result<()> {
+fn places<E: PlaysHere, H: Machine>(rt: &H, leader: &mut E, seen: &mut Seen) -> anyhow::Result<()>
+    requires { IsSync H.row }
+{
     for _ in 0..ROUNDS {
         let (jobs, mut numbers) = seen.next_round(rt.alloc())?;
-        let begun = seen.start.elapsed(rt)?;
-        leader.remake_each(rt, rt.alloc(), jobs, &mut numbers)?;
-        seen.note(begun, seen.start.elapsed(rt)?, &numbers);
-        if seen.is_over(rt)? {
+        let begun = seen.now(rt)?;
+        leader.play(rt, rt.alloc(), jobs, &mut numbers)?;
+        if seen.note(rt, begun, numbers.as_slice())? {
             break;
         }
     }
     Ok(())
+}
+
+// A leader of rounds over numbers in place.
+trait PlaysHere {
+    // One round in so many jobs.
+    fn play<H: Threads + Wait + Sync>(
+        &mut self,
+        rt: &H,
+        alloc: Global,
+        jobs: usize,
+        numbers: &mut Vec<u64>,
+    ) -> Result<(), Fault>
+        requires sync { IsSync H.row }
+        requires jobs { 0 < jobs };
+}
+
+impl<'a, J: PlaysInPlace<P> + Remakes<Item = u64>, G: Gate, P> PlaysHere
+    for SlotLeader<'a, J, G, P> {
+    fn play<H: Threads + Wait + Sync>(
+        &mut self,
+        rt: &H,
+        alloc: Global,
+        jobs: usize,
+        numbers: &mut Vec<u64>,
+    ) -> Result<(), Fault> {
+        self.remake_each(rt, alloc, jobs, numbers)
+    }
 }
 
 impl Seen {
@@ -185,15 +208,23 @@ impl Seen {
         (self.random >> 8) % 40
     }
 
-    // Notes a round from its begin to its end, and whether its answers are three times its numbers.
-    fn note(&mut self, begun: Duration, ended: Duration, answers: &[u64]) {
+    // The time since the first.
+    fn now(&self, rt: &impl Clock) -> io::Result<Duration> {
+        self.start.elapsed(rt)
+    }
+
+    // Notes a round that began then, and whether its answers are three times its numbers; tells whether the time is over.
+    fn note(&mut self, rt: &impl Clock, begun: Duration, answers: &[u64]) -> io::Result<bool> {
+        let now = self.now(rt)?;
         self.rounds = self.rounds.saturating_add(1);
-        self.worst = self.worst.max(ended.saturating_sub(begun));
+        self.worst = self.worst.max(now.saturating_sub(begun));
+        let mut is_right = answers.len() as u64 == self.count();
         let mut number = self.first();
         for answer in answers {
-            self.is_right = self.is_right & (*answer == number.wrapping_mul(3));
+            is_right = is_right & (*answer == number.wrapping_mul(3));
             number = number.wrapping_add(1);
         }
-        self.is_right = self.is_right & (answers.len() as u64 == self.count());
+        self.is_right = self.is_right & is_right;
+        Ok(self.end <= now)
     }
 }

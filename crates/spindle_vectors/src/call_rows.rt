@@ -1,13 +1,13 @@
-//! Rows of the calls that spare a caller his own. No clause says how many jobs and threads one call has, and that the memory of a
-//! list which the caller keeps serves again.
+//! Rows of calls that spare a caller his own. No clause says how many jobs one call has, on how many threads, and that the memory of
+//! a list which the caller keeps serves again.
 ghost use Rattle.std.specs.Prelude.{◌≡◌, ◌<◌};
 ghost use denote.Param.Send.{IsSync};
 
+use crate::callers;
 use crate::checks::{are, holds, is};
-use crate::chunks::AddOne;
 use crate::jobs::{Calls, Counting, Place, Square};
-use spindle::lock::{ChunkRounds, Limits, NoGate, Pool, Rounds};
-use spindle::{Fault, SharedList, run_one, with_lock, with_slots};
+use spindle::lock::{Limits, NoGate, Pool, Rounds};
+use spindle::{Fault, run_one, with_lock};
 use std::alloc::Global;
 use std::process::Abort;
 use std::sync::Wait;
@@ -39,18 +39,6 @@ fn one_call_has_no_more_threads_than_jobs(rt: HostRuntime) -> Result<(), Fault> 
     Ok(())
 }
 
-#[test]
-fn chunks_are_one_list_again(rt: HostRuntime) -> Result<(), Fault> {
-    let alloc = rt.alloc();
-    let pool = Pool::new(4, Limits::new(), NoGate);
-    let table = SharedList::from_vec(alloc, vec![in alloc; 0u32, 7, 9, 2, u32::MAX]?)?;
-    let sums = with_slots::<AddOne, _, _, _, _, _>(&rt, alloc, &pool, 4, 3, |leader| {
-        leader.map_chunks(&rt, alloc, 5, &table)
-    })???;
-    are(&rt, &sums, &[1, 8, 10, 3, 4294967296]);
-    Ok(())
-}
-
 // Rounds into one list, whose memory serves again.
 fn square_into<R: Rounds<Square>, H: Threads + Wait + Abort + Sync>(
     rt: &H,
@@ -72,16 +60,16 @@ fn square_into<R: Rounds<Square>, H: Threads + Wait + Abort + Sync>(
 }
 
 #[test]
-fn a_list_that_the_caller_keeps_serves_again(rt: HostRuntime) -> Result<(), Fault> {
+fn rounds_of_one_leader_answer_each_list(rt: HostRuntime) -> Result<(), Fault> {
     let alloc = rt.alloc();
     let pool = Pool::new(4, Limits::new(), NoGate);
-    for threads in [1, 4] {
-        with_lock::<Square, _, _, _, _, _>(&rt, alloc, &pool, threads, |leader| {
-            square_into(&rt, alloc, leader)
-        })??;
-        with_slots::<Square, _, _, _, _, _>(&rt, alloc, &pool, threads, 3, |leader| {
-            square_into(&rt, alloc, leader)
-        })??;
-    }
+    let (first, second) = with_lock::<Square, _, _, _, _, _>(&rt, alloc, &pool, 4, |leader| {
+        square_into(&rt, alloc, leader)?;
+        let first = vec![in alloc; 2, 3, 5]?;
+        let second = vec![in alloc; 7, 11]?;
+        callers::two_rounds(&rt, alloc, leader, 2, first, second)
+    })??;
+    are(&rt, &first, &[4, 9, 25]);
+    are(&rt, &second, &[49, 121]);
     Ok(())
 }

@@ -3,8 +3,8 @@
 use crate::callers;
 use crate::checks::{are, holds};
 use crate::jobs::Square;
+use spindle::Fault;
 use spindle::lock::{Limits, NoGate, Pool};
-use spindle::{Fault, with_lock};
 
 #[test]
 fn chunks_of_a_list_become_one_more(rt: HostRuntime) -> Result<(), Fault> {
@@ -34,19 +34,5 @@ fn one_thread_and_many_answer_alike(rt: HostRuntime) -> Result<(), Fault> {
     )?;
     are(&rt, &by_one, &[4, 9, 25]);
     are(&rt, &by_many, &[4, 9, 25]);
-    Ok(())
-}
-
-#[test]
-fn two_rounds_of_one_leader_answer_both_lists(rt: HostRuntime) -> Result<(), Fault> {
-    let alloc = rt.alloc();
-    let pool = Pool::new(4, Limits::new(), NoGate);
-    let (first, second) = with_lock::<Square, _, _, _, _, _>(&rt, alloc, &pool, 4, |leader| {
-        let first = vec![in alloc; 2, 3, 5]?;
-        let second = vec![in alloc; 7, 11]?;
-        callers::two_rounds(&rt, alloc, leader, 2, first, second)
-    })??;
-    are(&rt, &first, &[4, 9, 25]);
-    are(&rt, &second, &[49, 121]);
     Ok(())
 }

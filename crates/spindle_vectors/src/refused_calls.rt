@@ -92,14 +92,14 @@ fn refused_round_over_chunks_is_answered_when_asked_again(rt: HostRuntime) -> Re
 }
 
 // With as many jobs as items no list is shared, and the room of a round serves the next one: where one of three rounds is refused,
-// it is the first, and no job has run.
+// it is the first, and no job has run. The list that the caller keeps has its room still.
 #[test]
 fn refused_rounds_in_slots_are_refused_before_the_first(rt: HostRuntime) -> Result<(), Fault> {
     let alloc = rt.alloc();
     for (jobs, rounds) in [(4, 1), (7, 3)] {
         let calls = Calls::new();
         let pool = Pool::new(4, Limits::new(), Counting { calls: &calls });
-        let mut squares = Vec::new(alloc);
+        let mut squares = room_for_eight(alloc)?;
         let mut lists = [
             seven_items(alloc)?,
             seven_items(alloc)?,
@@ -111,6 +111,7 @@ fn refused_rounds_in_slots_are_refused_before_the_first(rt: HostRuntime) -> Resu
             }
             Ok::<(), Fault>(())
         });
+        is(&rt, squares.capacity(), 8);
         if let Ok(Ok(())) = played {
             holds(&rt, are_seven_squares(squares.as_slice()));
             let all = jobs.wrapping_mul(rounds);
@@ -120,4 +121,12 @@ fn refused_rounds_in_slots_are_refused_before_the_first(rt: HostRuntime) -> Resu
         }
     }
     Ok(())
+}
+
+// An empty list; where memory for it is refused once, it is asked for again.
+fn room_for_eight(alloc: Global) -> Result<Vec<u128>, Fault> {
+    match Vec::with_capacity(alloc, 8) {
+        Ok(list) => Ok(list),
+        Err(_) => Ok(Vec::with_capacity(alloc, 8)?),
+    }
 }
