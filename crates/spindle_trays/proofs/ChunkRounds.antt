@@ -1,5 +1,5 @@
 -- What follows of a round over the chunks of a list.
-use Rattle.std.proofs.Common.{◌≡◌, ◌↔◌, ℕ, ◌<◌, Bool, false, true, IsTrue, List, [], ◌∷◌, IfOk, Result, Ok, Vec, Global, vec_len, length, map, min, refl}
+use Rattle.std.proofs.Common.{◌≡◌, ◌↔◌, ℕ, ◌<◌, Bool, false, IsTrue, List, [], ◌∷◌, IfOk, Result, Ok, Vec, Global, vec_len, length, map, min, refl}
 use Rattle.std.proofs.Common.{ap, sym, ◌∙◌, arith}
 use Rattle.std.proofs.lemmas.List.{length-map}
 use Rattle.spindle_parts.specs.Pieces.{lengths_of, cut_lengths}
