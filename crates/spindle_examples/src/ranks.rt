@@ -36,5 +36,5 @@ pub fn ranks<G: Gate + Sync, H: Threads + Wait + Sync>(
     ensures { IfOk result (λ ranks. ranks.items ≡ mapped (rank numbers.items) keys.items) }
 {
     numbers.sort()?;
-    map(rt, alloc, pool, Rank { table: numbers }, keys)
+    map(rt, alloc, pool, &Rank { table: numbers }, keys)
 }

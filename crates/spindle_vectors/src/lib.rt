@@ -14,6 +14,8 @@ pub mod chunks;
 #[cfg(test)]
 mod free_rows;
 #[cfg(test)]
+mod kernel_rows;
+#[cfg(test)]
 mod refused_calls;
 
 #[cfg(test)]

@@ -1,0 +1,33 @@
+-- Calls over whole lists: what is computed of parts is what is computed of their list.
+use Rattle.std.proofs.Common.{◌≡◌, ℕ, ◌+◌, ◌<◌, List, [], ◌∷◌, ◌++◌, length, take, get_or, map, append_assoc, subst, ap, ◌∙◌}
+use Rattle.std.proofs.lemmas.List.{take_more}
+use Rattle.std.proofs.lemmas.List.Elements.{All-head, All-tail}
+use Rattle.std.specs.Prelude.{All}
+use Rattle.std.specs.List.{AllZip}
+use Rattle.spindle_parts.specs.Pieces.{joined}
+use Rattle.spindle_parts.proofs.Lists.{all_zip_append, map_snoc, joined_snoc}
+
+-- one item more, where the items are walked by an index
+pub AllZip-next : {A B : Type 0} (R : A → B → Type 0) (xs : List A) (i : ℕ) (x : A) (y : B) (ys : List B) → i < length xs → x ≡ get_or xs i x
+    → AllZip R (take i xs) ys → R x y → AllZip R (take (i + 1) xs) (ys ++ y ∷ [])
+AllZip-next R xs i x y ys h e z r =
+    let answered : AllZip R (take i xs ++ x ∷ []) (ys ++ y ∷ []) = all_zip_append R (take i xs) ys (x ∷ []) (y ∷ []) z (r, tt) in
+    rw (take_more xs i x h) (rw (← e) answered)
+
+-- one piece more, behind what there was
+pub joined-behind : {A T : Type 0} (f : A → List T) (start : List T) (ys : List A) (y : A) (all : List T) → all ≡ start ++ joined (map f ys)
+    → all ++ f y ≡ start ++ joined (map f (ys ++ y ∷ []))
+joined-behind f start ys y all e =
+    rw (map_snoc f ys y, joined_snoc (map f ys) (f y)) (ap (λ t. t ++ f y) e ∙ append_assoc start (joined (map f ys)) (f y))
+
+-- where each task holds this kernel, what became of their parts became of the list that the parts are
+pub joined_tasks : {A B K X Y : Type 0} (R : K → X → Y → Type 0) (kernel : K) (held : A → K) (f : A → List X) (g : B → List Y) (old : List A) (new : List B)
+    → All (λ a. held a ≡ kernel) old → AllZip (λ a b. AllZip (R (held a)) (f a) (g b)) old new
+    → AllZip (R kernel) (joined (map f old)) (joined (map g new))
+joined_tasks R kernel held f g [] [] k z = tt
+joined_tasks R kernel held f g [] (b ∷ bs) k z = absurd z
+joined_tasks R kernel held f g (a ∷ rest) [] k z = absurd z
+joined_tasks R kernel held f g (a ∷ rest) (b ∷ bs) k z =
+    all_zip_append (R kernel) (f a) (g b) (joined (map f rest)) (joined (map g bs))
+    (subst (λ k. AllZip (R k) (f a) (g b)) (All-head (λ a. held a ≡ kernel) a rest k) z.0)
+    (joined_tasks R kernel held f g rest bs (All-tail (λ a. held a ≡ kernel) a rest k) z.1)

@@ -1,0 +1,8 @@
+//! What a job of a call over a list is given: the kernel, and a part of the list.
+
+/// A kernel, and what it works on.
+#[derive(Drop)]
+pub struct Task<K, P> {
+    pub(crate) kernel: K,
+    pub(crate) part: P,
+}
