@@ -1,11 +1,11 @@
--- Calls over whole lists: what is computed of parts is what is computed of their list.
-use Rattle.std.proofs.Common.{◌≡◌, ℕ, ◌+◌, ◌<◌, List, [], ◌∷◌, ◌++◌, length, take, get_or, map, append_assoc, subst, ap, ◌∙◌}
-use Rattle.std.proofs.lemmas.List.{take_more}
+-- Calls over whole lists: what becomes of parts is what becomes of their list.
+use Rattle.std.proofs.Common.{◌≡◌, ℕ, ◌+◌, ◌<◌, List, [], ◌∷◌, ◌++◌, length, take, drop, get_or, set, map, append_assoc, sym, subst, ap, ◌∙◌, arith}
+use Rattle.std.proofs.lemmas.List.{take_more, drop_more, take_more_set, drop-set-lt}
 use Rattle.std.proofs.lemmas.List.Elements.{All-head, All-tail}
 use Rattle.std.specs.Prelude.{All}
 use Rattle.std.specs.List.{AllZip}
 use Rattle.spindle_parts.specs.Pieces.{joined}
-use Rattle.spindle_parts.proofs.Lists.{all_zip_append, map_snoc, joined_snoc}
+use Rattle.spindle_parts.proofs.Lists.{all_zip_append, map_snoc, joined_snoc, taken_next, dropped_next}
 
 -- one item more, where the items are walked by an index
 pub AllZip-next : {A B : Type 0} (R : A → B → Type 0) (xs : List A) (i : ℕ) (x : A) (y : B) (ys : List B) → i < length xs → x ≡ get_or xs i x
@@ -13,6 +13,17 @@ pub AllZip-next : {A B : Type 0} (R : A → B → Type 0) (xs : List A) (i : ℕ
 AllZip-next R xs i x y ys h e z r =
     let answered : AllZip R (take i xs ++ x ∷ []) (ys ++ y ∷ []) = all_zip_append R (take i xs) ys (x ∷ []) (y ∷ []) z (r, tt) in
     rw (take_more xs i x h) (rw (← e) answered)
+
+-- one item more, where each is changed in its place
+pub changed_next : {A : Type 0} (R : A → A → Type 0) (old new : List A) (i : ℕ) (x y : A) → i < length new → x ≡ get_or new i x
+    → AllZip R (take i old) (take i new) → drop i new ≡ drop i old → R x y
+    → AllZip R (take (i + 1) old) (take (i + 1) (set new i y)) × (drop (i + 1) (set new i y) ≡ drop (i + 1) old)
+changed_next R old new i x y h e z same r =
+    let front : drop i old ≡ x ∷ drop (i + 1) new = sym same ∙ drop_more new i x h ∙ ap (λ t. t ∷ drop (i + 1) new) (sym e) in
+    let taken : take (i + 1) old ≡ take i old ++ x ∷ [] = taken_next old i x (drop (i + 1) new) front in
+    let left : drop (i + 1) old ≡ drop (i + 1) new = dropped_next old i x (drop (i + 1) new) front in
+    let all : AllZip R (take i old ++ x ∷ []) (take i new ++ y ∷ []) = all_zip_append R (take i old) (take i new) (x ∷ []) (y ∷ []) z (r, tt) in
+    (rw (taken, take_more_set new i y h) all, drop-set-lt (i + 1) new i y (omega arith) ∙ sym left)
 
 -- one piece more, behind what there was
 pub joined-behind : {A T : Type 0} (f : A → List T) (start : List T) (ys : List A) (y : A) (all : List T) → all ≡ start ++ joined (map f ys)

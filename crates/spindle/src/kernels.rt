@@ -1,5 +1,5 @@
-//! Calls over whole lists: a caller writes what is computed of an item (`Kernel`), and a call opens a lock, computes the list in a few
-//! pieces a thread, and closes the lock.
+//! Calls over whole lists: a caller writes what is computed of an item (`Kernel`) or what an item becomes (`Change`), and a call opens
+//! a lock, goes over the list in a few pieces a thread, and closes the lock.
 //!
 //! `held` says how pieces hold the kernel, `source` how they read the list.
 
@@ -7,11 +7,13 @@ mod held;
 mod maps;
 mod source;
 mod tasks;
+mod updates;
 
 pub use self::held::Again;
 pub use self::maps::{Mapping, Run, map};
 pub use self::source::Source;
 pub use self::tasks::Task;
+pub use self::updates::{Updating, update};
 
 /// A kernel: what a call over a list computes of each item. It holds what it reads beside the item, as a closure holds what it
 /// captures.
@@ -28,4 +30,17 @@ pub trait Kernel {
     /// Computes one item.
     fn compute(&self, item: &Self::In) -> Self::Out
         ensures { computes self.now item.now result };
+}
+
+/// A kernel that changes each item of a list where it stands.
+pub trait Change {
+    /// What it changes.
+    type Item: Drop;
+
+    /// The relation between the kernel, an item, and what becomes of it.
+    ghost changes: { Self → Self.Item → Self.Item → Type 0 };
+
+    /// Changes one item.
+    fn change(&self, item: &mut Self::Item)
+        ensures { changes self.now item.old item.new };
 }

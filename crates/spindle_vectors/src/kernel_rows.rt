@@ -1,11 +1,11 @@
 //! Rows of calls over whole lists by a kernel, and what a refused allocation leaves of them: no job was run, and the same call with
 //! memory answers in full.
-ghost use Rattle.std.specs.Prelude.{◌≡◌, ◌+◌, ◌*◌};
+ghost use Rattle.std.specs.Prelude.{◌≡◌, ◌+◌, ◌*◌, min};
 
 use crate::checks::{are, holds, is};
 use crate::jobs::{Calls, Counting};
 use spindle::lock::{Limits, NoGate, Pool};
-use spindle::{Fault, Kernel, map};
+use spindle::{Change, Fault, Kernel, map, update};
 use std::alloc::Global;
 
 // Squares a number, and adds one that is borrowed.
@@ -79,5 +79,54 @@ fn refused_nothing_where_a_kernel_has_no_items(rt: HostRuntime) -> Result<(), Fa
     let squares = map(&rt, alloc, &pool, &kernel, Vec::new(alloc))?;
     is(&rt, squares.capacity(), 0);
     is(&rt, calls.in_all(), (0, 0));
+    Ok(())
+}
+
+// Lowers a number to a bound.
+#[derive(Drop)]
+struct Bound {
+    most: u32,
+}
+
+impl Change for Bound {
+    type Item = u32;
+
+    ghost changes = { λ kernel old new. new ≡ min old kernel.most };
+
+    fn change(&self, number: &mut u32) {
+        *number = (*number).min(self.most);
+    }
+}
+
+// The eleven numbers, none above 5.
+const BOUNDED: [u32; 11] = [3, 1, 4, 1, 5, 5, 2, 5, 5, 3, 5];
+
+#[test]
+fn an_updated_list_has_its_items_in_their_places(rt: HostRuntime) -> Result<(), Fault> {
+    let alloc = rt.alloc();
+    for threads in [1, 2, 4] {
+        let pool = Pool::new(threads, Limits::new(), NoGate);
+        let list = update(&rt, alloc, &pool, &Bound { most: 5 }, eleven_numbers(alloc)?)?;
+        are(&rt, &list, &BOUNDED);
+    }
+    Ok(())
+}
+
+#[test]
+fn refused_update_has_run_no_job(rt: HostRuntime) -> Result<(), Fault> {
+    let alloc = rt.alloc();
+    let calls = Calls::new();
+    let pool = Pool::new(4, Limits::new(), Counting { calls: &calls });
+    let kernel = Bound { most: 5 };
+    let list = match update(&rt, alloc, &pool, &kernel, eleven_numbers(alloc)?) {
+        Ok(list) => list,
+        Err(fault) => {
+            holds(&rt, matches!(fault, Fault::Memory));
+            is(&rt, calls.in_all(), (0, 0));
+            update(&rt, alloc, &pool, &kernel, eleven_numbers(alloc)?)?
+        }
+    };
+    are(&rt, &list, &BOUNDED);
+    is(&rt, calls.in_all(), (11, 11));
     Ok(())
 }

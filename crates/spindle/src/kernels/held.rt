@@ -1,7 +1,7 @@
 //! How pieces of a list hold their kernel: each has a reference to it, which is a kernel too.
 ghost use Rattle.std.specs.Prelude.{◌≡◌, IfOk};
 
-use crate::kernels::Kernel;
+use crate::kernels::{Kernel, Change};
 use std::alloc::AllocError;
 
 /// A value that each piece of a list may have.
@@ -27,5 +27,16 @@ impl<'k, K: Kernel> Kernel for &'k K {
     fn compute(&self, item: &K::In) -> K::Out {
         let kernel: &K = *self;
         kernel.compute(item)
+    }
+}
+
+impl<'k, K: Change> Change for &'k K {
+    type Item = K::Item;
+
+    ghost changes = { λ kernel old new. K.changes kernel.now old new };
+
+    fn change(&self, item: &mut K::Item) {
+        let kernel: &K = *self;
+        kernel.change(item);
     }
 }

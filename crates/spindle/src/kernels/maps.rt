@@ -7,7 +7,7 @@ ghost use Rattle.spindle.specs.Kernels.{IsOfKernel};
 use crate::kernels::Kernel;
 use crate::kernels::held::Again;
 use crate::kernels::source::{Source, parts_of};
-use crate::kernels::tasks::Task;
+use crate::kernels::tasks::{PIECES, Task};
 use crate::lock::remake_one;
 use spindle_lists::SharedList;
 use spindle_parts::fault::Fault;
@@ -20,9 +20,6 @@ use std::alloc::{AllocError, Global};
 use std::marker::PhantomData;
 use std::sync::Wait;
 use std::thread::Threads;
-
-/// So many pieces a thread.
-const PIECES: usize = 4;
 
 /// A piece of a list, and what is computed of it.
 #[derive(Drop)]

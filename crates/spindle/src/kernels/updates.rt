@@ -1,0 +1,115 @@
+//! Lists that a kernel changes in place. A job has a piece of the list, and takes no memory.
+ghost use Rattle.std.specs.Prelude.{◌≡◌, ◌<◌, ◌++◌, IfOk, IsOk, OnOk, OnErr, IsErrOf, All, map, vec_len};
+ghost use Rattle.std.specs.List.{AllZip};
+ghost use Rattle.spindle_parts.specs.Pieces.{joined};
+ghost use Rattle.spindle.specs.Kernels.{IsOfKernel};
+
+use crate::kernels::held::Again;
+use crate::kernels::tasks::{PIECES, Task};
+use crate::kernels::Change;
+use crate::lock::remake_one;
+use spindle_parts::cut::{Piece, cut};
+use spindle_parts::fault::Fault;
+use spindle_slots::job::remake::{InPlace, Remake};
+use spindle_trays::job::context::JobCx;
+use spindle_trays::job::gate::Gate;
+use spindle_trays::job::nest::End;
+use spindle_trays::lock::pool::Pool;
+use std::alloc::{AllocError, Global};
+use std::marker::PhantomData;
+use std::sync::Wait;
+use std::thread::Threads;
+
+/// The kind of job that changes the items of pieces.
+pub struct Updating<K> {
+    kind: PhantomData<K>,
+}
+
+impl<K: Change + Drop> Remake for Updating<K> {
+    type Item = Task<K, Piece<K::Item>>;
+
+    type Inner = End;
+
+    ghost remade = { λ old new.
+        AllZip (K.changes old.kernel) old.part.items.items new.part.items.items };
+
+    fn run<H: Threads + Wait + Sync>(
+        _rt: &H,
+        _alloc: Global,
+        task: Task<K, Piece<K::Item>>,
+        _cx: &mut JobCx<End>,
+    ) -> Task<K, Piece<K::Item>> {
+        let Task { kernel, part } = task;
+        let Piece { number, mut items } = part;
+        change_each::<K>(&kernel, &mut items);
+        let part = Piece { number, items };
+        Task { kernel, part }
+    }
+}
+
+// Changes each item of the list.
+fn change_each<K: Change>(kernel: &K, items: &mut Vec<K::Item>)
+    ensures { AllZip (K.changes kernel.now) items.old.items items.new.items }
+{
+    for item in items.iter_mut() {
+        kernel.change(item);
+    }
+}
+
+/// The list, each item changed by the kernel: one round in a lock that is opened for it. Memory is the only refusal, and gives the
+/// list up. An empty list takes none, and opens no lock.
+pub fn update<'k, K: Change + Send + Sync, G: Gate + Sync, H: Threads + Wait + Sync>(
+    rt: &H,
+    alloc: Global,
+    pool: &Pool<G>,
+    kernel: &'k K,
+    mut list: Vec<K::Item>,
+) -> Result<Vec<K::Item>, Fault>
+where
+    K::Item: Send,
+    ensures answer { IfOk result (λ new. AllZip (K.changes kernel.now) list.items new.items) }
+    ensures memory { OnErr result (IsErrOf result Fault.Memory) }
+    ensures empty { vec_len list ≡ 0 → IsOk result }
+{
+    if list.is_empty() {
+        return Ok(list);
+    }
+    let jobs = pool.max_num_threads().saturating_mul(PIECES);
+    let tasks = tasks_of(alloc, &kernel, cut(alloc, &mut list, jobs)?)?;
+    let tasks = remake_one::<InPlace<Updating<&'k K>>, G, H>(rt, alloc, pool, jobs, tasks)?;
+    append_items(tasks, &mut list)?;
+    Ok(list)
+}
+
+// The pieces, each with the kernel.
+fn tasks_of<K: Again, T: Drop>(
+    alloc: Global,
+    kernel: &K,
+    pieces: Vec<Piece<T>>,
+) -> Result<Vec<Task<K, Piece<T>>>, AllocError>
+    ensures parts { IfOk result (λ tasks. map (λ task. task.part) tasks.items ≡ pieces.items) }
+    ensures kernel { IfOk result (λ tasks. All (IsOfKernel kernel.now) tasks.items) }
+{
+    let mut tasks = Vec::with_capacity(alloc, pieces.len())?;
+    for part in pieces {
+        let kernel = kernel.again()?;
+        tasks.push_reserved(Task { kernel, part });
+    }
+    Ok(tasks)
+}
+
+// Moves the items of all pieces to the end of the list, one behind the other.
+fn append_items<K: Drop, T: Drop>(
+    tasks: Vec<Task<K, Piece<T>>>,
+    list: &mut Vec<T>,
+) -> Result<(), AllocError>
+    ensures { let items = joined (map (λ task. task.part.items.items) tasks.items) in
+        OnOk result (list.new.items ≡ list.old.items ++ items) }
+{
+    for task in tasks {
+        let Task { part, .. } = task;
+        let Piece { mut items, .. } = part;
+        list.append(&mut items)?;
+    }
+    Ok(())
+}
