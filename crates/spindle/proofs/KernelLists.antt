@@ -42,3 +42,11 @@ joined_tasks R kernel held f g (a ∷ rest) (b ∷ bs) k z =
     all_zip_append (R kernel) (f a) (g b) (joined (map f rest)) (joined (map g bs))
     (subst (λ k. AllZip (R k) (f a) (g b)) (All-head (λ a. held a ≡ kernel) a rest k) z.0)
     (joined_tasks R kernel held f g rest bs (All-tail (λ a. held a ≡ kernel) a rest k) z.1)
+
+-- where this holds of each element and another, that holds of what is read off them
+pub all_zip_map : {A B X Y : Type 0} (R : X → Y → Type 0) (f : A → X) (g : B → Y) (old : List A) (new : List B) → AllZip (λ a b. R (f a) (g b)) old new
+    → AllZip R (map f old) (map g new)
+all_zip_map R f g [] [] z = tt
+all_zip_map R f g [] (b ∷ bs) z = absurd z
+all_zip_map R f g (a ∷ rest) [] z = absurd z
+all_zip_map R f g (a ∷ rest) (b ∷ bs) z = (z.0, all_zip_map R f g rest bs z.1)

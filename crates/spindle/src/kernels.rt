@@ -5,13 +5,16 @@
 
 mod held;
 mod maps;
+mod pairs;
 mod source;
 mod tasks;
 mod updates;
 
 pub use self::held::Again;
 pub use self::maps::{Mapping, Run, map};
+pub use self::pairs::{PairRun, map_pairs, reduce_pairs};
 pub use self::source::Source;
+pub(crate) use self::source::parts_of;
 pub use self::tasks::Task;
 pub use self::updates::{Updating, update};
 

@@ -11,7 +11,7 @@ pub mod lock;
 pub mod prelude;
 
 pub use free::{for_each, for_each_raw};
-pub use kernels::{Kernel, Change, map, update};
+pub use kernels::{Change, Kernel, map, map_pairs, reduce_pairs, update};
 pub use lock::{
     nested, play_in_place, reduce, remake_one, run_one, with_lock, with_slots, with_slots_in_place,
 };

@@ -19,7 +19,8 @@ mod slot_opening;
 mod slot_root;
 mod slot_rounds;
 
-pub use self::folds::{Combine, Folds, reduce};
+pub(crate) use self::folds::reduce_once;
+pub use self::folds::{Combine, Folds, Part, reduce};
 pub use self::lock_of::LockOf;
 pub use self::one_round::run_one;
 pub use self::place_once::{RoundsInPlace, play_in_place, remake_one};

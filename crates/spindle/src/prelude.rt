@@ -1,6 +1,6 @@
 //! What nearly every caller imports: `use spindle::prelude::*;`.
 
-pub use crate::kernels::{Kernel, Change, map, update};
+pub use crate::kernels::{Change, Kernel, map, map_pairs, reduce_pairs, update};
 pub use crate::lock::{
     ChunkRounds, End, Gate, InPlace, Job, JobCx, Leader, Limits, LockOf, NoGate, PlaceLeader, Pool,
     Remake, Report, Rounds, SlotLeader, TellsFailures, Under, UnderInPlace, UnderSlots, reduce,

@@ -23,3 +23,4 @@ pub mod stop;
 mod sums;
 mod tile;
 pub mod trace;
+pub mod vectors;

@@ -4,8 +4,8 @@ ghost use Rattle.std.specs.Prelude.{◌≡◌, ◌+◌, ◌*◌, min};
 
 use crate::checks::{are, holds, is};
 use crate::jobs::{Calls, Counting};
-use spindle::lock::{Limits, NoGate, Pool};
-use spindle::{Change, Fault, Kernel, map, update};
+use spindle::lock::{Combine, Limits, NoGate, Pool};
+use spindle::{Change, Fault, Kernel, SharedList, map, map_pairs, reduce_pairs, update};
 use std::alloc::Global;
 
 // Squares a number, and adds one that is borrowed.
@@ -128,5 +128,81 @@ fn refused_update_has_run_no_job(rt: HostRuntime) -> Result<(), Fault> {
     };
     are(&rt, &list, &BOUNDED);
     is(&rt, calls.in_all(), (11, 11));
+    Ok(())
+}
+
+// Adds the numbers of a pair.
+#[derive(Drop)]
+struct Sum;
+
+impl Kernel for Sum {
+    type In = (u32, u32);
+
+    type Out = u64;
+
+    ghost computes = { λ kernel pair sum. sum ≡ pair.0 + pair.1 };
+
+    fn compute(&self, pair: &(u32, u32)) -> u64 {
+        u64::from(pair.0) + u64::from(pair.1)
+    }
+}
+
+#[test]
+fn pairs_go_as_far_as_both_lists(rt: HostRuntime) -> Result<(), Fault> {
+    let alloc = rt.alloc();
+    let pool = Pool::new(4, Limits::new(), NoGate);
+    let all = [103, 101, 104, 101, 105, 109, 102, 106, 105, 103, 4294967395];
+    for count in [0, 3, 11, 12] {
+        let second = vec![in alloc; 100; count]?;
+        let sums = map_pairs(&rt, alloc, &pool, &Sum, eleven_numbers(alloc)?, second)?;
+        are(&rt, &sums, &all[..count.min(11)]);
+    }
+    Ok(())
+}
+
+// The second number of the last pair whose second isn't 0, or 0: which comes later counts.
+struct LastSecond;
+
+impl Combine for LastSecond {
+    ghost use Rattle.spindle_vectors.specs.Last.{later, later_associative};
+    ghost use Rattle.std.proofs.Common.{refl};
+
+    type Item = (u32, u32);
+
+    type Total = u32;
+
+    ghost neutral = { 0 };
+
+    ghost of = { λ pair. pair.1 };
+
+    ghost combine = { later };
+
+    fn neutral() -> u32 {
+        0
+    }
+
+    fn of(pair: &(u32, u32)) -> u32 {
+        pair.1
+    }
+
+    fn combine(first: u32, second: u32) -> u32 {
+        if second == 0 { first } else { second }
+    }
+
+    ghost associative = { later_associative };
+
+    ghost is_neutral = { (refl, λ _ _. refl) };
+}
+
+#[test]
+fn pairs_are_combined_in_their_order(rt: HostRuntime) -> Result<(), Fault> {
+    let alloc = rt.alloc();
+    let pool = Pool::new(4, Limits::new(), NoGate);
+    let first = SharedList::from_vec(alloc, eleven_numbers(alloc)?)?;
+    let second = SharedList::from_vec(alloc, vec![in alloc; 0u32, 7, 0, 5, 0, 0]?)?;
+    for jobs in [0, 1, 3] {
+        let last = reduce_pairs::<_, _, LastSecond>(&rt, alloc, &pool, jobs, &first, &second)?;
+        is(&rt, last, 5);
+    }
     Ok(())
 }

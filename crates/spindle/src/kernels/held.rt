@@ -1,7 +1,7 @@
 //! How pieces of a list hold their kernel: each has a reference to it, which is a kernel too.
 ghost use Rattle.std.specs.Prelude.{◌≡◌, IfOk};
 
-use crate::kernels::{Kernel, Change};
+use crate::kernels::{Change, Kernel};
 use std::alloc::AllocError;
 
 /// A value that each piece of a list may have.

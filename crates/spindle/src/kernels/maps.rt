@@ -102,20 +102,14 @@ where
     map_once(rt, alloc, pool, kernel, &list)
 }
 
-// The same over any source.
-fn map_once<
+/// The same over any source.
+pub(crate) fn map_once<
     'k,
     K: Kernel + Send + Sync,
     S: Source<Item = K::In> + Send,
     G: Gate + Sync,
     H: Threads + Wait + Sync,
->(
-    rt: &H,
-    alloc: Global,
-    pool: &Pool<G>,
-    kernel: &'k K,
-    source: &S,
-) -> Result<Vec<K::Out>, Fault>
+>(rt: &H, alloc: Global, pool: &Pool<G>, kernel: &'k K, source: &S) -> Result<Vec<K::Out>, Fault>
 where
     K::In: Send + Sync,
     K::Out: Send,
@@ -137,7 +131,8 @@ fn map_tasks<K: Again, S: Source, U: Drop>(
     kernel: &K,
     parts: Vec<S>,
 ) -> Result<Vec<Task<K, Run<S, U>>>, AllocError>
-    ensures parts { IfOk result (λ tasks. map (λ task. task.part.source) tasks.items ≡ parts.items) }
+    ensures parts { IfOk result (λ tasks.
+        map (λ task. task.part.source) tasks.items ≡ parts.items) }
     ensures kernel { IfOk result (λ tasks. All (IsOfKernel kernel.now) tasks.items) }
 {
     let mut tasks = Vec::with_capacity(alloc, parts.len())?;

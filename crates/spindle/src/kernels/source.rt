@@ -1,9 +1,11 @@
-//! What pieces read: a run of a list.
+//! What pieces read: a run of a list. (`pairs` has runs of two lists.)
 ghost use Rattle.std.specs.Prelude.{◌≡◌, ◌<◌, ◌≤◌, [], List, IfOk, OnErr, IsErrOf, map, length, slice_range, vec_capacity};
 ghost use Rattle.std.specs.List.{AllZip};
 ghost use Rattle.spindle_parts.specs.Pieces.{joined, total};
+ghost use Rattle.spindle.specs.Folds.{total_of};
 
 use crate::kernels::Kernel;
+use crate::lock::Combine;
 use spindle_lists::ListRun;
 use spindle_parts::cut::piece_lengths;
 use spindle_parts::fault::Fault;
@@ -33,6 +35,10 @@ pub trait Source: Drop {
         requires room { length (items self.now) ≤ vec_capacity outputs.old }
         ensures outputs { AllZip (K.computes kernel.now) (items self.now) outputs.new.items }
         ensures room { vec_capacity outputs.new ≡ vec_capacity outputs.old };
+
+    /// The total of the items.
+    fn total<C: Combine<Item = Self::Item>>(&self) -> C::Total
+        ensures { result ≡ total_of C.combine C.neutral C.of (items self.now) };
 }
 
 impl<T: Drop> Source for ListRun<T> {
@@ -53,6 +59,15 @@ impl<T: Drop> Source for ListRun<T> {
         for item in items {
             outputs.push_reserved(kernel.compute(item));
         }
+    }
+
+    fn total<C: Combine<Item = T>>(&self) -> C::Total {
+        let items = self.as_slice();
+        let mut total = C::neutral();
+        for item in items {
+            total = C::combine(total, C::of(item));
+        }
+        total
     }
 }
 

@@ -4,9 +4,9 @@ ghost use Rattle.std.specs.List.{AllZip};
 ghost use Rattle.spindle_parts.specs.Pieces.{joined};
 ghost use Rattle.spindle.specs.Kernels.{IsOfKernel};
 
+use crate::kernels::Change;
 use crate::kernels::held::Again;
 use crate::kernels::tasks::{PIECES, Task};
-use crate::kernels::Change;
 use crate::lock::remake_one;
 use spindle_parts::cut::{Piece, cut};
 use spindle_parts::fault::Fault;

@@ -1,20 +1,17 @@
-//! Folding a list: each job folds a chunk of it, and the caller's thread folds what they answer.
-ghost use Rattle.std.specs.Prelude.{◌≡◌, IfOk, IfErr, fold, length};
+//! Folding a list: each job folds a piece of it, and the caller's thread folds what they answer.
+ghost use Rattle.std.specs.Prelude.{◌≡◌, IfOk, IsOk, OnErr, IsErrOf, fold, length, map};
 ghost use Rattle.spindle.specs.Folds.{IsAssociative, IsNeutral, total_of};
-ghost use Rattle.spindle_crew.specs.Crews.{lock_threads};
-ghost use Rattle.spindle.specs.OneRound.{asked_jobs};
-ghost use Rattle.spindle_trays.specs.Rounds.{job_count, IsRefusal};
-ghost use Rattle.spindle_lists.specs.Same.{equal_lists_are_same};
 
-use crate::lock::one_round::run_one;
-use spindle_lists::{EqualIsSame, ListRun, SharedList};
+use crate::kernels::{Source, parts_of};
+use crate::lock::place_once::remake_one;
+use spindle_lists::SharedList;
 use spindle_parts::fault::Fault;
-use spindle_trays::job::Job;
+use spindle_slots::job::remake::{InPlace, Remake};
 use spindle_trays::job::context::JobCx;
 use spindle_trays::job::gate::Gate;
 use spindle_trays::job::nest::End;
 use spindle_trays::lock::pool::Pool;
-use std::alloc::Global;
+use std::alloc::{AllocError, Global};
 use std::marker::PhantomData;
 use std::sync::Wait;
 use std::thread::Threads;
@@ -22,7 +19,7 @@ use std::thread::Threads;
 /// An operation that makes one total of a list, and may be done chunk by chunk.
 pub trait Combine {
     /// What the list holds.
-    type Item: Clone + EqualIsSame + Drop;
+    type Item: Drop;
 
     /// What comes of it.
     type Total: Drop;
@@ -55,59 +52,43 @@ pub trait Combine {
     ghost is_neutral: { IsNeutral combine neutral };
 }
 
-/// The kind of job that folds a chunk of a list by the operation C.
-pub struct Folds<C: Combine> {
-    operation: PhantomData<C>,
+/// A piece of a list, and its total.
+#[derive(Drop)]
+pub struct Part<S, U> {
+    source: S,
+    total: U,
 }
 
-impl<C: Combine> Job for Folds<C> {
-    type In = ListRun<C::Item>;
+/// The kind of job that folds pieces by the operation C.
+pub struct Folds<C, S> {
+    kind: PhantomData<(C, S)>,
+}
 
-    type Out = C::Total;
+impl<C: Combine, S: Source<Item = C::Item>> Remake for Folds<C, S> {
+    type Item = Part<S, C::Total>;
 
     type Inner = End;
 
-    ghost meets = { λ chunk total. total ≡ total_of C.combine C.neutral C.of chunk };
+    ghost remade = { λ old new.
+        new.total ≡ total_of C.combine C.neutral C.of (S.items old.source) };
 
     fn run<H: Threads + Wait + Sync>(
         _rt: &H,
         _alloc: Global,
-        chunk: &ListRun<C::Item>,
+        part: Part<S, C::Total>,
         _cx: &mut JobCx<End>,
-    ) -> C::Total {
-        folded::<C>(chunk.as_slice())
+    ) -> Part<S, C::Total> {
+        let Part { source, .. } = part;
+        let total = source.total::<C>();
+        Part { source, total }
     }
-
-    ghost equal_is_same = { equal_lists_are_same C.Item.eq C.Item.equal_is_same };
 }
 
-// The total of the items.
-fn folded<C: Combine>(items: &[C::Item]) -> C::Total
-    ensures { result ≡ total_of C.combine C.neutral C.of items.now }
-{
-    let mut total = C::neutral();
-    for item in items {
-        total = C::combine(total, C::of(item));
-    }
-    total
-}
-
-// The totals of lists, one behind the other, as one.
-fn combined<C: Combine>(totals: Vec<C::Total>) -> C::Total
-    ensures { result ≡ fold C.combine C.neutral totals.items }
-{
-    let mut all = C::neutral();
-    for total in totals {
-        all = C::combine(all, total);
-    }
-    all
-}
-
-/// The total of a list by the operation C: one round of `n_jobs` jobs, each of which folds a chunk, in a lock that is opened for
-/// it. The caller's thread combines what the jobs answer, in the order of the chunks. Where `n_jobs` is 0, there are as many jobs
-/// as the pool has threads.
+/// The total of a list by the operation C: one round of `n_jobs` jobs, each of which folds a piece, in a lock that is opened for
+/// it. The caller's thread combines what the jobs answer, in the order of the pieces. Where `n_jobs` is 0, there are as many jobs
+/// as the pool has threads. Memory is the only refusal.
 ///
-/// The chunks are those of `share_out_evenly`, and the lock is that of `run_one`. An empty list takes no memory and opens no lock.
+/// The pieces are those of `share_out_evenly`, and the lock is that of `remake_one`. An empty list takes no memory and opens no lock.
 pub fn reduce<C: Combine + Send>(
     rt: &(impl Threads + Wait + Sync),
     alloc: Global,
@@ -119,16 +100,60 @@ where
     C::Item: Send + Sync,
     C::Total: Send,
     ensures answer { IfOk result (λ total. total ≡ total_of C.combine C.neutral C.of list.now) }
-    ensures refused { let threads = pool.now.threads in
-        let jobs = job_count (length list.now) (asked_jobs threads n_jobs) in
-        IfErr result (IsRefusal (lock_threads threads jobs) jobs) }
+    ensures memory { OnErr result (IsErrOf result Fault.Memory) }
+    ensures empty { length list.now ≡ 0 → IsOk result }
 {
     if list.is_empty() {
         return Ok(C::neutral());
     }
+    let run = list.run(0, list.len())?;
+    reduce_once::<C, _, _, _>(rt, alloc, pool, n_jobs, &run)
+}
+
+/// The same over any source.
+pub(crate) fn reduce_once<
+    C: Combine + Send,
+    S: Source<Item = C::Item> + Send,
+    G: Gate + Sync,
+    H: Threads + Wait + Sync,
+>(rt: &H, alloc: Global, pool: &Pool<G>, n_jobs: usize, source: &S) -> Result<C::Total, Fault>
+where
+    C::Item: Send + Sync,
+    C::Total: Send,
+    ensures answer { IfOk result (λ total.
+        total ≡ total_of C.combine C.neutral C.of (S.items source.now)) }
+    ensures memory { OnErr result (IsErrOf result Fault.Memory) }
+{
     let threads = pool.max_num_threads();
-    let chunks = list.share_out_evenly(alloc, if n_jobs == 0 { threads } else { n_jobs })?;
-    let jobs = chunks.len();
-    let totals = run_one::<Folds<C>>(rt, alloc, pool, jobs, chunks)?;
-    Ok(combined::<C>(totals))
+    let jobs = if n_jobs == 0 { threads } else { n_jobs };
+    let parts = fold_parts::<C, S>(alloc, parts_of(alloc, source, jobs)?)?;
+    let parts = remake_one::<InPlace<Folds<C, S>>, G, H>(rt, alloc, pool, jobs, parts)?;
+    Ok(combined::<C, S>(parts))
+}
+
+// The pieces, whose totals are to come.
+fn fold_parts<C: Combine, S: Drop>(
+    alloc: Global,
+    sources: Vec<S>,
+) -> Result<Vec<Part<S, C::Total>>, AllocError>
+    ensures { IfOk result (λ parts. map (λ part. part.source) parts.items ≡ sources.items) }
+{
+    let mut parts = Vec::with_capacity(alloc, sources.len())?;
+    for source in sources {
+        let total = C::neutral();
+        parts.push_reserved(Part { source, total });
+    }
+    Ok(parts)
+}
+
+// The totals of pieces, one behind the other, as one.
+fn combined<C: Combine, S: Drop>(parts: Vec<Part<S, C::Total>>) -> C::Total
+    ensures { result ≡ fold C.combine C.neutral (map (λ part. part.total) parts.items) }
+{
+    let mut all = C::neutral();
+    for part in parts {
+        let Part { total, .. } = part;
+        all = C::combine(all, total);
+    }
+    all
 }

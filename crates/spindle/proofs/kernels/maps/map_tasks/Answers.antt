@@ -17,7 +17,7 @@ loop-part-preserved g c =
     let kernel : IsOfKernel c.args.kernel.now task = c.in_ok-kernel.ensures in
     let pushed : c.push_reserved.new.self.items ≡ old ++ task ∷ [] = search rules in
     let sources : map source c.push_reserved.new.self.items ≡ c.loop-part.yielded ++ c.in-Some.part ∷ [] = ap (map source) pushed ∙ map_snoc source old task
-        ∙ (λ j. c.loop-part.invariant.0 j ++ c.in_ok-part.ensures j ∷ []) in
+    ∙ (λ j. c.loop-part.invariant.0 j ++ c.in_ok-part.ensures j ∷ []) in
     let all : All (IsOfKernel c.args.kernel.now) c.push_reserved.new.self.items = subst (All (IsOfKernel c.args.kernel.now)) (sym pushed)
-        (All-push (IsOfKernel c.args.kernel.now) old task c.loop-part.invariant.1 kernel) in
+    (All-push (IsOfKernel c.args.kernel.now) old task c.loop-part.invariant.1 kernel) in
     (sources, all, search rules, c.push_reserved.ensures.len ∙ ap (λ n. n + 1) c.loop-part.invariant.3 ∙ sym (length-append c.loop-part.yielded (c.in-Some.part ∷ [])))

@@ -17,7 +17,7 @@ loop-part-preserved g c =
     let kernel : IsOfKernel c.args.kernel.now task = c.in_ok-kernel.ensures in
     let pushed : c.push_reserved.new.self.items ≡ old ++ task ∷ [] = search rules in
     let parts : map part c.push_reserved.new.self.items ≡ c.loop-part.yielded ++ c.in-Some.part ∷ [] = ap (map part) pushed ∙ map_snoc part old task
-        ∙ ap (λ t. t ++ c.in-Some.part ∷ []) c.loop-part.invariant.0 in
+    ∙ ap (λ t. t ++ c.in-Some.part ∷ []) c.loop-part.invariant.0 in
     let all : All (IsOfKernel c.args.kernel.now) c.push_reserved.new.self.items = subst (All (IsOfKernel c.args.kernel.now)) (sym pushed)
-        (All-push (IsOfKernel c.args.kernel.now) old task c.loop-part.invariant.1 kernel) in
+    (All-push (IsOfKernel c.args.kernel.now) old task c.loop-part.invariant.1 kernel) in
     (parts, all, search rules, c.push_reserved.ensures.len ∙ ap (λ n. n + 1) c.loop-part.invariant.3 ∙ sym (length-append c.loop-part.yielded (c.in-Some.part ∷ [])))
