@@ -82,8 +82,8 @@ refusals() { .ci/refusals "$@"; }
 #: soak [SECONDS]       play uneven jobs in each kind of lock for so long (15), with nothing proved, and check each answer
 soak() {
   local seconds=${1:-15}
-  # A round goes on where the time is over, and the build takes a minute.
-  (cd crates/spindle_soak && rt try --seconds $((60 + 2 * seconds)) -- "$seconds")
+  # A lock's rounds go on where the time is over, and beside proofs threads that meet are slow.
+  (cd crates/spindle_soak && rt try --seconds $((600 + 2 * seconds)) -- "$seconds")
 }
 
 #: edits CRATE          try a crate's must-fail edits, which the prover must refuse, one after another
