@@ -67,9 +67,9 @@ pub fn bounded<G: Gate + Sync, H: Threads + Wait + Sync>(
 }
 
 /// Adds the products of pairs, in 64 bits.
-pub struct Dot;
+pub struct Products;
 
-impl Combine for Dot {
+impl Combine for Products {
     ghost use Rattle.std.proofs.Common.{arith};
 
     type Item = (u32, u32);
@@ -111,5 +111,5 @@ pub fn dot<G: Gate + Sync, H: Threads + Wait + Sync>(
         IfOk result (λ dot.
         dot ≡ total_of (λ x y. wrapped (x + y)) 0 (λ pair. pair.0 * pair.1) products) }
 {
-    reduce_pairs::<_, _, Dot>(rt, alloc, pool, 0, first, second)
+    reduce_pairs::<_, _, Products>(rt, alloc, pool, 0, first, second)
 }
