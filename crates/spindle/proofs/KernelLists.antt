@@ -5,7 +5,7 @@ use Rattle.std.proofs.lemmas.List.Elements.{All-head, All-tail}
 use Rattle.std.specs.Prelude.{All}
 use Rattle.std.specs.List.{AllZip}
 use Rattle.spindle_parts.specs.Pieces.{joined}
-use Rattle.spindle_parts.proofs.Lists.{all_zip_append, map_snoc, joined_snoc, taken_next, dropped_next}
+use Rattle.spindle_parts.proofs.ListLaws.{all_zip_append, map_snoc, joined_snoc, taken_next, dropped_next}
 
 -- one item more, where the items are walked by an index
 pub AllZip-next : {A B : Type 0} (R : A → B → Type 0) (xs : List A) (i : ℕ) (x : A) (y : B) (ys : List B) → i < length xs → x ≡ get_or xs i x

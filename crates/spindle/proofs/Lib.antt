@@ -6,11 +6,11 @@ mod KernelLists
 mod Pairs
 -- Those of the crates below that callers cite.
 pub use Rattle.spindle_parts.proofs.Deals
-pub use Rattle.spindle_parts.proofs.Lists
-pub use Rattle.spindle_lists.proofs.GatheredLists
-pub use Rattle.spindle_lists.proofs.ListChunks
-pub use Rattle.spindle_lists.proofs.ListRuns
-pub use Rattle.spindle_lists.proofs.StripLists
+pub use Rattle.spindle_parts.proofs.ListLaws
+pub use Rattle.spindle_parts.proofs.GatheredLists
+pub use Rattle.spindle_parts.proofs.ListChunks
+pub use Rattle.spindle_parts.proofs.ListRuns
+pub use Rattle.spindle_parts.proofs.StripLists
 pub use Rattle.spindle_trays.proofs.ChunkRounds
 pub use Rattle.spindle_trays.proofs.Outputs
 pub use Rattle.spindle_trays.proofs.Reports

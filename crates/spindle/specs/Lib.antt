@@ -13,15 +13,15 @@ pub use Rattle.spindle_trays.specs.PieceRuns
 pub use Rattle.spindle_trays.specs.Reports
 pub use Rattle.spindle_trays.specs.Rounds
 pub use Rattle.spindle_trays.specs.declared.lock.report.Report
-pub use Rattle.spindle_crew.specs.Accounts
-pub use Rattle.spindle_crew.specs.Crews
-pub use Rattle.spindle_crew.specs.Notices
+pub use Rattle.spindle_threads.specs.Accounts
+pub use Rattle.spindle_threads.specs.Crews
+pub use Rattle.spindle_threads.specs.Notices
 -- of lists,
-pub use Rattle.spindle_lists.specs.Chunks
-pub use Rattle.spindle_lists.specs.Gathered
-pub use Rattle.spindle_lists.specs.Same
-pub use Rattle.spindle_lists.specs.Strips
-pub use Rattle.spindle_lists.specs.declared.strips.Strip
+pub use Rattle.spindle_parts.specs.Chunks
+pub use Rattle.spindle_parts.specs.Gathered
+pub use Rattle.spindle_parts.specs.Same
+pub use Rattle.spindle_parts.specs.Strips
+pub use Rattle.spindle_parts.specs.declared.lists.strips.Strip
 -- of the round table and the barrier,
 pub use Rattle.spindle_rounds.specs.Headline
 pub use Rattle.spindle_rounds.specs.Holding

@@ -14,8 +14,8 @@ use Rattle.std.specs.Prelude.{◌≡◌, ◌≤◌, ℕ, min, OnOk, OnErr, IsOk,
 use Rattle.spindle_parts.specs.declared.fault.Fault.{Fault}
 use Rattle.spindle_parts.specs.declared.fault.Fault.TheVariants.{Memory}
 use Rattle.spindle_parts.specs.declared.requests.plays.Account.{Account}
-use Rattle.spindle_crew.specs.Accounts as accounts
-use Rattle.spindle_crew.specs.Notices as notices
+use Rattle.spindle_threads.specs.Accounts as accounts
+use Rattle.spindle_threads.specs.Notices as notices
 use Rattle.spindle_slots.specs.declared.posts.kept_post.KeptPost.{KeptPost}
 use Rattle.spindle.specs.declared.lock.slot_leader.SlotLeader.{SlotLeader}
 use Rattle.spindle_rounds.specs.declared.round_table.view.View.{View}

@@ -15,8 +15,8 @@ pub use kernels::{Change, Kernel, map, map_pairs, reduce_pairs, update};
 pub use lock::{
     nested, play_in_place, reduce, remake_one, run_one, with_lock, with_slots, with_slots_in_place,
 };
-pub use spindle_crew::{DEFAULT_PAUSE_LIMIT, DEFAULT_SPIN_LIMIT};
-pub use spindle_lists::{
+pub use spindle_threads::{DEFAULT_PAUSE_LIMIT, DEFAULT_SPIN_LIMIT};
+pub use spindle_parts::lists::{
     Chunk, EqualIsSame, ListRun, SharedList, Strip, gathered, joined_strips, tell_neighbours,
 };
 pub use spindle_parts::fault::Fault;

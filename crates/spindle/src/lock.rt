@@ -28,7 +28,7 @@ pub use self::place_rounds::PlaceLeader;
 pub use self::slot_leader::SlotLeader;
 pub use self::slot_nest::{NestedSlots, UnderInPlace, UnderPieces, UnderSlots};
 pub use self::slot_root::{with_slots, with_slots_in_place};
-pub use spindle_crew::limits::Limits;
+pub use spindle_threads::limits::Limits;
 pub use spindle_slots::job::remake::{InPlace, Remake, Remakes};
 pub use spindle_slots::pieces::of_kind::{ChunkOf, Keeps, PieceOf};
 pub use spindle_slots::posts::kept_post::KeptPost;

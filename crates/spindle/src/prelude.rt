@@ -6,7 +6,7 @@ pub use crate::lock::{
     Remake, Report, Rounds, SlotLeader, TellsFailures, Under, UnderInPlace, UnderSlots, reduce,
     remake_one, run_one,
 };
-pub use spindle_lists::{
+pub use spindle_parts::lists::{
     Chunk, ListRun, SharedList, Strip, gathered, joined_strips, tell_neighbours,
 };
 pub use spindle_parts::fault::Fault;

@@ -2,7 +2,7 @@
 ghost use Rattle.std.specs.Prelude.{◌≡◌, ◌*◌, ◌<◌, ◌↔◌, ℕ, IfOk, IfSome, IsSome, map, replicate, length};
 ghost use Rattle.std.proofs.Common.{rules};
 ghost use Rattle.spindle_parts.specs.Pieces.{joined, total};
-ghost use Rattle.spindle_lists.specs.Same.{equal_pairs_are_same};
+ghost use Rattle.spindle_parts.specs.Same.{equal_pairs_are_same};
 ghost use Rattle.spindle_commands.specs.Grid.{one_more, IsLeast, IsGreatest};
 
 use spindle::lock::{End, Job, JobCx, Leader, Limits, NoGate, Pool, Under};

@@ -7,7 +7,7 @@ use Rattle.std.proofs.lemmas.Bool.Decides.{nat_tests}
 use Rattle.std.proofs.lemmas.List.Elements.{filter-append}
 use Rattle.std.proofs.lemmas.List.Folds.{list_any-append}
 use Rattle.spindle.specs.Pieces.{counted}
-use Rattle.spindle.proofs.Lists.{counted_snoc}
+use Rattle.spindle.proofs.ListLaws.{counted_snoc}
 use Rattle.spindle_examples.specs.declared.chomp.Board.{Board}
 use Rattle.spindle_examples.specs.Chomp.{squares_of, after, bites_of, wins_within, wins, winning_bites}
 

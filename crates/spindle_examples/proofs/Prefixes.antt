@@ -2,7 +2,7 @@
 use Rattle.std.proofs.Common.{◌≡◌, ℕ, suc, ◌+◌, List, [], ◌∷◌, ◌++◌, Some, None, length, map, sum, take, refl, ap, sym, ◌∙◌, arith}
 use Rattle.std.proofs.lemmas.List.Sums.{sum_by-append, sum_by-cons}
 use Rattle.spindle.specs.Pieces.{joined}
-use Rattle.spindle.proofs.Lists.{joined_snoc}
+use Rattle.spindle.proofs.ListLaws.{joined_snoc}
 use Rattle.spindle_examples.specs.Prefix.{running, answers_to, continued}
 use Rattle.spindle_examples.specs.Wrapping.{wrapped}
 use Rattle.spindle_examples.proofs.Numbers.{same_values}

@@ -10,7 +10,7 @@ use Rattle.std.proofs.lemmas.Nat.{div-add-mod'}
 use Rattle.std.proofs.Math.Nat.{min-le_left, min-le_right}
 use Rattle.std.specs.List.Sorted.{IsPermutation}
 use Rattle.spindle_parts.specs.Pieces.{joined, counted, dealt, lengths_of}
-use Rattle.spindle_parts.proofs.Lists.{counted_suc, counted_snoc, joined_snoc}
+use Rattle.spindle_parts.proofs.ListLaws.{counted_suc, counted_snoc, joined_snoc}
 
 -- there are as many lengths as pieces
 pub length-lengths_of : (len m : ℕ) → 0 < m → length (lengths_of len m) ≡ m

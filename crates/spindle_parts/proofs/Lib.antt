@@ -1,5 +1,9 @@
 -- The lemmas of this crate.
-pub mod Lists
+pub mod ListLaws
+pub mod ListRuns
+pub mod GatheredLists
+pub mod ListChunks
+pub mod StripLists
 pub mod Deals
 pub mod Parties
 pub mod Fates

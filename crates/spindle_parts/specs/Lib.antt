@@ -18,3 +18,7 @@ pub mod Serving
 pub mod Entries
 pub mod Registers
 pub mod Contents
+pub mod Same
+pub mod Gathered
+pub mod Chunks
+pub mod Strips

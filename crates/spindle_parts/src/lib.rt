@@ -5,6 +5,7 @@
 pub mod aarc_imp;
 pub mod cut;
 pub mod fault;
+pub mod lists;
 pub mod numbers;
 pub mod pauses;
 pub mod requests;

@@ -8,6 +8,11 @@ pub fn is<T: Copy + Debug + PartialEq>(rt: &impl Abort, found: T, wanted: T) {
     assert_eq!(rt; found, wanted);
 }
 
+/// Fails the test in which a list is another than wanted.
+pub fn are<T: Debug + PartialEq>(rt: &impl Abort, found: &[T], wanted: &[T]) {
+    assert_eq!(rt; found, wanted);
+}
+
 /// Fails the test in which this isn't so.
 pub fn holds(rt: &impl Abort, it: bool) {
     assert!(rt; it);

@@ -12,8 +12,12 @@ mod cut;
 #[cfg(test)]
 mod fault;
 #[cfg(test)]
+mod list_rows;
+#[cfg(test)]
 mod numbers;
 #[cfg(test)]
 mod requests;
 #[cfg(test)]
 mod steps;
+#[cfg(test)]
+mod strip_rows;

@@ -20,9 +20,9 @@ use Rattle.spindle_rounds.specs.SlotLoops.{HoldsEach, IsEmpty}
 use Rattle.spindle_rounds.specs.SlotSteps.{numbered}
 use Rattle.spindle_rounds.specs.Stances.{IsStanceOf}
 use Rattle.spindle_rounds.specs.Working.{IsIdle}
-use Rattle.spindle_crew.specs.declared.tables.Tables.{Tables}
-use Rattle.spindle_crew.specs.Posts.{IsAt}
-use Rattle.spindle_crew.specs.SlotPosts.{StandsAt, HoldsEmpty, empty_slots, view_in}
+use Rattle.spindle_threads.specs.declared.tables.Tables.{Tables}
+use Rattle.spindle_threads.specs.Posts.{IsAt}
+use Rattle.spindle_threads.specs.SlotPosts.{StandsAt, HoldsEmpty, empty_slots, view_in}
 use Rattle.spindle_slots.specs.SlotRounds.{LeadsIn}
 
 many_same : {X : Type 0} (n : ℕ) (x : X) → length (replicate n x) ≡ n

@@ -24,7 +24,7 @@ use Rattle.spindle_trays.specs.PieceRuns.{piece_start, piece_at}
 use Rattle.spindle_slots.specs.declared.pieces.slot_piece.OneOr.{OneOr}
 use Rattle.spindle_slots.specs.SlotPieces.{IsAnswerTo, IsItemOf, IsPieceOf, all_of}
 use Rattle.spindle_slots.specs.SlotRounds.{LeadsAt, PlayedPieces}
-use Rattle.spindle_crew.specs.declared.tables.Tables.{Tables}
+use Rattle.spindle_threads.specs.declared.tables.Tables.{Tables}
 
 module _ {A B : Type 0} where
   -- what was found in the slot of a number answers the number's piece

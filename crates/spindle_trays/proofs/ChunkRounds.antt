@@ -6,7 +6,7 @@ use Rattle.spindle_parts.specs.Pieces.{lengths_of, cut_lengths}
 use Rattle.spindle_parts.proofs.Deals.{length-lengths_of}
 use Rattle.spindle_trays.specs.ChunkRounds.{IsMapped}
 use Rattle.spindle_trays.specs.Rounds.{job_count}
-use Rattle.spindle_lists.proofs.GatheredLists.{gathered_map, gathered_none}
+use Rattle.spindle_parts.proofs.GatheredLists.{gathered_map, gathered_none}
 
 -- how many chunks there are
 pub count_of_chunks : {T : Type 0} (chunks : List (List T)) (len n_jobs : ℕ) → 0 < len → 0 < n_jobs

@@ -16,8 +16,8 @@ use Rattle.spindle_rounds.proofs.BarrierClients.{moved_deeds}
 use Rattle.spindle_parts.specs.Words.{most_jobs}
 use Rattle.spindle_trays.specs.Rounds.{job_count}
 use Rattle.spindle_rounds.specs.RoundConditions.{MayFill}
-use Rattle.spindle_crew.specs.Posts.{LastPublished, party_view}
-use Rattle.spindle_crew.specs.declared.leader_post.LeaderPost.{LeaderPost}
+use Rattle.spindle_threads.specs.Posts.{LastPublished, party_view}
+use Rattle.spindle_threads.specs.declared.leader_post.LeaderPost.{LeaderPost}
 use Rattle.spindle_trays.specs.Leaders.{hands_of, AreLeft, IsTryRefusal, MadeNoStep, PlayedAs, PlayedOnce, TriedOnce}
 use Rattle.spindle_trays.specs.Reports.{is_marked, least_lost, IsNoted}
 use Rattle.spindle_trays.proofs.Reports.{least_first, least_within}

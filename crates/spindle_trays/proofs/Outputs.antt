@@ -4,7 +4,7 @@ use Rattle.std.proofs.lemmas.List.{take_more}
 use Rattle.std.proofs.Math.Seq.{drop-cons}
 use Rattle.std.specs.List.{AllZip}
 use Rattle.spindle_parts.specs.Pieces.{joined}
-use Rattle.spindle_parts.proofs.Lists.{all_zip_append, joined_snoc, map_snoc}
+use Rattle.spindle_parts.proofs.ListLaws.{all_zip_append, joined_snoc, map_snoc}
 use Rattle.spindle_parts.specs.declared.cut.Piece.{Piece}
 use Rattle.spindle_trays.specs.Rounds.{AddsAnswers, items_of}
 

@@ -4,12 +4,12 @@ use Rattle.std.proofs.Common.{sym, ◌∙◌, zero, suc, arith, add-one, length-
 use Rattle.std.specs.List.{AllZip}
 use Rattle.std.specs.Cmp.{IsEquivalence}
 use Rattle.std.specs.Cmp.Lexicographic.{pointwise, lists_equiv}
-use Rattle.spindle_lists.specs.Same.{equal_lists_are_same}
+use Rattle.spindle_parts.specs.Same.{equal_lists_are_same}
 use Rattle.std.proofs.lemmas.List.{take_more, take_all, append-nil}
 use Rattle.std.proofs.lemmas.Slice.Zip.{AllZip-long}
 use Rattle.spindle_parts.specs.declared.cut.Piece.{Piece}
-use Rattle.spindle_parts.proofs.Lists.{joined_snoc, map_snoc}
-use Rattle.spindle_parts.proofs.Lists.{all_zip_append}
+use Rattle.spindle_parts.proofs.ListLaws.{joined_snoc, map_snoc}
+use Rattle.spindle_parts.proofs.ListLaws.{all_zip_append}
 use Rattle.spindle_trays.specs.Done.{Done}
 use Rattle.spindle_trays.specs.Outputs.{HoldAll, inputs_in, all_inputs_in}
 use Rattle.spindle_trays.specs.Rounds.{items_of}

@@ -14,7 +14,7 @@ use Rattle.std.proofs.lemmas.List.Quantifiers.{Any-push}
 use Rattle.std.proofs.lemmas.List.Kept.{AllPairs-from_increasing, IsStrictlyIncreasing-filter}
 use Rattle.std.proofs.lemmas.List.Sorted.{IsPermutation-filter_both}
 use Rattle.spindle_parts.specs.Pieces.{counted, joined}
-use Rattle.spindle_parts.proofs.Lists.{all_zip_append, counted_snoc, joined_snoc, map_snoc}
+use Rattle.spindle_parts.proofs.ListLaws.{all_zip_append, counted_snoc, joined_snoc, map_snoc}
 use Rattle.spindle_parts.proofs.Deals.{length-counted}
 use Rattle.spindle_trays.proofs.Addresses.{get_or-counted}
 use Rattle.spindle_trays.specs.Reports.{numbers_of, outputs_of, is_marked, HasFailed, IsAnswered, IsFirstFailed, IsTold, IsNoted, IsReport}

@@ -10,7 +10,7 @@ use Rattle.spindle_trays.specs.Done.{PlaceView}
 use Rattle.spindle_trays.specs.Trays.{Awaits, AwaitsAll, IsDoneAt, HoldsDone}
 use Rattle.spindle_trays.specs.PieceRuns.{piece_at}
 use Rattle.std.proofs.Math.Seq.{map-set_same}
-use Rattle.spindle_parts.proofs.Lists.{all_zip_append}
+use Rattle.spindle_parts.proofs.ListLaws.{all_zip_append}
 
 -- a place before the end
 pub inside : {A : Type 0} (places : Vec A Global) (len at : ℕ) → len ≡ vec_len places → at < len → at < length places.items

@@ -2,7 +2,7 @@
 use Rattle.std.specs.Prelude.{◌≡◌, ℕ, List, Result, Vec, length, map}
 use Rattle.std.specs.List.{AllZip}
 use Rattle.std.specs.declared.alloc.Global.{Global}
-use Rattle.spindle_lists.specs.Gathered.{IsGathered}
+use Rattle.spindle_parts.specs.Gathered.{IsGathered}
 use Rattle.spindle_parts.specs.Pieces.{joined, cut_lengths}
 
 -- the list is cut evenly into so many chunks, or into its items where these are fewer; each chunk has an answer by the

@@ -18,10 +18,10 @@ use Rattle.std.specs.declared.alloc.Global.{Global}
 use Rattle.spindle_parts.specs.declared.fault.Fault.{Fault}
 use Rattle.spindle_parts.specs.declared.fault.Fault.TheVariants.{Memory, Lost}
 use Rattle.spindle_parts.specs.declared.requests.plays.Account.{Account}
-use Rattle.spindle_crew.specs.Accounts as accounts
-use Rattle.spindle_crew.specs.Notices as notices
-use Rattle.spindle_crew.specs.declared.Crew.{Crew}
-use Rattle.spindle_crew.specs.declared.leader_post.LeaderPost.{LeaderPost}
+use Rattle.spindle_threads.specs.Accounts as accounts
+use Rattle.spindle_threads.specs.Notices as notices
+use Rattle.spindle_threads.specs.declared.Crew.{Crew}
+use Rattle.spindle_threads.specs.declared.leader_post.LeaderPost.{LeaderPost}
 use Rattle.spindle_trays.specs.Reports.{HasFailed, IsAnswered}
 use Rattle.spindle_trays.specs.declared.lock.leader.Leader.{Leader}
 use Rattle.spindle_rounds.specs.declared.round_table.view.View.{View}

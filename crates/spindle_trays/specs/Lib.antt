@@ -16,10 +16,10 @@ pub use Rattle.spindle_rounds.specs.PartyWork
 pub use Rattle.spindle_rounds.specs.RoundConditions
 pub use Rattle.spindle_rounds.specs.Seating
 pub use Rattle.spindle_rounds.specs.Working
-pub use Rattle.spindle_crew.specs.Accounts
-pub use Rattle.spindle_crew.specs.Benches
-pub use Rattle.spindle_crew.specs.Crews
-pub use Rattle.spindle_crew.specs.Helpers
-pub use Rattle.spindle_crew.specs.Notices
-pub use Rattle.spindle_crew.specs.Opening
-pub use Rattle.spindle_crew.specs.Posts
+pub use Rattle.spindle_threads.specs.Accounts
+pub use Rattle.spindle_threads.specs.Benches
+pub use Rattle.spindle_threads.specs.Crews
+pub use Rattle.spindle_threads.specs.Helpers
+pub use Rattle.spindle_threads.specs.Notices
+pub use Rattle.spindle_threads.specs.Opening
+pub use Rattle.spindle_threads.specs.Posts

@@ -1,8 +1,8 @@
 -- What contracts see of a pool and of a job's context.
 use Rattle.std.specs.Prelude.{◌≡◌, ◌<◌, ◌≤◌, ℕ, Bool, Option, Some, false, IfSome, if◌then◌else◌}
 use Rattle.spindle_parts.specs.declared.requests.plays.Account.{Account}
-use Rattle.spindle_crew.specs.Crews.{lock_threads, told_of}
-use Rattle.spindle_crew.specs.declared.site.Site.{Site}
+use Rattle.spindle_threads.specs.Crews.{lock_threads, told_of}
+use Rattle.spindle_threads.specs.declared.site.Site.{Site}
 
 -- a pool: its threads, and how many pauses of a wait pass in its locks
 -- before a helper's first look at requests

@@ -9,7 +9,7 @@ use crate::kernels::held::Again;
 use crate::kernels::source::{Source, parts_of};
 use crate::kernels::tasks::{PIECES, Task};
 use crate::lock::remake_one;
-use spindle_lists::SharedList;
+use spindle_parts::lists::SharedList;
 use spindle_parts::fault::Fault;
 use spindle_slots::job::remake::{InPlace, Remake};
 use spindle_trays::job::context::JobCx;

@@ -7,7 +7,7 @@ use crate::kernels::Kernel;
 use crate::kernels::maps::map_once;
 use crate::kernels::source::Source;
 use crate::lock::{Combine, reduce_once};
-use spindle_lists::{ListRun, SharedList};
+use spindle_parts::lists::{ListRun, SharedList};
 use spindle_parts::fault::Fault;
 use spindle_trays::job::gate::Gate;
 use spindle_trays::lock::pool::Pool;

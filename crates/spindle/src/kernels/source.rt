@@ -6,7 +6,7 @@ ghost use Rattle.spindle.specs.Folds.{total_of};
 
 use crate::kernels::Kernel;
 use crate::lock::Combine;
-use spindle_lists::ListRun;
+use spindle_parts::lists::ListRun;
 use spindle_parts::cut::piece_lengths;
 use spindle_parts::fault::Fault;
 use std::alloc::{AllocError, Global};

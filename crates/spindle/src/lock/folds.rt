@@ -4,7 +4,7 @@ ghost use Rattle.spindle.specs.Folds.{IsAssociative, IsNeutral, total_of};
 
 use crate::kernels::{Source, parts_of};
 use crate::lock::place_once::remake_one;
-use spindle_lists::SharedList;
+use spindle_parts::lists::SharedList;
 use spindle_parts::fault::Fault;
 use spindle_slots::job::remake::{InPlace, Remake};
 use spindle_trays::job::context::JobCx;

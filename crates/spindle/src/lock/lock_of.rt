@@ -1,7 +1,7 @@
 //! The locks of a kind of job, by its name: each call opens one, and names no type but that kind.
 ghost use Rattle.std.specs.Prelude.{◌≡◌, ◌<◌, ◌≤◌, IfOk, OnErr, IsErrOf};
 ghost use Rattle.std.specs.Fn.{FnOnceReturnsAtMut};
-ghost use Rattle.spindle_crew.specs.Crews.{lock_threads};
+ghost use Rattle.spindle_threads.specs.Crews.{lock_threads};
 ghost use Rattle.spindle_trays.specs.Leaders.{hands_of, threads_of as tray_threads};
 ghost use Rattle.spindle.specs.SlotLeaders.{TakesLeaders, IsLeaderOf, threads_of};
 

@@ -5,13 +5,13 @@
 ghost use Rattle.std.specs.Prelude.{◌≡◌, ◌<◌, ◌≤◌, IfOk, OnErr, IsErrOf};
 ghost use Rattle.std.specs.Arc.{arc_value};
 ghost use Rattle.std.specs.Fn.{FnOnceReturnsAtMut};
-ghost use Rattle.spindle_crew.specs.Crews.{lock_threads};
+ghost use Rattle.spindle_threads.specs.Crews.{lock_threads};
 ghost use Rattle.spindle.specs.SlotLeaders.{TakesLeaders, IsLeaderOf};
 
 use crate::lock::slot_leader::SlotLeader;
 use crate::lock::slot_nest::{Entry, NestedSlots, UnderPieces};
-use spindle_crew::Crew;
-use spindle_crew::limits::Idling;
+use spindle_threads::Crew;
+use spindle_threads::limits::Idling;
 use spindle_parts::fault::Fault;
 use spindle_rounds::round_table::pieces::Pieces;
 use spindle_slots::crew::slot_post::Newcomer;

@@ -2,7 +2,7 @@
 ghost use Rattle.std.specs.Prelude.{◌≡◌, ◌<◌, IfOk, IfErr, vec_len};
 ghost use Rattle.std.specs.List.{AllZip};
 ghost use Rattle.spindle_trays.specs.Leaders.{hands_of};
-ghost use Rattle.spindle_crew.specs.Crews.{lock_threads};
+ghost use Rattle.spindle_threads.specs.Crews.{lock_threads};
 ghost use Rattle.spindle.specs.OneRound.{asked_jobs};
 ghost use Rattle.spindle_trays.specs.Rounds.{job_count, IsRefusal};
 

@@ -2,7 +2,7 @@
 ghost use Rattle.std.specs.Prelude.{◌≡◌, ◌<◌, ◌≤◌, OnOk, OnErr, min, vec_len};
 ghost use Rattle.std.specs.List.{AllZip};
 ghost use denote.Param.Send.{IsSync};
-ghost use Rattle.spindle_crew.specs.Accounts.{account_of};
+ghost use Rattle.spindle_threads.specs.Accounts.{account_of};
 ghost use Rattle.spindle_rounds.specs.RoundConditions.{MayFill};
 ghost use Rattle.spindle_rounds.specs.Working.{PlayedRound};
 ghost use Rattle.spindle.specs.SlotLeaders.{slot_jobs, GoesOn, IsForMemory, PlayedAs};

@@ -5,7 +5,7 @@
 ghost use Rattle.std.specs.Prelude.{◌≡◌, ◌<◌, ◌≤◌, IsNone};
 ghost use Rattle.spindle.specs.SlotLeaders.{threads_of, AnnouncedRest, IsAsBefore};
 
-use spindle_crew::Crew;
+use spindle_threads::Crew;
 use spindle_slots::posts::piece_post::PiecePost;
 use spindle_slots::posts::slot_workspace::OpensSlots;
 use spindle_trays::job::Job;

@@ -3,15 +3,15 @@ ghost use Rattle.std.specs.Prelude.{◌≡◌, ◌≤◌, IfOk, OnErr, IsErrOf, 
 ghost use Rattle.std.specs.Arc.{arc_value};
 ghost use denote.Param.Send.{IsSync};
 ghost use Rattle.spindle_rounds.specs.Seating.{HasSlots};
-ghost use Rattle.spindle_crew.specs.Benches.{IsBenchAt};
-ghost use Rattle.spindle_crew.specs.Opening.{AreSeatsAt};
+ghost use Rattle.spindle_threads.specs.Benches.{IsBenchAt};
+ghost use Rattle.spindle_threads.specs.Opening.{AreSeatsAt};
 
-use spindle_crew::Crew;
-use spindle_crew::bench::Bench;
-use spindle_crew::limits::Idling;
-use spindle_crew::notices::Notices;
-use spindle_crew::seats::Seats;
-use spindle_crew::tables::Tables;
+use spindle_threads::Crew;
+use spindle_threads::bench::Bench;
+use spindle_threads::limits::Idling;
+use spindle_threads::notices::Notices;
+use spindle_threads::seats::Seats;
+use spindle_threads::tables::Tables;
 use spindle_parts::fault::Fault;
 use spindle_rounds::round::Round;
 use spindle_rounds::round_table::pieces::{Answers, Pieces};

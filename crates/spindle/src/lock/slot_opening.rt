@@ -3,16 +3,16 @@ ghost use Rattle.std.specs.Prelude.{◌≡◌, ◌<◌, ◌≤◌, IfOk, OnErr, 
 ghost use Rattle.std.specs.Fn.{FnOnceReturnsAtMut};
 ghost use Rattle.std.specs.Arc.{arc_value};
 ghost use denote.Param.Send.{IsSync};
-ghost use Rattle.spindle_crew.specs.Crews.{lock_threads};
-ghost use Rattle.spindle_crew.specs.Opening.{AreSeatsAt};
+ghost use Rattle.spindle_threads.specs.Crews.{lock_threads};
+ghost use Rattle.spindle_threads.specs.Opening.{AreSeatsAt};
 ghost use Rattle.spindle.specs.SlotLeaders.{TakesLeaders, WasLed, threads_of};
 ghost use Rattle.spindle_rounds.specs.Seating.{HasSlots};
 
 use crate::lock::slot_leader::SlotLeader;
-use spindle_crew::Crew;
-use spindle_crew::limits::Idling;
-use spindle_crew::seats::Seats;
-use spindle_crew::tables::Tables;
+use spindle_threads::Crew;
+use spindle_threads::limits::Idling;
+use spindle_threads::seats::Seats;
+use spindle_threads::tables::Tables;
 use spindle_parts::fault::Fault;
 use spindle_rounds::round_table::pieces::{Answers, Pieces};
 use spindle_rounds::round_table::slots::Slots;

@@ -1,7 +1,7 @@
 //! Opening a lock with slots in a thread that is in none: over lists, and in place.
 ghost use Rattle.std.specs.Prelude.{◌≡◌, ◌<◌, ◌≤◌, IfOk, OnErr, IsErrOf};
 ghost use Rattle.std.specs.Fn.{FnOnceReturnsAtMut};
-ghost use Rattle.spindle_crew.specs.Crews.{lock_threads};
+ghost use Rattle.spindle_threads.specs.Crews.{lock_threads};
 ghost use Rattle.spindle.specs.SlotLeaders.{TakesLeaders, threads_of};
 
 use crate::lock::slot_leader::SlotLeader;

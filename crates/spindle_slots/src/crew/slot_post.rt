@@ -2,13 +2,13 @@
 ghost use Rattle.std.specs.Prelude.{◌≡◌, ◌≤◌, [], IsSome};
 ghost use Rattle.std.specs.Option.{ForSome};
 ghost use Rattle.std.specs.Arc.{arc_value};
-ghost use Rattle.spindle_crew.specs.SlotPosts.{HoldsEmpty, StandsAt, view_in};
+ghost use Rattle.spindle_threads.specs.SlotPosts.{HoldsEmpty, StandsAt, view_in};
 ghost use Rattle.spindle_rounds.specs.RoundConditions.{MayFill};
 ghost use Rattle.spindle_rounds.specs.Seating.{HasSlots};
 
-use spindle_crew::leader_post::LeaderPost;
-use spindle_crew::post::Post;
-use spindle_crew::tables::Tables;
+use spindle_threads::leader_post::LeaderPost;
+use spindle_threads::post::Post;
+use spindle_threads::tables::Tables;
 use spindle_rounds::barrier::stance::Stance;
 use spindle_rounds::round_table::pieces::{Answers, Pieces};
 use spindle_rounds::round_table::slots::Slots;

@@ -2,7 +2,7 @@
 ghost use Rattle.std.specs.Prelude.{◌≡◌};
 ghost use Rattle.spindle_rounds.specs.Seating.{HasSlots};
 
-use spindle_crew::tables::Tables;
+use spindle_threads::tables::Tables;
 use spindle_rounds::round_table::slots::Slots;
 
 /// A lock's tables, with the number of its round table's slots.

@@ -10,7 +10,7 @@ ghost use Rattle.spindle_slots.specs.SlotPieces.{IsPieceOf, all_items, pieces_of
 use crate::crew::slot_tables::SlotTables;
 use crate::pieces::of_kind::PieceOf;
 use crate::pieces::rooms::Rooms;
-use spindle_lists::shared::SharedList;
+use spindle_parts::lists::shared::SharedList;
 use spindle_parts::fault::Fault;
 use spindle_rounds::round_table::{Seat, pieces};
 use spindle_trays::job::Job;

@@ -1,6 +1,6 @@
 //! The post of the leader of a lock with slots, with what it keeps from round to round, and how such a lock is made.
 ghost use Rattle.std.specs.Prelude.{◌≡◌};
-ghost use Rattle.spindle_crew.specs.SlotPosts.{view_in};
+ghost use Rattle.spindle_threads.specs.SlotPosts.{view_in};
 
 use crate::crew::slot_post::{Newcomer, SlotPost};
 use crate::pieces::of_kind::Keeps;

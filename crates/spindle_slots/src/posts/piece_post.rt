@@ -2,7 +2,7 @@
 ghost use Rattle.std.specs.Prelude.{◌≡◌, ◌≤◌, [], OnOk, OnErr, IsErrOf, vec_capacity, length};
 ghost use Rattle.std.specs.List.{AllZip};
 ghost use denote.Param.Send.{IsSync};
-ghost use Rattle.spindle_crew.specs.SlotPosts.{view_in};
+ghost use Rattle.spindle_threads.specs.SlotPosts.{view_in};
 ghost use Rattle.spindle_rounds.specs.RoundConditions.{MayFill};
 ghost use Rattle.spindle_rounds.specs.Working.{PlayedRound};
 
@@ -13,7 +13,7 @@ use crate::pieces::of_kind::PieceOf;
 use crate::pieces::rooms::Rooms;
 use crate::posts::kept_post::KeptPost;
 use crate::posts::slot_workspace::OpensSlots;
-use spindle_crew::tables::Tables;
+use spindle_threads::tables::Tables;
 use spindle_parts::fault::Fault;
 use spindle_rounds::round_table::pieces::Pieces;
 use spindle_trays::job::Job;

@@ -3,7 +3,7 @@ ghost use Rattle.std.specs.Prelude.{◌≡◌, ◌<◌, ◌≤◌, true, OnOk, O
 ghost use Rattle.std.specs.List.{AllZip};
 ghost use denote.Param.Send.{IsSync};
 ghost use Rattle.spindle_slots.specs.InPlace.{IsReady};
-ghost use Rattle.spindle_crew.specs.SlotPosts.{view_in};
+ghost use Rattle.spindle_threads.specs.SlotPosts.{view_in};
 ghost use Rattle.spindle_rounds.specs.RoundConditions.{MayFill};
 ghost use Rattle.spindle_rounds.specs.Working.{PlayedRound};
 
@@ -15,7 +15,7 @@ use crate::pieces::store::Store;
 use crate::posts::kept_post::KeptPost;
 use crate::posts::slot_workspace::OpensSlots;
 use crate::work::in_place::remake_chunk;
-use spindle_crew::tables::Tables;
+use spindle_threads::tables::Tables;
 use spindle_parts::fault::Fault;
 use spindle_rounds::round_table::pieces::Pieces;
 use spindle_trays::job::gate::Gate;

@@ -12,9 +12,9 @@ ghost use Rattle.spindle_slots.specs.SlotRounds.{LeadsAt, PlayedPieces};
 
 use crate::crew::slot_tables::SlotTables;
 use crate::pieces::of_kind::Keeps;
-use spindle_crew::notices::Notices;
-use spindle_crew::phases::{end_round, publish_held};
-use spindle_crew::post::Post;
+use spindle_threads::notices::Notices;
+use spindle_threads::phases::{end_round, publish_held};
+use spindle_threads::post::Post;
 use spindle_rounds::barrier::Barrier;
 use spindle_rounds::round::claim::Claimed;
 use spindle_rounds::round::party::{Party, Work};

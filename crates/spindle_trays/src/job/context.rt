@@ -5,11 +5,11 @@
 ghost use Rattle.std.specs.Prelude.{◌≡◌, ◌+◌, ◌<◌, ◌≤◌, IfSome, is_some};
 
 use crate::job::nest::Nest;
-use spindle_crew::Crew;
-use spindle_crew::asking::Asked;
-use spindle_crew::notices::Notices;
-use spindle_crew::site::Site;
-use spindle_crew::tables::Tables;
+use spindle_threads::Crew;
+use spindle_threads::asking::Asked;
+use spindle_threads::notices::Notices;
+use spindle_threads::site::Site;
+use spindle_threads::tables::Tables;
 use spindle_rounds::round_table::slots::Slots;
 use std::marker::Model;
 
@@ -31,7 +31,7 @@ pub struct Asks<'a> {
 }
 
 impl<'a> Asks<'a> {
-    ghost use Rattle.spindle_crew.specs.Accounts.{account_of};
+    ghost use Rattle.spindle_threads.specs.Accounts.{account_of};
 
     /// Asks for a helper for each thread but the leader of the lock with these tables, which the job opens.
     pub fn ask<D: Slots>(&mut self, tables: &Tables<D>) -> Asked<'a>
@@ -45,7 +45,7 @@ impl<'a> Asks<'a> {
 impl<'a, N: Nest> Model for JobCx<'a, N> {
     ghost use Rattle.std.specs.Prelude.{is_some};
     ghost use Rattle.spindle_trays.specs.Locks.{ContextView, context_at};
-    ghost use Rattle.spindle_crew.specs.Accounts.{account_of};
+    ghost use Rattle.spindle_threads.specs.Accounts.{account_of};
 
     ghost Value = { ContextView };
 
@@ -53,9 +53,9 @@ impl<'a, N: Nest> Model for JobCx<'a, N> {
 }
 
 impl<'a, N: Nest> JobCx<'a, N> {
-    ghost use Rattle.spindle_crew.specs.Accounts.{account_of};
-    ghost use Rattle.spindle_crew.specs.Notices.{AnnouncedRest};
-    ghost use Rattle.spindle_crew.specs.Crews.{lock_threads};
+    ghost use Rattle.spindle_threads.specs.Accounts.{account_of};
+    ghost use Rattle.spindle_threads.specs.Notices.{AnnouncedRest};
+    ghost use Rattle.spindle_threads.specs.Crews.{lock_threads};
     ghost use Rattle.spindle_trays.specs.Locks.{RunsDirectly, context_at, knowing, nested_hands};
 
     /// The context of a job that runs at this site.

@@ -4,12 +4,12 @@
 //! stays finite.
 ghost use Rattle.std.specs.Prelude.{OnErr, IsErrOf};
 ghost use denote.Param.Send.{IsSync};
-ghost use Rattle.spindle_crew.specs.Accounts.{IsSameThread};
+ghost use Rattle.spindle_threads.specs.Accounts.{IsSameThread};
 
 use crate::job::Job;
 use crate::job::is_nest::IsNest;
 use crate::lock::nested::{ChildSlot, Nested, make_slots, serve_slots};
-use spindle_crew::notices::Notices;
+use spindle_threads::notices::Notices;
 use spindle_parts::fault::Fault;
 use std::alloc::Global;
 use std::marker::PhantomData;

@@ -1,7 +1,7 @@
 //! The life of a helper: it takes a number, joins the barrier, works in each round, and ends once exit is announced.
 ghost use Rattle.std.specs.Prelude.{◌≡◌, ◌<◌, false};
-ghost use Rattle.spindle_crew.specs.Posts.{IsOut, AreOut, AreSameSeats, party_view};
-ghost use Rattle.spindle_crew.specs.Helpers.{IsHelperAt, IsNews, seat_of};
+ghost use Rattle.spindle_threads.specs.Posts.{IsOut, AreOut, AreSameSeats, party_view};
+ghost use Rattle.spindle_threads.specs.Helpers.{IsHelperAt, IsNews, seat_of};
 ghost use Rattle.spindle_rounds.specs.Seating.{IsSameSeat};
 
 use crate::job::Job;
@@ -9,11 +9,11 @@ use crate::job::gate::Gate;
 use crate::job::nest::Nest;
 use crate::lock::part::TakesPart;
 use crate::work::runner::Runner;
-use spindle_crew::helping::{News, await_news, end_part, take_number};
-use spindle_crew::notices::Notices;
-use spindle_crew::post::{Post, Whereabouts};
-use spindle_crew::seats::{Recruit, Seats};
-use spindle_crew::tables::Tables;
+use spindle_threads::helping::{News, await_news, end_part, take_number};
+use spindle_threads::notices::Notices;
+use spindle_threads::post::{Post, Whereabouts};
+use spindle_threads::seats::{Recruit, Seats};
+use spindle_threads::tables::Tables;
 use spindle_rounds::round_table;
 use spindle_rounds::round_table::slots::Slots;
 use std::alloc::Global;

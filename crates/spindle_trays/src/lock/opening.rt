@@ -1,7 +1,7 @@
 //! Starting the helpers of a lock, running its closure beside them, and joining them.
 ghost use Rattle.std.specs.Prelude.{◌≡◌, []};
 ghost use Rattle.spindle_trays.specs.Leaders.{WasLed};
-ghost use Rattle.spindle_crew.specs.Opening.{AreSeatsAt};
+ghost use Rattle.spindle_threads.specs.Opening.{AreSeatsAt};
 
 use crate::job::Job;
 use crate::job::gate::Gate;
@@ -14,11 +14,11 @@ use crate::lock::part::TakesPart;
 use crate::lock::pool::Pool;
 use crate::lock::workspace::Opens;
 use crate::work::runner::Runner;
-use spindle_crew::leader_post::LeaderPost;
-use spindle_crew::notices::Notices;
-use spindle_crew::post::Post;
-use spindle_crew::seats::Seats;
-use spindle_crew::tables::Tables;
+use spindle_threads::leader_post::LeaderPost;
+use spindle_threads::notices::Notices;
+use spindle_threads::post::Post;
+use spindle_threads::seats::Seats;
+use spindle_threads::tables::Tables;
 use spindle_rounds::round_table::slots::{Bare, Slots};
 use std::alloc::Global;
 use std::sync::Wait;

@@ -3,7 +3,7 @@ ghost use Rattle.std.specs.Prelude.{◌≡◌, ◌<◌, IsNone};
 
 use crate::job::gate::{Gate, NoGate};
 use rayon::current_num_threads;
-use spindle_crew::limits::{Idling, Limits};
+use spindle_threads::limits::{Idling, Limits};
 use std::marker::Model;
 use std::thread::Threads;
 

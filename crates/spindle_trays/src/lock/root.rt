@@ -2,7 +2,7 @@
 ghost use Rattle.std.specs.Prelude.{◌≡◌, ◌<◌, IfOk, OnErr, IsErrOf};
 ghost use Rattle.std.specs.Fn.{FnOnceReturnsAtMut};
 ghost use Rattle.spindle_trays.specs.Leaders.{threads_of, hands_of, WasLed};
-ghost use Rattle.spindle_crew.specs.Crews.{lock_threads};
+ghost use Rattle.spindle_threads.specs.Crews.{lock_threads};
 
 use crate::job::gate::Gate;
 use crate::job::nest::Nest;
@@ -11,8 +11,8 @@ use crate::lock::leader::Leader;
 use crate::lock::opening::{Entrant, lead};
 use crate::lock::pool::Pool;
 use crate::lock::workspace::Opens;
-use spindle_crew::Crew;
-use spindle_crew::tables::Tables;
+use spindle_threads::Crew;
+use spindle_threads::tables::Tables;
 use spindle_parts::fault::Fault;
 use spindle_rounds::round::Round;
 use spindle_rounds::round_table::slots::Bare;

@@ -14,7 +14,7 @@ use crate::job::Job;
 use crate::job::gate::Gate;
 use crate::lock::leader::Leader;
 use crate::lock::workspace::Opens;
-use spindle_lists::{ListRun, SharedList, gathered};
+use spindle_parts::lists::{ListRun, SharedList, gathered};
 use spindle_parts::fault::Fault;
 use std::alloc::Global;
 use std::mem;

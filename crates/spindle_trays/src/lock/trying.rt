@@ -15,7 +15,7 @@ use crate::pieces::spares::Spares;
 use crate::work::in_trays::play_in_trays;
 use crate::work::rooms::{make_rooms, play_rooms};
 use crate::work::tally::Tally;
-use spindle_lists::shared::SharedList;
+use spindle_parts::lists::shared::SharedList;
 use spindle_parts::fault::Fault;
 use std::alloc::Global;
 use std::mem;

@@ -9,7 +9,7 @@ use crate::job::Job;
 use crate::pieces::finished::Finished;
 use crate::pieces::ready::Ready;
 use crate::pieces::spares::Spares;
-use spindle_lists::run::ListRun;
+use spindle_parts::lists::run::ListRun;
 use std::alloc::{AllocError, Global};
 use std::marker::Model;
 

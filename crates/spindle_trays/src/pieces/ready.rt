@@ -2,7 +2,7 @@
 ghost use Rattle.std.specs.Prelude.{◌≡◌, ◌≤◌, [], IfOk, length, vec_capacity};
 
 use crate::job::Job;
-use spindle_lists::run::ListRun;
+use spindle_parts::lists::run::ListRun;
 use std::alloc::AllocError;
 use std::marker::Model;
 

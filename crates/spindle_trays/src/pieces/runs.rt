@@ -3,8 +3,8 @@ ghost use Rattle.std.specs.Prelude.{◌≡◌, ◌+◌, ◌/◌, ◌%◌, ◌^�
 ghost use Rattle.spindle_parts.specs.Pieces.{cut_lengths};
 ghost use Rattle.spindle_trays.specs.PieceRuns.{piece_start, piece_at};
 
-use spindle_lists::run::ListRun;
-use spindle_lists::shared::SharedList;
+use spindle_parts::lists::run::ListRun;
+use spindle_parts::lists::shared::SharedList;
 use spindle_rounds::round::task::Task;
 use std::alloc::AllocError;
 

@@ -1,6 +1,6 @@
 //! The work of one thread in a published round: it runs the pieces of the numbers that it claims, out of the trays.
 ghost use Rattle.std.specs.Prelude.{◌≡◌, ◌≤◌, false};
-ghost use Rattle.spindle_crew.specs.Posts.{LastPublished, party_view};
+ghost use Rattle.spindle_threads.specs.Posts.{LastPublished, party_view};
 ghost use Rattle.spindle_rounds.specs.RoundConditions.{IsDone};
 ghost use Rattle.spindle_rounds.specs.RoundSteps.{round_of};
 ghost use Rattle.spindle_rounds.specs.Seating.{IsSameSeat};
@@ -12,9 +12,9 @@ use crate::pieces::finished::Finished;
 use crate::pieces::trays::Trays;
 use crate::work::finishing::finish;
 use crate::work::runner::Runner;
-use spindle_crew::leader_post::LeaderPost;
-use spindle_crew::phases::{end_round, publish};
-use spindle_crew::post::Post;
+use spindle_threads::leader_post::LeaderPost;
+use spindle_threads::phases::{end_round, publish};
+use spindle_threads::post::Post;
 use spindle_rounds::round::claim::Claimed;
 use spindle_rounds::round::party::{Party, Work};
 use spindle_rounds::round::task::Task;

@@ -1,8 +1,8 @@
 -- The chunks of copies of a number, after a round, are copies of the next number.
 use Rattle.std.proofs.Common.{ℕ, List, ◌∙◌, map, ap, subst, arith}
 use Rattle.spindle_parts.specs.declared.fault.Fault.{Fault}
-use Rattle.spindle_lists.specs.Gathered.{IsGathered}
-use Rattle.spindle_lists.proofs.GatheredLists.{gathered_values}
+use Rattle.spindle_parts.specs.Gathered.{IsGathered}
+use Rattle.spindle_parts.proofs.GatheredLists.{gathered_values}
 use Rattle.spindle_commands.specs.Grid.{one_more}
 use Rattle.spindle_commands.proofs.Grids.{joined_firsts, more_copies}
 use Rattle.spindle_commands.proofs.grid.rounds.Goals as goal

@@ -2,7 +2,7 @@
 use Rattle.std.proofs.Common.{◌≡◌, ℕ, List, ◌+◌, ◌-◌, ◌*◌, ◌++◌, ◌∷◌, [], length, drop, map, ap, sym, ◌∙◌, arith, append_assoc}
 use Rattle.std.proofs.lemmas.List.{take_all, length-drop}
 use Rattle.spindle.specs.Pieces.{counted}
-use Rattle.spindle.proofs.Lists.{counted_snoc, map_snoc}
+use Rattle.spindle.proofs.ListLaws.{counted_snoc, map_snoc}
 use Rattle.spindle_examples.specs.Product.{dot}
 use Rattle.spindle_examples.specs.Wrapping.{wrapped}
 use Rattle.spindle_examples.proofs.entries.add_row.Goals as goal

@@ -4,7 +4,7 @@ use Rattle.std.proofs.Common.{append_assoc, length-append, min, reverse, refl, a
 use Rattle.std.proofs.lemmas.List.{take-append-drop, take_all, drop_all, drop_more, get_or_default, append-nil, nil_from_length}
 use Rattle.spindle_parts.specs.declared.cut.Piece.{Piece}
 use Rattle.spindle_parts.specs.Pieces.{joined, counted, total, cut_lengths}
-use Rattle.spindle_parts.proofs.Lists.{total-lengths, total_last, map_snoc, reverse_snoc, back_snoc, map-reverse}
+use Rattle.spindle_parts.proofs.ListLaws.{total-lengths, total_last, map_snoc, reverse_snoc, back_snoc, map-reverse}
 use Rattle.spindle_parts.proofs.cut.cut.Goals as goal
 
 pub loop-done-init : goal.loop-done-init

@@ -2,7 +2,7 @@
 use Rattle.std.proofs.Common.{◌≡◌, ◌∷◌, ◌++◌, [], reverse, take, drop, length, min, List, arith, sym, ap, ◌∙◌, append_assoc}
 use Rattle.std.proofs.lemmas.List.{take_min, drop_min, length-reverse}
 use Rattle.spindle_parts.specs.declared.cut.Piece.{Piece}
-use Rattle.spindle_parts.proofs.Lists.{reverse_snoc, taken_next, dropped_next}
+use Rattle.spindle_parts.proofs.ListLaws.{reverse_snoc, taken_next, dropped_next}
 use Rattle.spindle_parts.proofs.cut.move_last.Goals as goal
 
 pub loop-preserved : goal.loop-preserved

@@ -3,7 +3,7 @@ use Rattle.std.proofs.Common.{◌≡◌, ◌+◌, ◌++◌, [], length, arith, s
 use Rattle.std.proofs.lemmas.List.{append-nil, nil_from_length}
 use Rattle.spindle_parts.specs.declared.cut.Piece.{Piece}
 use Rattle.spindle_parts.specs.Pieces.{joined}
-use Rattle.spindle_parts.proofs.Lists.{back_snoc}
+use Rattle.spindle_parts.proofs.ListLaws.{back_snoc}
 use Rattle.spindle_parts.proofs.cut.put_back.Goals as goal
 
 pub unwrap-requires : goal.unwrap-requires

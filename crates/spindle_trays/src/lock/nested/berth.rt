@@ -2,14 +2,14 @@
 //! a helper walks over them.
 ghost use Rattle.std.specs.Prelude.{◌≡◌, ◌<◌, ◌≤◌, IfSome, OnErr, IsErrOf, vec_len};
 ghost use denote.Param.Send.{IsSync};
-ghost use Rattle.spindle_crew.specs.Accounts.{IsSameThread};
+ghost use Rattle.spindle_threads.specs.Accounts.{IsSameThread};
 
 use crate::lock::nested::child::{Child, TakesHelpers};
 use crate::lock::nested::closing::{Closed, Dismissed, Leads};
 use crossbeam_utils::CachePadded;
-use spindle_crew::asking::{Asked, Offered};
-use spindle_crew::notices::Notices;
-use spindle_crew::sleep::Sleep;
+use spindle_threads::asking::{Asked, Offered};
+use spindle_threads::notices::Notices;
+use spindle_threads::sleep::Sleep;
 use spindle_parts::aarc_imp::AtomicArc;
 use spindle_parts::fault::Fault;
 use std::alloc::Global;

@@ -1,8 +1,8 @@
 //! A lock that a job opened, as it stands in a child slot of the outer lock.
 ghost use Rattle.std.specs.Prelude.{◌≡◌, ◌<◌, IfOk, OnErr, IsErrOf, All};
 ghost use Rattle.std.specs.Arc.{arc_value};
-ghost use Rattle.spindle_crew.specs.Benches.{IsBenchAt};
-ghost use Rattle.spindle_crew.specs.Opening.{AreSeatsAt};
+ghost use Rattle.spindle_threads.specs.Benches.{IsBenchAt};
+ghost use Rattle.spindle_threads.specs.Opening.{AreSeatsAt};
 ghost use denote.Param.Send.{IsSync};
 
 use crate::job::Job;
@@ -11,11 +11,11 @@ use crate::job::nest::Nest;
 use crate::lock::helper::help;
 use crate::lock::part::TakesPart;
 use crate::lock::workspace::{Opens, Workspace};
-use spindle_crew::Crew;
-use spindle_crew::bench::Bench;
-use spindle_crew::limits::Idling;
-use spindle_crew::seats::Seats;
-use spindle_crew::tables::Tables;
+use spindle_threads::Crew;
+use spindle_threads::bench::Bench;
+use spindle_threads::limits::Idling;
+use spindle_threads::seats::Seats;
+use spindle_threads::tables::Tables;
 use spindle_parts::aarc_imp::Fits;
 use spindle_parts::fault::Fault;
 use spindle_rounds::round::Round;

@@ -4,11 +4,11 @@
 //! Types force this order. Each step takes what the step before it has made, which nothing else makes and which can't be dropped:
 //! `Dismissed`, `Closed`, `Left`.
 ghost use Rattle.spindle_parts.specs.declared.requests.plays.Account.{Account};
-ghost use Rattle.spindle_crew.specs.Notices.{AnnouncedExit};
+ghost use Rattle.spindle_threads.specs.Notices.{AnnouncedExit};
 
 use crate::lock::nested::berth::Berth;
 use crate::lock::nested::child::Child;
-use spindle_crew::asking::Offered;
+use spindle_threads::asking::Offered;
 use spindle_parts::aarc_imp::AtomicArc;
 use std::sync::Wait;
 

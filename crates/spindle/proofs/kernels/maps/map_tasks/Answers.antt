@@ -2,7 +2,7 @@
 use Rattle.std.proofs.Common.{◌≡◌, rules, ◌+◌, List, [], ◌∷◌, ◌++◌, map, ap, subst, sym, ◌∙◌, All}
 use Rattle.std.proofs.lemmas.List.{length-append}
 use Rattle.std.proofs.lemmas.List.Elements.{All-push}
-use Rattle.spindle_parts.proofs.Lists.{map_snoc}
+use Rattle.spindle_parts.proofs.ListLaws.{map_snoc}
 use Rattle.spindle.specs.Kernels.{IsOfKernel}
 use Rattle.spindle.specs.declared.kernels.maps.Run.{Run}
 use Rattle.spindle.specs.declared.kernels.tasks.Task.{Task}

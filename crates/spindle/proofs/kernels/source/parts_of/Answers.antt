@@ -1,6 +1,6 @@
 -- The lengths of the parts add up to the whole.
 use Rattle.std.proofs.Common.{◌∙◌, rules}
-use Rattle.spindle_lists.proofs.ListChunks.{total-cut_lengths}
+use Rattle.spindle_parts.proofs.ListChunks.{total-cut_lengths}
 use Rattle.spindle.proofs.kernels.source.parts_of.Goals as goal
 
 pub share_out-requires : goal.share_out-requires

@@ -1,8 +1,8 @@
 -- One more part: the items behind those shared out, of the next length.
 use Rattle.std.proofs.Common.{◌≡◌, ℕ, ◌+◌, ◌-◌, ◌<◌, ◌++◌, ◌∷◌, [], List, length, map, take, drop, get_or, ap, ◌∙◌, arith, rules, slice_range}
 use Rattle.spindle_parts.specs.Pieces.{joined}
-use Rattle.spindle_parts.proofs.Lists.{joined_snoc, map_snoc, total_last}
-use Rattle.spindle_lists.proofs.ListRuns.{total_part}
+use Rattle.spindle_parts.proofs.ListLaws.{joined_snoc, map_snoc, total_last}
+use Rattle.spindle_parts.proofs.ListRuns.{total_part}
 use Rattle.std.proofs.Math.Seq.{take-add}
 use Rattle.spindle.proofs.kernels.source.share_out.Goals as goal
 

@@ -3,7 +3,7 @@ use Rattle.std.proofs.Common.{◌≡◌, rules, ◌+◌, List, [], ◌∷◌, �
 use Rattle.std.proofs.lemmas.List.{length-append}
 use Rattle.std.proofs.lemmas.List.Elements.{All-push}
 use Rattle.spindle_parts.specs.declared.cut.Piece.{Piece}
-use Rattle.spindle_parts.proofs.Lists.{map_snoc}
+use Rattle.spindle_parts.proofs.ListLaws.{map_snoc}
 use Rattle.spindle.specs.Kernels.{IsOfKernel}
 use Rattle.spindle.specs.declared.kernels.tasks.Task.{Task}
 use Rattle.spindle.proofs.kernels.updates.tasks_of.Goals as goal

@@ -2,7 +2,7 @@
 use Rattle.std.proofs.Common.{◌≡◌, ap, sym, ◌∙◌, [], ◌∷◌, ◌++◌, map}
 use Rattle.std.specs.Prelude.{fold}
 use Rattle.std.proofs.lemmas.List.Sums.{fold-append}
-use Rattle.spindle_parts.proofs.Lists.{map_snoc}
+use Rattle.spindle_parts.proofs.ListLaws.{map_snoc}
 use Rattle.spindle.specs.declared.lock.folds.Part.{Part}
 use Rattle.spindle.proofs.lock.folds.combined.Goals as goal
 

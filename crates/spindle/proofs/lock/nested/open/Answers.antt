@@ -1,8 +1,8 @@
 -- The closure was called with a leader of a lock of these threads, with so many slots.
 use Rattle.std.proofs.Common.{ap, sym, refl, ◌∙◌}
 use Rattle.std.proofs.lemmas.Result.{IfOk-weaker}
-use Rattle.spindle_crew.specs.declared.Crew.{Crew}
-use Rattle.spindle_crew.specs.Crews.{lock_threads}
+use Rattle.spindle_threads.specs.declared.Crew.{Crew}
+use Rattle.spindle_threads.specs.Crews.{lock_threads}
 use Rattle.spindle.proofs.lock.nested.open.Goals as goal
 
 pub returns-in-Some-take-clause-promise : goal.returns-in-Some-take-clause-promise

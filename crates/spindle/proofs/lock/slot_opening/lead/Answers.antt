@@ -1,6 +1,6 @@
 -- The leader of the closure is one of this lock, with its slots.
 use Rattle.std.proofs.Common.{ap, refl, ◌∙◌}
-use Rattle.spindle_crew.specs.declared.Crew.{Crew}
+use Rattle.spindle_threads.specs.declared.Crew.{Crew}
 use Rattle.spindle.specs.SlotLeaders.{WasLed}
 use Rattle.spindle.proofs.lock.slot_opening.lead.Goals as goal
 

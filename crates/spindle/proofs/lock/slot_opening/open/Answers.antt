@@ -1,8 +1,8 @@
 -- The closure was called with a leader of this lock, with its slots.
 use Rattle.std.proofs.Common.{◌≡◌, ap, sym, subst, ◌∙◌}
-use Rattle.spindle_crew.specs.Crews.{lock_threads}
-use Rattle.spindle_crew.specs.Opening.{AreSeatsAt}
-use Rattle.spindle_crew.specs.declared.Crew.{Crew}
+use Rattle.spindle_threads.specs.Crews.{lock_threads}
+use Rattle.spindle_threads.specs.Opening.{AreSeatsAt}
+use Rattle.spindle_threads.specs.declared.Crew.{Crew}
 use Rattle.spindle_rounds.specs.Seating.{slots_of}
 use Rattle.spindle.specs.SlotLeaders.{WasLed}
 use Rattle.spindle.proofs.lock.slot_opening.open.Goals as goal

@@ -1,8 +1,8 @@
 -- The chunks are the run, and each chunk's answer is one more of each of its numbers.
 use Rattle.std.proofs.Common.{◌∙◌, map, ap, subst}
 use Rattle.std.specs.declared.alloc.AllocError.{AllocError}
-use Rattle.spindle_lists.specs.Gathered.{IsGathered}
-use Rattle.spindle_lists.proofs.GatheredLists.{gathered_map}
+use Rattle.spindle_parts.specs.Gathered.{IsGathered}
+use Rattle.spindle_parts.proofs.GatheredLists.{gathered_map}
 use Rattle.spindle_commands.specs.Grid.{one_more}
 use Rattle.spindle_commands.proofs.grid.AddOneByChunksJob.run.Goals as goal
 

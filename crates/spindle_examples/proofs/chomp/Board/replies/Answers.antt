@@ -1,7 +1,7 @@
 -- One bite more, and in the end all.
 use Rattle.std.proofs.Common.{◌≡◌, ℕ, ◌-◌, ◌+◌, ◌++◌, ◌∷◌, [], map, ap, ◌∙◌, arith}
 use Rattle.spindle.specs.Pieces.{counted}
-use Rattle.spindle.proofs.Lists.{counted_snoc, map_snoc}
+use Rattle.spindle.proofs.ListLaws.{counted_snoc, map_snoc}
 use Rattle.spindle_examples.specs.Chomp.{squares_of, after}
 use Rattle.spindle_examples.proofs.chomp.Board.replies.Goals as goal
 

@@ -2,7 +2,7 @@
 use Rattle.std.proofs.Common.{◌≡◌, ◌++◌, ◌∷◌, [], reverse, rules, arith, refl, ap, sym, subst, ◌∙◌, append_assoc, append-nil}
 use Rattle.std.specs.List.{AllZip}
 use mathlib.Core.List.{reverse-append}
-use Rattle.spindle_parts.proofs.Lists.{all_zip_append}
+use Rattle.spindle_parts.proofs.ListLaws.{all_zip_append}
 use Rattle.spindle_slots.proofs.InPlace.{nothing_left, one_fits, some_ready}
 use Rattle.spindle_slots.proofs.work.in_place.remake_each.Goals as goal
 

@@ -1,7 +1,7 @@
 -- Neither waiting nor a round changes the helper's seat, its number and its lock.
 use Rattle.std.proofs.Common.{ℕ, refl, ap, subst, ◌∙◌}
-use Rattle.spindle_crew.specs.Helpers.{IsHelperAt}
-use Rattle.spindle_crew.specs.Posts.{IsOut}
+use Rattle.spindle_threads.specs.Helpers.{IsHelperAt}
+use Rattle.spindle_threads.specs.Posts.{IsOut}
 use Rattle.spindle_trays.proofs.lock.helper.live.Goals as goal
 
 pub loop-init : goal.loop-init

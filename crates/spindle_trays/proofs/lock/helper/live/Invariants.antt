@@ -1,6 +1,6 @@
 -- It isn't the leader, and stands at the same tables with the same seat.
 use Rattle.std.proofs.Common.{◌≡◌, false}
-use Rattle.spindle_crew.specs.Posts.{party_view}
+use Rattle.spindle_threads.specs.Posts.{party_view}
 use Rattle.spindle_rounds.specs.Seating.{IsSameSeat}
 use Rattle.spindle_trays.proofs.lock.helper.live.Given as goal
 

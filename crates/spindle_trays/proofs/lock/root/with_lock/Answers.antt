@@ -1,8 +1,8 @@
 -- The closure was called with a leader of this lock.
 use Rattle.std.proofs.Common.{◌≡◌, ap, sym, ◌∙◌, rules}
-use Rattle.spindle_crew.specs.declared.Crew.{Crew}
+use Rattle.spindle_threads.specs.declared.Crew.{Crew}
 use Rattle.spindle_trays.specs.Leaders.{WasLed}
-use Rattle.spindle_crew.specs.Crews.{lock_threads}
+use Rattle.spindle_threads.specs.Crews.{lock_threads}
 use Rattle.spindle_trays.proofs.lock.root.with_lock.Goals as goal
 
 pub returns-clause-promise : goal.returns-clause-promise

@@ -1,6 +1,6 @@
 -- A publish, the leader's own work, and the round's end.
 use Rattle.std.proofs.Common.{ℕ, Bool, true, subst, refl}
-use Rattle.spindle_crew.specs.Posts.{LastPublished}
+use Rattle.spindle_threads.specs.Posts.{LastPublished}
 use Rattle.spindle_rounds.proofs.Workers.{played_after}
 use Rattle.spindle_rounds.specs.RoundSteps.{round_of}
 use Rattle.spindle_trays.proofs.LeaderRounds.{last_after}

@@ -3,8 +3,8 @@ use Rattle.std.proofs.Common.{[], true, All, ap, sym, subst, ◌∙◌}
 use Rattle.std.specs.Arc.{arc_value}
 use Rattle.spindle_rounds.specs.RoundSteps.{outsider}
 use Rattle.spindle_rounds.specs.Seating.{slots_of}
-use Rattle.spindle_crew.specs.Benches.{IsBenchAt}
-use Rattle.spindle_crew.specs.Opening.{AreSeatsAt}
+use Rattle.spindle_threads.specs.Benches.{IsBenchAt}
+use Rattle.spindle_threads.specs.Opening.{AreSeatsAt}
 use Rattle.spindle.proofs.lock.slot_nest.NestedSlots+SlotWorkspace+J+A.open.Goals as goal
 
 pub with_slots-requires : goal.with_slots-requires

@@ -1,7 +1,7 @@
 -- The leader stands where its post stood.
 use Rattle.std.proofs.Common.{ap, sym, subst, ◌∙◌}
 use Rattle.spindle_rounds.specs.Seating.{slots_of}
-use Rattle.spindle_crew.specs.SlotPosts.{StandsAt}
+use Rattle.spindle_threads.specs.SlotPosts.{StandsAt}
 use Rattle.spindle_slots.proofs.crew.slot_post.Newcomer.new.Goals as goal
 
 pub invariant_of-result : goal.invariant_of-result

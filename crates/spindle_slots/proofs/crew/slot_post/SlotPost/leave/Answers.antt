@@ -1,6 +1,6 @@
 -- The leader leaves from where it stands between two rounds.
 use Rattle.std.proofs.Common.{sym, subst, ◌∙◌}
-use Rattle.spindle_crew.specs.SlotPosts.{StandsAt}
+use Rattle.spindle_threads.specs.SlotPosts.{StandsAt}
 use Rattle.spindle_slots.proofs.SlotPosts.{stood}
 use Rattle.spindle_slots.proofs.crew.slot_post.SlotPost.leave.Goals as goal
 

@@ -2,7 +2,7 @@
 use Rattle.std.proofs.Common.{◌%◌, arith, refl, ap, sym, subst, ◌∙◌}
 use Rattle.spindle_rounds.specs.declared.round_table.view.Standing.TheVariants.{Inside}
 use Rattle.spindle_rounds.specs.RoundSteps.{round_of}
-use Rattle.spindle_crew.specs.SlotPosts.{StandsAt, HoldsEmpty}
+use Rattle.spindle_threads.specs.SlotPosts.{StandsAt, HoldsEmpty}
 use Rattle.spindle_slots.proofs.SlotPosts.{empty_hand}
 use Rattle.spindle_trays.proofs.TrayPlaces.{some_is}
 use Rattle.spindle_slots.proofs.crew.slot_post.SlotPost.new.Goals as goal

@@ -1,7 +1,7 @@
 -- The leader plays at its barrier, and is parted from it again.
 use Rattle.std.proofs.Common.{◌≡◌, Some, refl, ap, sym, subst, ◌∙◌}
 use Rattle.spindle_rounds.specs.Seating.{slots_of}
-use Rattle.spindle_crew.specs.SlotPosts.{StandsAt, HoldsEmpty}
+use Rattle.spindle_threads.specs.SlotPosts.{StandsAt, HoldsEmpty}
 use Rattle.spindle_slots.proofs.SlotPosts.{resumed, parted}
 use Rattle.spindle_trays.proofs.TrayPlaces.{some_is}
 use Rattle.spindle_slots.proofs.posts.piece_post.SlotPost+PieceOf+J.play.Goals as goal

@@ -1,6 +1,6 @@
 -- One more number stands at the end.
 use Rattle.std.proofs.Common.{ap, refl, ◌∙◌, ◌++◌, ◌∷◌, [], rules, zero-add}
-use Rattle.spindle_parts.proofs.Lists.{counted_snoc}
+use Rattle.spindle_parts.proofs.ListLaws.{counted_snoc}
 use Rattle.std.proofs.lemmas.Result.{err_from_is_err_and}
 use Rattle.spindle_trays.proofs.LeaderRounds.{between, same_end, some_numbers}
 use Rattle.spindle_parts.specs.Pieces.{counted}

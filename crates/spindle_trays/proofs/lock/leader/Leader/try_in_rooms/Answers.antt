@@ -1,6 +1,6 @@
 -- A fresh tally fits all marks.
 use Rattle.std.proofs.Common.{ℕ, true, refl, ap, subst, ◌∙◌}
-use Rattle.spindle_crew.specs.Posts.{LastPublished, party_view}
+use Rattle.spindle_threads.specs.Posts.{LastPublished, party_view}
 use Rattle.spindle_rounds.specs.Leftovers.{AreUnbegun, IsMarked}
 use Rattle.spindle_rounds.specs.RoundSlots.{bare}
 use Rattle.spindle_rounds.specs.RoundSteps.{round_of}

@@ -1,5 +1,5 @@
 -- So it is after each slot.
-use Rattle.spindle_crew.proofs.Leaving.{same_thread_first, same_thread_on}
+use Rattle.spindle_threads.proofs.Leaving.{same_thread_first, same_thread_on}
 use Rattle.spindle_trays.proofs.lock.nested.berth.serve_slots.Goals as goal
 
 pub loop-number-init : goal.loop-number-init

@@ -1,6 +1,6 @@
 -- The closure was called with a leader of a lock of these threads, all of which may take part in its rounds, or it alone.
 use Rattle.std.proofs.Common.{ap, inl, inr, sym, refl, ◌∙◌}
-use Rattle.spindle_crew.specs.declared.Crew.{Crew}
+use Rattle.spindle_threads.specs.declared.Crew.{Crew}
 use Rattle.spindle_trays.specs.Locks.{nested_hands}
 use Rattle.spindle_trays.proofs.lock.nested.opening.JobCx+Under+K.with_lock.Goals as goal
 

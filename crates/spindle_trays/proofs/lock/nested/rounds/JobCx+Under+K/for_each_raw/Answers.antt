@@ -1,6 +1,6 @@
 -- One more number stands at the end.
 use Rattle.std.proofs.Common.{◌++◌, ◌∷◌, [], rules, ap, zero-add}
-use Rattle.spindle_parts.proofs.Lists.{counted_snoc}
+use Rattle.spindle_parts.proofs.ListLaws.{counted_snoc}
 use Rattle.spindle_trays.proofs.lock.nested.rounds.JobCx+Under+K.for_each_raw.Goals as goal
 
 pub loop-number-preserved : goal.loop-number-preserved

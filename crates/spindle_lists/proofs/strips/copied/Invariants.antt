@@ -1,6 +1,0 @@
--- The items so far.
-use Rattle.std.proofs.Common.{◌≡◌, take}
-use Rattle.spindle_lists.proofs.strips.copied.Given as goal
-
-abbrev pub invariant-loop-item : goal.invariant-loop-item
-invariant-loop-item g l = l.copy.items ≡ take l.item-index l.items

@@ -1,7 +1,0 @@
--- The strips so far have no items.
-use Rattle.std.proofs.Common.{◌≡◌, drop}
-use Rattle.spindle_lists.specs.Strips.{first_of, items_of}
-use Rattle.spindle_lists.proofs.strips.first_item.Given as goal
-
-abbrev pub invariant-loop-at : goal.invariant-loop-at
-invariant-loop-at g l = first_of (items_of (drop l.from l.strips)) l.behind ≡ first_of (items_of (drop l.at l.strips)) l.behind

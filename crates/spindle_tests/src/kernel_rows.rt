@@ -1,0 +1,208 @@
+//! Rows of calls over whole lists by a kernel, and what a refused allocation leaves of them: no job was run, and the same call with
+//! memory answers in full.
+ghost use Rattle.std.specs.Prelude.{◌≡◌, ◌+◌, ◌*◌, min};
+
+use crate::checks::{are, holds, is};
+use crate::jobs::{Calls, Counting};
+use spindle::lock::{Combine, Limits, NoGate, Pool};
+use spindle::{Change, Fault, Kernel, SharedList, map, map_pairs, reduce_pairs, update};
+use std::alloc::Global;
+
+// Squares a number, and adds one that is borrowed.
+#[derive(Drop)]
+struct SquareAnd<'a> {
+    base: &'a u32,
+}
+
+impl<'a> Kernel for SquareAnd<'a> {
+    type In = u32;
+
+    type Out = u64;
+
+    ghost computes = { λ kernel x y. y ≡ x * x + kernel.base.now };
+
+    fn compute(&self, x: &u32) -> u64 {
+        u64::from(*x) * u64::from(*x) + u64::from(*self.base)
+    }
+}
+
+// Eleven numbers; where memory for them is refused once, it is asked for again.
+fn eleven_numbers(alloc: Global) -> Result<Vec<u32>, Fault> {
+    let numbers = [3, 1, 4, 1, 5, 9, 2, 6, 5, 3, u32::MAX];
+    match Vec::from_array(alloc, numbers) {
+        Ok(list) => Ok(list),
+        Err(_) => Ok(Vec::from_array(alloc, numbers)?),
+    }
+}
+
+// Their squares, each and 7.
+const SQUARES: [u64; 11] = [16, 8, 23, 8, 32, 88, 11, 43, 32, 16, 18446744065119617032];
+
+#[test]
+fn outputs_of_a_map_stand_in_the_order_of_their_items(rt: HostRuntime) -> Result<(), Fault> {
+    let alloc = rt.alloc();
+    for threads in [1, 2, 4] {
+        let pool = Pool::new(threads, Limits::new(), NoGate);
+        let kernel = SquareAnd { base: &7 };
+        let squares = map(&rt, alloc, &pool, &kernel, eleven_numbers(alloc)?)?;
+        are(&rt, &squares, &SQUARES);
+    }
+    Ok(())
+}
+
+#[test]
+fn refused_map_has_run_no_job(rt: HostRuntime) -> Result<(), Fault> {
+    let alloc = rt.alloc();
+    let calls = Calls::new();
+    let pool = Pool::new(4, Limits::new(), Counting { calls: &calls });
+    let kernel = SquareAnd { base: &7 };
+    let squares = match map(&rt, alloc, &pool, &kernel, eleven_numbers(alloc)?) {
+        Ok(squares) => squares,
+        Err(fault) => {
+            holds(&rt, matches!(fault, Fault::Memory));
+            is(&rt, calls.in_all(), (0, 0));
+            map(&rt, alloc, &pool, &kernel, eleven_numbers(alloc)?)?
+        }
+    };
+    are(&rt, &squares, &SQUARES);
+    is(&rt, calls.in_all(), (11, 11));
+    Ok(())
+}
+
+// An empty list that took memory would be refused it once.
+#[test]
+fn refused_nothing_where_a_kernel_has_no_items(rt: HostRuntime) -> Result<(), Fault> {
+    let alloc = rt.alloc();
+    let calls = Calls::new();
+    let pool = Pool::new(4, Limits::new(), Counting { calls: &calls });
+    let kernel = SquareAnd { base: &7 };
+    let squares = map(&rt, alloc, &pool, &kernel, Vec::new(alloc))?;
+    is(&rt, squares.capacity(), 0);
+    is(&rt, calls.in_all(), (0, 0));
+    Ok(())
+}
+
+// Lowers a number to a bound.
+#[derive(Drop)]
+struct Bound {
+    most: u32,
+}
+
+impl Change for Bound {
+    type Item = u32;
+
+    ghost changes = { λ kernel old new. new ≡ min old kernel.most };
+
+    fn change(&self, number: &mut u32) {
+        *number = (*number).min(self.most);
+    }
+}
+
+// The eleven numbers, none above 5.
+const BOUNDED: [u32; 11] = [3, 1, 4, 1, 5, 5, 2, 5, 5, 3, 5];
+
+#[test]
+fn an_updated_list_has_its_items_in_their_places(rt: HostRuntime) -> Result<(), Fault> {
+    let alloc = rt.alloc();
+    for threads in [1, 2, 4] {
+        let pool = Pool::new(threads, Limits::new(), NoGate);
+        let list = update(&rt, alloc, &pool, &Bound { most: 5 }, eleven_numbers(alloc)?)?;
+        are(&rt, &list, &BOUNDED);
+    }
+    Ok(())
+}
+
+#[test]
+fn refused_update_has_run_no_job(rt: HostRuntime) -> Result<(), Fault> {
+    let alloc = rt.alloc();
+    let calls = Calls::new();
+    let pool = Pool::new(4, Limits::new(), Counting { calls: &calls });
+    let kernel = Bound { most: 5 };
+    let list = match update(&rt, alloc, &pool, &kernel, eleven_numbers(alloc)?) {
+        Ok(list) => list,
+        Err(fault) => {
+            holds(&rt, matches!(fault, Fault::Memory));
+            is(&rt, calls.in_all(), (0, 0));
+            update(&rt, alloc, &pool, &kernel, eleven_numbers(alloc)?)?
+        }
+    };
+    are(&rt, &list, &BOUNDED);
+    is(&rt, calls.in_all(), (11, 11));
+    Ok(())
+}
+
+// Adds the numbers of a pair.
+#[derive(Drop)]
+struct Sum;
+
+impl Kernel for Sum {
+    type In = (u32, u32);
+
+    type Out = u64;
+
+    ghost computes = { λ kernel pair sum. sum ≡ pair.0 + pair.1 };
+
+    fn compute(&self, pair: &(u32, u32)) -> u64 {
+        u64::from(pair.0) + u64::from(pair.1)
+    }
+}
+
+#[test]
+fn pairs_go_as_far_as_both_lists(rt: HostRuntime) -> Result<(), Fault> {
+    let alloc = rt.alloc();
+    let pool = Pool::new(4, Limits::new(), NoGate);
+    let all = [103, 101, 104, 101, 105, 109, 102, 106, 105, 103, 4294967395];
+    for count in [0, 3, 11, 12] {
+        let second = vec![in alloc; 100; count]?;
+        let sums = map_pairs(&rt, alloc, &pool, &Sum, eleven_numbers(alloc)?, second)?;
+        are(&rt, &sums, &all[..count.min(11)]);
+    }
+    Ok(())
+}
+
+// The second number of the last pair whose second isn't 0, or 0: which comes later counts.
+struct LastSecond;
+
+impl Combine for LastSecond {
+    ghost use Rattle.spindle_tests.specs.Last.{later, later_associative};
+    ghost use Rattle.std.proofs.Common.{refl};
+
+    type Item = (u32, u32);
+
+    type Total = u32;
+
+    ghost neutral = { 0 };
+
+    ghost of = { λ pair. pair.1 };
+
+    ghost combine = { later };
+
+    fn neutral() -> u32 {
+        0
+    }
+
+    fn of(pair: &(u32, u32)) -> u32 {
+        pair.1
+    }
+
+    fn combine(first: u32, second: u32) -> u32 {
+        if second == 0 { first } else { second }
+    }
+
+    ghost associative = { later_associative };
+
+    ghost is_neutral = { (refl, λ _ _. refl) };
+}
+
+#[test]
+fn pairs_are_combined_in_their_order(rt: HostRuntime) -> Result<(), Fault> {
+    let alloc = rt.alloc();
+    let pool = Pool::new(4, Limits::new(), NoGate);
+    let first = SharedList::from_vec(alloc, eleven_numbers(alloc)?)?;
+    let second = SharedList::from_vec(alloc, vec![in alloc; 0u32, 7, 0, 5, 0, 0]?)?;
+    for jobs in [0, 1, 3] {
+        let last = reduce_pairs::<_, _, LastSecond>(&rt, alloc, &pool, jobs, &first, &second)?;
+        is(&rt, last, 5);
+    }
+    Ok(())
+}

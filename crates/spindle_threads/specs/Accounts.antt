@@ -1,0 +1,14 @@
+-- What contracts see of a thread's seat at the ledger.
+use Rattle.std.specs.Prelude.{◌≡◌}
+use Rattle.spindle_parts.specs.LedgerSeats.{IsSameSeat}
+use Rattle.spindle_parts.specs.declared.requests.plays.Account.{Account}
+use Rattle.spindle_threads.specs.declared.notices.Notices.{Notices}
+
+-- what it knows, with the trail of its own steps
+abbrev pub account_of : Notices → Account
+account_of notices = notices.seat.me.0
+
+-- the same seat at the same ledger
+abbrev pub IsSameThread : (old new : Notices) → Type 0
+IsSameThread old new = (new.ledger ≡ old.ledger) × (new.slots ≡ old.slots)
+    × IsSameSeat old.seat new.seat

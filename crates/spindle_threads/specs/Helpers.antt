@@ -1,0 +1,40 @@
+-- What a helper that waits is told, and where it is after a round.
+use Rattle.std.specs.Prelude.{◌≡◌, ℕ, false}
+use Rattle.atomic_table.specs.declared.shared.Seat.{Seat}
+use Rattle.spindle_threads.specs.declared.post.Whereabouts.{Whereabouts}
+use Rattle.spindle_threads.specs.declared.post.Whereabouts.TheVariants.{In, Out}
+use Rattle.spindle_threads.specs.declared.tables.Tables.{Tables}
+use Rattle.spindle_threads.specs.declared.helping.News.{News}
+use Rattle.spindle_threads.specs.declared.helping.News.TheVariants.{Exit, Round, Requests}
+use Rattle.spindle_threads.specs.Posts.{IsOut, party_view}
+use Rattle.spindle_rounds.specs.declared.round_table.view.View.{View}
+use Rattle.spindle_rounds.specs.declared.barrier.Barrier.{Barrier}
+use Rattle.spindle_rounds.specs.declared.barrier.waiting.ExitStatus.{ExitStatus}
+use Rattle.spindle_rounds.specs.declared.barrier.waiting.ExitStatus.TheVariants as status
+use Rattle.spindle_rounds.specs.Seating.{IsSameSeat}
+use Rattle.spindle_rounds.specs.Holding.{Keeps}
+use Rattle.spindle_rounds.specs.Passing.{InNext, WentOut}
+use Rattle.spindle_rounds.specs.Working.{OnTask}
+
+-- where it is told of a round, its seat knows that round's task
+abbrev pub IsNews : {N : Type 0} → View N → News → Type 0
+IsNews v Exit = Unit {0}
+IsNews v (Round task) = OnTask task.jobs task.may_stop v
+IsNews v Requests = Unit {0}
+
+-- a helper after a round: at its post, under its number, or out of the barrier
+abbrev pub IsHelperAt : {T S N : Type 0} → Tables T S N → (thread : ℕ) → Whereabouts T S N → Type 0
+IsHelperAt tables thread (In post) = (post.tables.now ≡ tables) × (post.thread ≡ thread)
+    × ((party_view post.barrier).leader ≡ false)
+IsHelperAt tables thread (Out seat) = IsOut tables seat × (seat.me.0.leader ≡ false)
+
+-- its seat
+abbrev pub seat_of : {T S N : Type 0} → Whereabouts T S N → Seat S (View N)
+seat_of (In post) = post.barrier.seat
+seat_of (Out seat) = seat
+
+-- a member that has waited for its round's end:
+-- it is inside the next round, or it is out of the barrier
+abbrev pub EndedOrLeft : {T S N : Type 0} → Barrier T S N → ExitStatus T S N → Type 0
+EndedOrLeft b (status.Exit seat) = IsSameSeat b.seat seat × WentOut b.seat.me seat.me
+EndedOrLeft b (status.Remain c) = Keeps b c × InNext b.seat.me c.seat.me
