@@ -91,10 +91,7 @@ edits() { rt must-fail "${1:?which crate}"; }
 
 #: bench [check]        time the rounds of locks and of the kit's rayon, as THREADS, SHAPE and POOL say, or only check their results
 bench() {
-  local crate
-  for crate in spindle_bench rayon_bench; do
-    (cd "crates/$crate" && rt run --cpu "${CPU:-x86-64-v3}" -- "$@")
-  done
+  (cd crates/spindle_bench && rt run --cpu "${CPU:-x86-64-v3}" -- "$@")
 }
 
 #: format [CRATE..]     put the crates' files (all, where none is named) into the layout without which the gate proves no crate

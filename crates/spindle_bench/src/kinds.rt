@@ -1,15 +1,15 @@
 //! The kinds of jobs of the shapes, but of `nested`: each over lists and in place.
 ghost use Rattle.std.specs.Prelude.{◌≡◌, IfOk};
 ghost use Rattle.std.proofs.Common.{rules};
-ghost use Rattle.spindle_timing.specs.Kernels.{one_more_of, squares_of};
+ghost use Rattle.spindle_bench.specs.Kernels.{one_more_of, squares_of};
 
 use crate::series::{Listed, Placed};
 use spindle::lock::{End, InPlace, Job, JobCx, Remake};
 use spindle::{Fault, SharedList};
-use spindle_timing::kernels::{
+use crate::kernels::{
     are_all, are_squares, each_and_one, each_squared, one_more_by_lines, square_each, stirred,
 };
-use spindle_timing::stop::Stop;
+use crate::stop::Stop;
 use std::alloc::Global;
 use std::sync::Wait;
 use std::thread::Threads;

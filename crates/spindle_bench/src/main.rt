@@ -2,7 +2,7 @@
 //!
 //! For each shape and kind the program opens one lock of THREADS threads with the default limits, waits until all of them are
 //! there, runs rounds in it, checks what came out, and prints a line `NAME SHAPE THREADS best median p10 p90`, as
-//! `spindle_timing` says. NAME is `zuflanto` for a lock that `with_slots` opens, with a slot for each job of the round,
+//! this program says. NAME is `zuflanto` for a lock that `with_slots` opens, with a slot for each job of the round,
 //! `zuflanto-trays` for one that `with_lock` opens, and `zuflanto-place` for one that `with_slots_in_place` opens, whose rounds are
 //! `remake_each`. `try8` runs with trays alone, and `nested` in place alone, and once more as `zuflanto-patient`, whose pool lets
 //! `PATIENCE` pauses pass before a helper looks for inner locks.
@@ -34,10 +34,10 @@ use crate::kinds::{AddOne, Nothing, Square, Stir};
 use crate::locks::{Bench, Machine, in_each, in_place};
 use crate::nested::{AddOneToPart, InRounds};
 use spindle::lock::{InPlace, Limits, NoGate, Pool};
-use spindle_timing::line::Line;
-use spindle_timing::settings::Settings;
-use spindle_timing::shape::{SHAPES, Shape};
-use spindle_timing::stop::Stop;
+use crate::line::Line;
+use crate::settings::Settings;
+use crate::shape::{SHAPES, Shape};
+use crate::stop::Stop;
 
 /// The pauses of a patient helper before its first look at requests: some four microseconds.
 const PATIENCE: u32 = 512;

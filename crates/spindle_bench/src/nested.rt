@@ -1,14 +1,14 @@
 //! The jobs of `nested`: those that open locks of their own for a series of rounds, and those that run there.
 ghost use Rattle.std.specs.Prelude.{◌≡◌};
 ghost use denote.Param.Send.{IsSync};
-ghost use Rattle.spindle_timing.specs.Kernels.{one_more_of};
+ghost use Rattle.spindle_bench.specs.Kernels.{one_more_of};
 
 use crate::series::{PlaceSeries, Placed, Plays, Series};
 use spindle::lock::{ChunkOf, End, InPlace, JobCx, Remake, UnderPieces};
 use spindle::nested::with_slots_in_place;
-use spindle_timing::kernels::{are_all, one_more_each};
-use spindle_timing::shape::{NESTED_PARTS, NESTED_ROUNDS, PART_LEN, Shape};
-use spindle_timing::stop::Stop;
+use crate::kernels::{are_all, one_more_each};
+use crate::shape::{NESTED_PARTS, NESTED_ROUNDS, PART_LEN, Shape};
+use crate::stop::Stop;
 use std::alloc::Global;
 use std::marker::PhantomData;
 use std::sync::Wait;

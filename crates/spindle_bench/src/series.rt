@@ -5,8 +5,8 @@ ghost use denote.Param.Send.{IsSync};
 use spindle::lock::{
     End, Gate, Job, Leader, Opens, OpensSlots, PlaysInPlace, Remakes, Report, Rounds, SlotLeader,
 };
-use spindle_timing::shape::Shape;
-use spindle_timing::stop::Stop;
+use crate::shape::Shape;
+use crate::stop::Stop;
 use std::alloc::Global;
 use std::mem;
 use std::sync::Wait;

@@ -2,7 +2,7 @@
 ghost use Rattle.std.specs.Prelude.{◌≡◌};
 
 use crate::shape::Shape;
-use spindle_parts::fault::Fault;
+use spindle::Fault;
 use std::alloc::{AllocError, AllocFailed};
 use std::io;
 

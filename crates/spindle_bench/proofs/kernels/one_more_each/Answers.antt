@@ -2,8 +2,8 @@
 use Rattle.std.proofs.Common.{ℕ, List, ◌+◌, ◌<◌, ◌%◌, ◌^◌, ◌++◌, length, drop, get_or, ap, arith, ◌∙◌}
 use Rattle.std.proofs.lemmas.List.{get_or_default, take_all, drop_all, append-nil}
 use Rattle.std.proofs.lemmas.List.Edits.{map_over_more}
-use Rattle.spindle_timing.specs.Kernels.{one_more_of}
-use Rattle.spindle_timing.proofs.kernels.one_more_each.Goals as goal
+use Rattle.spindle_bench.specs.Kernels.{one_more_of}
+use Rattle.spindle_bench.proofs.kernels.one_more_each.Goals as goal
 
 pub loop-x-preserved : goal.loop-x-preserved
 loop-x-preserved c =

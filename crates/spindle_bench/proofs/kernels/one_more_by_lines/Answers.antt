@@ -1,8 +1,8 @@
 -- What is added to both parts is added to all.
 use Rattle.std.proofs.Common.{List, ℕ, ◌+◌, ◌%◌, ◌^◌, ◌++◌, ap, sym, ◌∙◌}
 use Rattle.std.proofs.lemmas.List.{map-append}
-use Rattle.spindle_timing.specs.Kernels.{one_more_of}
-use Rattle.spindle_timing.proofs.kernels.one_more_by_lines.Goals as goal
+use Rattle.spindle_bench.specs.Kernels.{one_more_of}
+use Rattle.spindle_bench.proofs.kernels.one_more_by_lines.Goals as goal
 
 pub returns : goal.returns
 returns c =

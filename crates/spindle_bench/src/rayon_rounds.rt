@@ -2,12 +2,12 @@
 ghost use Rattle.std.specs.Prelude.{◌≡◌, ◌<◌};
 
 use rayon::prelude::*;
-use spindle_timing::kernels::{are_all, are_squares, one_more_each, stirred};
-use spindle_timing::line::Line;
-use spindle_timing::settings::Settings;
-use spindle_timing::shape::Shape;
-use spindle_timing::stop::Stop;
-use spindle_timing::timing::run;
+use crate::kernels::{are_all, are_squares, one_more_each, stirred};
+use crate::line::Line;
+use crate::settings::Settings;
+use crate::shape::Shape;
+use crate::stop::Stop;
+use crate::timing::run;
 use std::alloc::Global;
 use std::rt::Clock;
 use std::thread::Threads;

@@ -1,6 +1,6 @@
 //! What the jobs compute, and whether what came out is right.
 ghost use Rattle.std.specs.Prelude.{◌≡◌, IfOk};
-ghost use Rattle.spindle_timing.specs.Kernels.{one_more_of, squares_of};
+ghost use Rattle.spindle_bench.specs.Kernels.{one_more_of, squares_of};
 
 use std::alloc::{AllocError, Global};
 
