@@ -15,6 +15,8 @@ pub mod jobs;
 pub mod lists;
 pub mod marks;
 #[cfg(test)]
+mod nested;
+#[cfg(test)]
 mod place_rows;
 #[cfg(test)]
 mod refused_rounds;

@@ -9,7 +9,7 @@ use spindle_trays::job::gate::NoGate;
 use spindle_trays::job::nest::Under;
 use spindle_trays::lock::leader::Leader;
 use spindle_trays::lock::workspace::Opens;
-use spindle_trays_tests::jobs::Idle;
+use crate::jobs::Idle;
 use std::alloc::Global;
 use std::hint::spin_loop;
 use std::marker::PhantomData;
