@@ -14,8 +14,8 @@ pub use Rattle.spindle_trays.specs.Reports
 pub use Rattle.spindle_trays.specs.Rounds
 pub use Rattle.spindle_trays.specs.declared.lock.report.Report
 pub use Rattle.spindle_threads.specs.Accounts
-pub use Rattle.spindle_threads.specs.Crews
-pub use Rattle.spindle_threads.specs.Notices
+pub use Rattle.spindle_threads.specs.ThreadCounts
+pub use Rattle.spindle_threads.specs.Signals
 -- of lists,
 pub use Rattle.spindle_parts.specs.Chunks
 pub use Rattle.spindle_parts.specs.Gathered

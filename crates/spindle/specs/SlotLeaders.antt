@@ -4,7 +4,7 @@
 -- Its rounds promise the same four things as those of a lock with trays, which Leaders of the crate spindle_trays names.
 --
 -- clause          word         sentence
--- answer, remade  AllZip       an Ok answers the items: an output for each, in their order, or what became of it in its place
+-- answer, updated  AllZip       an Ok answers the items: an output for each, in their order, or what became of it in its place
 -- refused         IsForMemory  a refusal is Memory, and never of a round of no items: no piece is lost
 -- trail           PlayedAs     the leader did nothing, or published once, that many jobs, in a round that has ended: by what came of it
 -- goes_on         GoesOn       it leads the same lock, with as many threads and slots, and may run the next round
@@ -15,8 +15,8 @@ use Rattle.spindle_parts.specs.declared.fault.Fault.{Fault}
 use Rattle.spindle_parts.specs.declared.fault.Fault.TheVariants.{Memory}
 use Rattle.spindle_parts.specs.declared.requests.plays.Account.{Account}
 use Rattle.spindle_threads.specs.Accounts as accounts
-use Rattle.spindle_threads.specs.Notices as notices
-use Rattle.spindle_slots.specs.declared.posts.kept_post.KeptPost.{KeptPost}
+use Rattle.spindle_threads.specs.Signals as signals
+use Rattle.spindle_slots.specs.declared.leader_states.leader_state.LeaderState.{LeaderState}
 use Rattle.spindle.specs.declared.lock.slot_leader.SlotLeader.{SlotLeader}
 use Rattle.spindle_rounds.specs.declared.round_table.view.View.{View}
 use Rattle.spindle_rounds.specs.RoundConditions.{MayFill}
@@ -24,7 +24,7 @@ use Rattle.spindle_rounds.specs.Working.{PlayedRound}
 
 -- the threads of its lock
 abbrev pub threads_of : {J G P I O N S : Type 0} → SlotLeader J G P I O N S → ℕ
-threads_of leader = leader.crew.most
+threads_of leader = leader.counts.most
 
 -- it leads a lock of so many threads with so many slots, where this tells them of its post
 abbrev pub IsLeaderOf : {J G P I O N S : Type 0} → (P → ℕ) → (threads slots : ℕ)
@@ -34,7 +34,7 @@ IsLeaderOf slot_count threads slots leader = (threads_of leader ≡ threads)
 
 -- what its seat at the ledger knows, with the trail of its own steps
 abbrev pub account_of : {J G P I O N S : Type 0} → SlotLeader J G P I O N S → Account
-account_of leader = accounts.account_of leader.runner.notices
+account_of leader = accounts.account_of leader.runner.signals
 
 -- a call over so many items is refused for want of memory alone, and never one over none
 abbrev pub IsForMemory : {T : Type 0} → (items : ℕ) → Result T Fault → Type 0
@@ -42,7 +42,7 @@ IsForMemory items result = OnErr result (IsErrOf result Memory) × (items ≡ 0 
 
 -- it told the idle threads to rest, and did nothing else at the ledger
 abbrev pub AnnouncedRest : {J G P I O N S : Type 0} → (old new : SlotLeader J G P I O N S) → Type 0
-AnnouncedRest old new = notices.AnnouncedRest (account_of old) (account_of new)
+AnnouncedRest old new = signals.AnnouncedRest (account_of old) (account_of new)
 
 -- what its post tells of it is as before
 abbrev pub IsAsBefore : {J G P I O N S V : Type 0} → (P → V) → (old new : SlotLeader J G P I O N S)
@@ -59,7 +59,7 @@ abbrev pub slots_of : {J G P I O N S : Type 0} → (P → ℕ) → SlotLeader J 
 slots_of slot_count leader = slot_count leader.post
 
 -- the slots of a lock whose leader has its kind of job's own post, as every caller's has
-abbrev pub lock_slots : {J G K A B C I O N S : Type 0} → SlotLeader J G (KeptPost K A B C) I O N S → ℕ
+abbrev pub lock_slots : {J G K A B C I O N S : Type 0} → SlotLeader J G (LeaderState K A B C) I O N S → ℕ
 lock_slots leader = leader.post.post.slots
 
 -- it leads the same lock

@@ -3,8 +3,8 @@
 pub use crate::kernels::{Change, Kernel, map, map_pairs, reduce_pairs, update};
 pub use crate::lock::{
     ChunkRounds, End, Gate, InPlace, Job, JobCx, Leader, Limits, LockOf, NoGate, PlaceLeader, Pool,
-    Remake, Report, Rounds, SlotLeader, TellsFailures, Under, UnderInPlace, UnderSlots, reduce,
-    remake_one, run_one,
+    Update, Report, RunsRounds, SlotLeader, TellsFailures, Under, UnderInPlace, UnderSlots, reduce,
+    update_one, run_one,
 };
 pub use spindle_parts::lists::{
     Chunk, ListRun, SharedList, Strip, gathered, joined_strips, tell_neighbours,

@@ -4,7 +4,7 @@ ghost use Rattle.std.proofs.Common.{rules};
 ghost use Rattle.spindle_bench.specs.Kernels.{one_more_of, squares_of};
 
 use crate::series::{Listed, Placed};
-use spindle::lock::{End, InPlace, Job, JobCx, Remake};
+use spindle::lock::{End, InPlace, Job, JobCx, Update};
 use spindle::{Fault, SharedList};
 use crate::kernels::{
     are_all, are_squares, each_and_one, each_squared, one_more_by_lines, square_each, stirred,
@@ -35,12 +35,12 @@ impl Job for Nothing {
     ghost equal_is_same = { Prim.search rules };
 }
 
-impl Remake for Nothing {
+impl Update for Nothing {
     type Item = usize;
 
     type Inner = End;
 
-    ghost remade = { λ old new. new ≡ old };
+    ghost updated = { λ old new. new ≡ old };
 
     fn run<H: Threads + Wait + Sync>(_: &H, _: Global, item: usize, _: &mut JobCx<End>) -> usize {
         item
@@ -89,12 +89,12 @@ impl Job for Stir {
 /// A number, and what came out of it once it was stirred.
 pub type Pair = (u64, u64);
 
-impl Remake for Stir {
+impl Update for Stir {
     type Item = Pair;
 
     type Inner = End;
 
-    ghost remade = { λ _ _. Unit {0} };
+    ghost updated = { λ _ _. Unit {0} };
 
     fn run<H: Threads + Wait + Sync>(_: &H, _: Global, item: Pair, _: &mut JobCx<End>) -> Pair {
         (item.0, stirred(item.0))
@@ -148,12 +148,12 @@ impl Job for AddOne {
     ghost equal_is_same = { Prim.search rules };
 }
 
-impl Remake for AddOne {
+impl Update for AddOne {
     type Item = Vec<u64>;
 
     type Inner = End;
 
-    ghost remade = { λ old new. new.items ≡ one_more_of old.items };
+    ghost updated = { λ old new. new.items ≡ one_more_of old.items };
 
     fn run<H: Threads + Wait + Sync>(
         _: &H,
@@ -233,12 +233,12 @@ pub struct Squaring {
     squares: Vec<u64>,
 }
 
-impl Remake for Square {
+impl Update for Square {
     type Item = Squaring;
 
     type Inner = End;
 
-    ghost remade = { λ _ _. Unit {0} };
+    ghost updated = { λ _ _. Unit {0} };
 
     fn run<H: Threads + Wait + Sync>(
         _: &H,

@@ -3,7 +3,7 @@ ghost use Rattle.std.specs.Prelude.{◌≡◌, ◌*◌, ◌<◌, ◌≤◌};
 ghost use denote.Param.Send.{IsSync};
 
 use crate::series::{ListSeries, Listed, PlaceSeries, Placed, Plays, Series, TrySeries};
-use spindle::lock::{End, Nest, NoGate, Pool, Remakes};
+use spindle::lock::{End, Nest, NoGate, Pool, Updates};
 use spindle::{with_lock, with_slots, with_slots_in_place};
 use crate::line::Line;
 use crate::settings::Settings;
@@ -32,7 +32,7 @@ pub struct Bench<'a, H> {
 }
 
 /// Runs a shape in each kind of lock, over lists by jobs of kind J and in place by those of kind M.
-pub fn in_each<J: Listed + Send, M: Placed + Remakes<Inner = End> + Send, H: Machine>(
+pub fn in_each<J: Listed + Send, M: Placed + Updates<Inner = End> + Send, H: Machine>(
     bench: &Bench<H>,
     shape: Shape,
 ) -> Result<(), Stop>
@@ -101,7 +101,7 @@ pub fn in_place<J: Placed + Send, H: Machine>(
 where
     J::Item: Send,
     J::Inner: Send,
-    <J::Inner as Nest>::Slots: Send + Sync,
+    <J::Inner as Nest>::ChildSlots: Send + Sync,
 {
     if !bench.settings.wants(line, shape) {
         return Ok(());

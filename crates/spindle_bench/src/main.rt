@@ -1,11 +1,25 @@
-//! Nanoseconds a round of a root lock, for seven shapes of rounds and three kinds of locks.
+//! Nanoseconds a round, for seven shapes of rounds, three kinds of locks, and the kit's `rayon`.
 //!
 //! For each shape and kind the program opens one lock of THREADS threads with the default limits, waits until all of them are
-//! there, runs rounds in it, checks what came out, and prints a line `NAME SHAPE THREADS best median p10 p90`, as
-//! this program says. NAME is `zuflanto` for a lock that `with_slots` opens, with a slot for each job of the round,
+//! there, runs rounds in it, checks what came out, and prints one line
+//!
+//! ```text
+//! NAME SHAPE THREADS best median p10 p90
+//! ```
+//!
+//! where the last four are whole nanoseconds a round: the best batch, the middle one, and those that a tenth and nine tenths of all
+//! batches stand below. A batch is 100 rounds between two readings of the clock (20 of `nested`, 10 of `stencil256k`); three batches
+//! warm up, then 300 count (100 of those two), or as many as end within 0.8 seconds.
+//!
+//! SHAPE in the environment names the one shape to run, and POOL what to run it on: `slots`, `trays`, `place`, `patient` or `rayon`.
+//! No line is printed where nothing has that name; `all` is as no name. THREADS is how many threads run, else 4. With the word `check`
+//! the program reads no clock: it runs a few rounds for each line, checks what came out, and says so.
+//!
+//! NAME is `zuflanto` for a lock that `with_slots` opens, with a slot for each job of the round,
 //! `zuflanto-trays` for one that `with_lock` opens, and `zuflanto-place` for one that `with_slots_in_place` opens, whose rounds are
-//! `remake_each`. `try8` runs with trays alone, and `nested` in place alone, and once more as `zuflanto-patient`, whose pool lets
-//! `PATIENCE` pauses pass before a helper looks for inner locks.
+//! `update_each`. `try8` runs with trays alone, and `nested` in place alone, and once more as `zuflanto-patient`, whose pool lets
+//! `PATIENCE` pauses pass before a helper looks for inner locks. `zuflanto-rayon` is what a caller takes who has no lock: it starts
+//! two threads for each processor at each call, so THREADS says only how many pieces its rounds have (`rayon_rounds`).
 //!
 //! - `empty`: as many numbers as threads; a job does nothing. In place the numbers stay from round to round.
 //! - `tiny8`: the same for eight numbers a thread; a job is about 50 ns of dependent arithmetic. In place an item is a number with
@@ -25,19 +39,26 @@
 
 ghost use Rattle.std.specs.Prelude.{◌≡◌};
 
+mod kernels;
 mod kinds;
+mod line;
 mod locks;
 mod nested;
+mod rayon_rounds;
 mod series;
+mod settings;
+mod shape;
+mod stop;
+mod timing;
 
 use crate::kinds::{AddOne, Nothing, Square, Stir};
+use crate::line::Line;
 use crate::locks::{Bench, Machine, in_each, in_place};
 use crate::nested::{AddOneToPart, InRounds};
-use spindle::lock::{InPlace, Limits, NoGate, Pool};
-use crate::line::Line;
 use crate::settings::Settings;
 use crate::shape::{SHAPES, Shape};
 use crate::stop::Stop;
+use spindle::lock::{InPlace, Limits, NoGate, Pool};
 
 /// The pauses of a patient helper before its first look at requests: some four microseconds.
 const PATIENCE: u32 = 512;
@@ -59,6 +80,7 @@ fn main(rt: HostRuntime) -> Result<(), Stop> {
             }
             Shape::Map => in_each::<Square, InPlace<Square>, _>(&bench, shape)?,
         }
+        rayon_rounds::of_shape(&rt, &settings, shape)?;
     }
     Ok(())
 }

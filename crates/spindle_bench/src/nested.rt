@@ -4,7 +4,7 @@ ghost use denote.Param.Send.{IsSync};
 ghost use Rattle.spindle_bench.specs.Kernels.{one_more_of};
 
 use crate::series::{PlaceSeries, Placed, Plays, Series};
-use spindle::lock::{ChunkOf, End, InPlace, JobCx, Remake, UnderPieces};
+use spindle::lock::{ChunkOf, End, InPlace, JobCx, Update, UnderPieces};
 use spindle::nested::with_slots_in_place;
 use crate::kernels::{are_all, one_more_each};
 use crate::shape::{NESTED_PARTS, NESTED_ROUNDS, PART_LEN, Shape};
@@ -20,12 +20,12 @@ pub type Part = [u64; PART_LEN];
 /// Adds one to each number of a part. In place a part is moved as one pointer, where a list is moved as three words and more.
 pub struct AddOneToPart;
 
-impl Remake for AddOneToPart {
+impl Update for AddOneToPart {
     type Item = Box<Part>;
 
     type Inner = End;
 
-    ghost remade = { λ old new. new.value ≡ one_more_of old.value };
+    ghost updated = { λ old new. new.value ≡ one_more_of old.value };
 
     fn run<H: Threads + Wait + Sync>(
         _: &H,
@@ -53,12 +53,12 @@ pub struct InRounds<J> {
     kind: PhantomData<J>,
 }
 
-impl<J: Placed> Remake for InRounds<J> {
+impl<J: Placed> Update for InRounds<J> {
     type Item = PlaceSeries<J>;
 
     type Inner = UnderPieces<J, ChunkOf<J>>;
 
-    ghost remade = { λ _ _. Unit {0} };
+    ghost updated = { λ _ _. Unit {0} };
 
     fn run<H: Threads + Wait + Sync>(
         rt: &H,

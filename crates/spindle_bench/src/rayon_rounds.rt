@@ -1,4 +1,4 @@
-//! The rounds of each shape over borrowed slices.
+//! Rounds of the kit's `rayon` over borrowed slices, in one piece a thread, of `map` four. `try8` and `nested` have none.
 ghost use Rattle.std.specs.Prelude.{◌≡◌, ◌<◌};
 
 use rayon::prelude::*;
@@ -12,8 +12,26 @@ use std::alloc::Global;
 use std::rt::Clock;
 use std::thread::Threads;
 
-/// Rounds of closures that do nothing.
-pub fn empty<H: Threads + Sync + Clock + Print + Alloc<A = Global>>(
+/// Times the rounds of a shape, where its line is asked for.
+pub fn of_shape<H: Threads + Sync + Clock + Print + Alloc<A = Global>>(
+    rt: &H,
+    settings: &Settings,
+    shape: Shape,
+) -> Result<(), Stop> {
+    if !settings.wants(Line::Rayon, shape) {
+        return Ok(());
+    }
+    match shape {
+        Shape::Empty => empty(rt, settings),
+        Shape::Tiny8 => tiny(rt, settings),
+        Shape::Stencil4k | Shape::Stencil256k => stencil(rt, settings, shape),
+        Shape::Map => map(rt, settings),
+        Shape::Try8 | Shape::Nested => Ok(()),
+    }
+}
+
+// Rounds of closures that do nothing.
+fn empty<H: Threads + Sync + Clock + Print + Alloc<A = Global>>(
     rt: &H,
     settings: &Settings,
 ) -> Result<(), Stop> {
@@ -29,8 +47,8 @@ pub fn empty<H: Threads + Sync + Clock + Print + Alloc<A = Global>>(
     times.print(rt, settings, Line::Rayon, shape, true)
 }
 
-/// Rounds of small jobs.
-pub fn tiny<H: Threads + Sync + Clock + Print + Alloc<A = Global>>(
+// Rounds of small jobs.
+fn tiny<H: Threads + Sync + Clock + Print + Alloc<A = Global>>(
     rt: &H,
     settings: &Settings,
 ) -> Result<(), Stop> {
@@ -50,8 +68,8 @@ pub fn tiny<H: Threads + Sync + Clock + Print + Alloc<A = Global>>(
     times.print(rt, settings, Line::Rayon, shape, is_right)
 }
 
-/// Rounds that add one to each number, in place.
-pub fn stencil<H: Threads + Sync + Clock + Print + Alloc<A = Global>>(
+// Rounds that add one to each number, in place.
+fn stencil<H: Threads + Sync + Clock + Print + Alloc<A = Global>>(
     rt: &H,
     settings: &Settings,
     shape: Shape,
@@ -77,8 +95,8 @@ pub fn stencil<H: Threads + Sync + Clock + Print + Alloc<A = Global>>(
     times.print(rt, settings, Line::Rayon, shape, is_right)
 }
 
-/// Rounds that square the numbers of a list.
-pub fn map<H: Threads + Sync + Clock + Print + Alloc<A = Global>>(
+// Rounds that square the numbers of a list.
+fn map<H: Threads + Sync + Clock + Print + Alloc<A = Global>>(
     rt: &H,
     settings: &Settings,
 ) -> Result<(), Stop> {

@@ -3,7 +3,7 @@ ghost use Rattle.std.specs.Prelude.{◌≡◌, ◌<◌};
 ghost use denote.Param.Send.{IsSync};
 
 use spindle::lock::{
-    End, Gate, Job, Leader, Opens, OpensSlots, PlaysInPlace, Remakes, Report, Rounds, SlotLeader,
+    End, Gate, Job, Leader, Opens, OpensSlots, PlaysInPlace, Updates, Report, RunsRounds, SlotLeader,
 };
 use crate::shape::Shape;
 use crate::stop::Stop;
@@ -27,7 +27,7 @@ pub trait Listed: Job<Inner = End> {
 }
 
 /// A kind of job whose rounds are played in place.
-pub trait Placed: Remakes<In = (), Out = ()> {
+pub trait Placed: Updates<In = (), Out = ()> {
     /// The item of the job of this number before the first round, so many numbers where that is a list.
     fn first(alloc: Global, number: usize, size: usize) -> Result<Self::Item, Stop>;
 
@@ -102,7 +102,7 @@ impl<J: Listed> Series for ListSeries<J> {
     }
 }
 
-impl<J: Listed, E: Rounds<J> + SeesThreads> Plays<ListSeries<J>> for E {
+impl<J: Listed, E: RunsRounds<J> + SeesThreads> Plays<ListSeries<J>> for E {
     fn play<H: Threads + Wait + Sync>(
         &mut self,
         rt: &H,
@@ -155,7 +155,7 @@ impl<'a, J: Listed + Opens<L>, G: Gate, L> Plays<TrySeries<J>> for Leader<'a, J,
 
 /// Rounds in place.
 #[derive(Drop)]
-pub struct PlaceSeries<J: Remakes> {
+pub struct PlaceSeries<J: Updates> {
     /// What the jobs of the last round left.
     pub items: Vec<J::Item>,
 }
@@ -187,6 +187,6 @@ impl<'a, J: PlaysInPlace<P>, G: Gate, P> Plays<PlaceSeries<J>> for SlotLeader<'a
         series: &mut PlaceSeries<J>,
     ) -> Result<(), Stop> {
         let jobs = series.items.len();
-        Ok(self.remake_each(rt, alloc, jobs, &mut series.items)?)
+        Ok(self.update_each(rt, alloc, jobs, &mut series.items)?)
     }
 }

@@ -61,15 +61,15 @@ told_smooth b (strip ∷ strips) =
     ∙ sym (between_append b values (items_of strips) 0)
 
 -- what strips became
-remade_values : (old new : List (Strip ℕ)) → AllZip IsSmoothed old new
+updated_values : (old new : List (Strip ℕ)) → AllZip IsSmoothed old new
     → items_of new ≡ joined (map (λ strip. smooth_between strip.before strip.items.items strip.behind) old)
-remade_values [] [] z = refl
-remade_values [] (n ∷ new) z = absurd z
-remade_values (o ∷ old) [] z = absurd z
-remade_values (o ∷ old) (n ∷ new) z =
+updated_values [] [] z = refl
+updated_values [] (n ∷ new) z = absurd z
+updated_values (o ∷ old) [] z = absurd z
+updated_values (o ∷ old) (n ∷ new) z =
     ap (λ l. l ++ items_of new) z.0
-    ∙ ap (λ l. smooth_between o.before o.items.items o.behind ++ l) (remade_values old new z.1)
+    ∙ ap (λ l. smooth_between o.before o.items.items o.behind ++ l) (updated_values old new z.1)
 
 -- a round over strips that were told their neighbours is a pass
 pub pass_of : (old new : List (Strip ℕ)) → AllZip IsSmoothed (told 0 old 0) new → items_of new ≡ smooth (items_of old)
-pass_of old new z = remade_values (told 0 old 0) new z ∙ told_smooth 0 old ∙ smooth_is (items_of old)
+pass_of old new z = updated_values (told 0 old 0) new z ∙ told_smooth 0 old ∙ smooth_is (items_of old)

@@ -18,12 +18,12 @@ pub struct Block {
 /// Fills in the entries of a block, tile by tile in a round of its own.
 pub struct Multiply;
 
-impl Remake for Multiply {
+impl Update for Multiply {
     type Item = Block;
 
     type Inner = Under<MultiplyTile>;
 
-    ghost remade = { IsFilled };
+    ghost updated = { IsFilled };
 
     fn run<H: Threads + Wait + Sync>(
         rt: &H,

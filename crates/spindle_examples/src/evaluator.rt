@@ -55,7 +55,7 @@ pub fn won_by<K: Evaluates + Send, G: Gate + Sync, H: Threads + Wait + Sync>(
 ) -> Result<Vec<usize>, Fault>
 where
     K::Inner: Send,
-    <K::Inner as Nest>::Slots: Send + Sync,
+    <K::Inner as Nest>::ChildSlots: Send + Sync,
     ensures { IfOk result (λ bites. bites.items ≡ winning_bites board) }
 {
     let replies = board.replies(alloc)?;

@@ -24,7 +24,7 @@ pub fn multiplied<G: Gate + Sync, H: Threads + Wait + Sync>(
     let rows = SharedList::from_vec(alloc, shared(alloc, rows)?)?;
     let runs = rows.share_out_evenly(alloc, blocks)?;
     let unfilled = blocks_of(alloc, runs, &columns)?;
-    let filled = remake_one::<InPlace<Multiply>, _, _>(rt, alloc, pool, blocks, unfilled)?;
+    let filled = update_one::<InPlace<Multiply>, _, _>(rt, alloc, pool, blocks, unfilled)?;
     let lists = entries_of(alloc, filled)?;
     Ok(gathered(alloc, lists)??)
 }

@@ -10,12 +10,12 @@ use spindle::prelude::*;
 /// One pass over a strip.
 pub struct Smooth;
 
-impl Remake for Smooth {
+impl Update for Smooth {
     type Item = Strip<u32>;
 
     type Inner = End;
 
-    ghost remade = { IsSmoothed };
+    ghost updated = { IsSmoothed };
 
     fn run<H: Threads + Wait + Sync>(
         _rt: &H,
@@ -65,7 +65,7 @@ fn pass<G: Gate, H: Threads + Wait + Sync>(
     ensures { OnOk result (items_of strips.new.items ≡ smooth (items_of strips.old.items)) }
 {
     tell_neighbours(strips.as_mut_slice(), 0);
-    leader.remake_each(rt, alloc, strips.len(), strips)
+    leader.update_each(rt, alloc, strips.len(), strips)
 }
 
 // So many passes.

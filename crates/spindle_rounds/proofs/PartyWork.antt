@@ -5,7 +5,7 @@ use Rattle.std.proofs.Common.{◌≡◌, ℕ, List, Bool, true, false, ◌+◌, 
 use Rattle.atomic_table.specs.Table.{Me}
 use Rattle.atomic_table.specs.declared.shared.Seat.{Seat}
 use Rattle.spindle_rounds.specs.declared.round.Round.{Round}
-use Rattle.spindle_rounds.specs.declared.round.task.Task.{Task}
+use Rattle.spindle_rounds.specs.declared.round.published_round.PublishedRound.{PublishedRound}
 use Rattle.spindle_rounds.specs.declared.round.source.Source.TheVariants.{Longest, Remainder}
 use Rattle.spindle_rounds.specs.declared.round.stopping.PutBack.{PutBack}
 use Rattle.spindle_rounds.specs.declared.round.stopping.PutBack.TheVariants as back
@@ -36,7 +36,7 @@ pub finish_after : {N : Type 0} (found : ℕ) (u v w : View N) → Onward u v �
 finish_after found u v w on sees same f =
     (onward_then u v w on f.0, (λ plain. f.1 (on.may_stop ∙ plain) ∙ sees plain), (f.2.0 ∙ same.0, f.2.1 ∙ same.1), f.3, λ last. f.4 (on.number ∙ last))
 
-module _ {T S N : Type 0} (round : Round T S N) (task : Task) where
+module _ {T S N : Type 0} (round : Round T S N) (task : PublishedRound) where
   pub went_first : (s : Seat S (View N)) → IsAtTask round task s → WentOn round task s s
   went_first s at = record { same = (refl, refl); on = onward_same s.me.0; at = at }
 

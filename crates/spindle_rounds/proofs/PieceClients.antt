@@ -10,8 +10,8 @@ use Rattle.atomic_table.specs.Table.{Me}
 use Rattle.spindle_rounds.specs.declared.round_table.view.View.{View}
 use Rattle.spindle_rounds.specs.declared.round_table.view.Spot.{Spot}
 use Rattle.spindle_rounds.specs.declared.round_table.view.Spot.TheVariants.{Out, Filled}
-use Rattle.spindle_rounds.specs.declared.round_table.pieces.Stand.{Stand}
-use Rattle.spindle_rounds.specs.declared.round_table.pieces.Stand.TheVariants.{Waits}
+use Rattle.spindle_rounds.specs.declared.round_table.pieces.SlotState.{SlotState}
+use Rattle.spindle_rounds.specs.declared.round_table.pieces.SlotState.TheVariants.{Waits}
 use Rattle.spindle_rounds.specs.RoundSlots.{spot_at}
 use Rattle.spindle_rounds.specs.RoundShown.{Deed, Began, Ended, Showed, deeds_of}
 use Rattle.spindle_rounds.specs.RoundViews.{shown_of, published_of}
@@ -94,7 +94,7 @@ module _ {N : Type 0} where
 
 module _ {P A : Type 0} (answers : P → A → Type 0) where
   abbrev Slot : Type 0
-  Slot = Stand P A
+  Slot = SlotState P A
 
   abbrev Board : Type 0
   Board = List (ℕ × Spot P)

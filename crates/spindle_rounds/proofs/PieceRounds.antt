@@ -6,7 +6,7 @@ use Rattle.spindle_rounds.specs.declared.round_table.view.Known.{Known}
 use Rattle.spindle_rounds.specs.declared.round_table.view.Spot.{Spot}
 use Rattle.spindle_rounds.specs.declared.round_table.view.Spot.TheVariants.{Out}
 use Rattle.spindle_rounds.specs.declared.round_table.view.View.{View}
-use Rattle.spindle_rounds.specs.declared.round_table.pieces.Stand.{Stand}
+use Rattle.spindle_rounds.specs.declared.round_table.pieces.SlotState.{SlotState}
 use Rattle.spindle_rounds.specs.RoundSlots.{spot_at}
 use Rattle.spindle_rounds.specs.RoundShown.{Deed, Showed}
 use Rattle.spindle_rounds.specs.RoundSteps.{round_of, unknown, publishing}
@@ -78,5 +78,5 @@ module _ {P A : Type 0} (answers : P → A → Type 0) where
         (a.4.0, subst (IsDeed (Showed a.4.0 n false)) (sym (moved_deeds st k m u next)) a.4.1, subst (AreFilled answers a.4.0 n) (sym same_board) a.4.2)
 
     -- what it then finds answers the pieces that it put before
-    pub answered_then : (c : List (ℕ × Stand P A)) → AreAnswered answers n u.0.board c → AreAnswered answers n m.0.board c
+    pub answered_then : (c : List (ℕ × SlotState P A)) → AreAnswered answers n u.0.board c → AreAnswered answers n m.0.board c
     answered_then c e = subst (λ (b : List (ℕ × Spot P)). AreAnswered answers n b c) same_board e

@@ -9,8 +9,8 @@ use Rattle.atomic_table.specs.Table.{Me}
 use Rattle.spindle_rounds.specs.declared.round_table.view.Spot.{Spot}
 use Rattle.spindle_rounds.specs.declared.round_table.view.Spot.TheVariants.{Vacant, Out, Filled}
 use Rattle.spindle_rounds.specs.declared.round_table.view.View.{View}
-use Rattle.spindle_rounds.specs.declared.round_table.pieces.Stand.{Stand}
-use Rattle.spindle_rounds.specs.declared.round_table.pieces.Stand.TheVariants.{Done}
+use Rattle.spindle_rounds.specs.declared.round_table.pieces.SlotState.{SlotState}
+use Rattle.spindle_rounds.specs.declared.round_table.pieces.SlotState.TheVariants.{Done}
 use Rattle.spindle_rounds.specs.RoundSlots.{Discipline, spot_at}
 use Rattle.spindle_rounds.specs.RoundSteps.{round_of}
 use Rattle.spindle_rounds.specs.RoundConditions.{IsDone}
@@ -70,7 +70,7 @@ module _ {P : Type 0} where
 
 module _ {P A : Type 0} (answers : P → A → Type 0) where
   abbrev Slot : Type 0
-  Slot = Stand P A
+  Slot = SlotState P A
 
   abbrev Board : Type 0
   Board = List (ℕ × Spot P)
@@ -177,7 +177,7 @@ module _ {X : Type 0} where
 
 module _ {P A : Type 0} (answers : P → A → Type 0) (Is : ℕ → P → Type 0) where
   -- empty slots and pieces may be published
-  pub may_publish : (slots n : ℕ) (c : List (ℕ × Stand P A)) → Turning IsEmpty (WaitsAs Is) slots n c → Turning (λ k y. IsUnrun answers y) IsPiece slots n c
+  pub may_publish : (slots n : ℕ) (c : List (ℕ × SlotState P A)) → Turning IsEmpty (WaitsAs Is) slots n c → Turning (λ k y. IsUnrun answers y) IsPiece slots n c
   may_publish slots n c t = turning_less IsEmpty (λ k y. IsUnrun answers y) (WaitsAs Is) IsPiece slots n c t
       (λ k y e. subst (IsUnrun answers) (sym e) tt) (λ k y w. (w.0, w.1))
 
@@ -200,8 +200,8 @@ played_taking {S} {N} D slots found n v m w t h = subst (λ (z : Me S (View N)).
 
 module _ {P A : Type 0} (answers : P → A → Type 0) (Is : ℕ → P → Type 0) (slots n : ℕ) where
   -- the round has ended since the leader worked in it, and it has taken the slots out
-  pub collected : (r found : ℕ) (w u e x : Me (Stand P A) (View P)) → LaidOut Is slots n r w.0.board → Onward w.0 u.0 → u.1 ≡ [] → InNext u e
+  pub collected : (r found : ℕ) (w u e x : Me (SlotState P A) (View P)) → LaidOut Is slots n r w.0.board → Onward w.0 u.0 → u.1 ≡ [] → InNext u e
       → TakenOut (pieces answers) slots found e x → n ≤ slots → AreAnswered answers n u.0.board x.1 → HoldsEach (AnsweredAs Is answers n) slots x.1
-  collected r found w u e x l on none next t few a = let same : e.0.board ≡ u.0.board = ap (λ (z : Me (Stand P A) (View P)). z.0.board) next.seat in
-      answered_as answers Is slots n r found e x t (ap (λ (z : Me (Stand P A) (View P)). z.1) next.seat ∙ none) few
+  collected r found w u e x l on none next t few a = let same : e.0.board ≡ u.0.board = ap (λ (z : Me (SlotState P A) (View P)). z.0.board) next.seat in
+      answered_as answers Is slots n r found e x t (ap (λ (z : Me (SlotState P A) (View P)). z.1) next.seat ∙ none) few
       (subst (LaidOut Is slots n r) (sym (same ∙ on.board)) l) (subst (λ (b : List (ℕ × Spot P)). AreAnswered answers n b x.1) (sym same) a)

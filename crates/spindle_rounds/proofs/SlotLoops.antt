@@ -10,7 +10,7 @@ use Rattle.atomic_table.specs.Table.{Me, rest}
 use Rattle.spindle_rounds.specs.declared.round_table.view.Spot.{Spot}
 use Rattle.spindle_rounds.specs.declared.round_table.view.Spot.TheVariants.{Out, Filled}
 use Rattle.spindle_rounds.specs.declared.round_table.view.View.{View}
-use Rattle.spindle_rounds.specs.declared.round_table.pieces.Stand.{Stand}
+use Rattle.spindle_rounds.specs.declared.round_table.pieces.SlotState.{SlotState}
 use Rattle.spindle_rounds.specs.RoundSlots.{spot_at}
 use Rattle.spindle_rounds.specs.RoundConditions.{MayFill, MayPutAll}
 use Rattle.spindle_rounds.specs.SlotSteps.{numbered, board_back}
@@ -84,7 +84,7 @@ module _ {X : Type 0} where
 
 module _ {P A : Type 0} (answers : P → A → Type 0) (q : ℕ) where
   abbrev Slot : Type 0
-  Slot = Stand P A
+  Slot = SlotState P A
 
   abbrev Board : Type 0
   Board = List (ℕ × Spot P)
@@ -109,21 +109,21 @@ module _ {P A : Type 0} (answers : P → A → Type 0) (q : ℕ) where
   back_on i (y ∷ ys) c b = back_on (i + 1) ys c ((i, spot_with answers q y) ∷ b)
 
 -- where every slot is out, and the first n hold pieces and the others nothing that was run, the n may be published
-pub pieces_held : {P A : Type 0} (answers : P → A → Type 0) (slots n : ℕ) (m : Me (Stand P A) (View P)) → MayFill m.0
+pub pieces_held : {P A : Type 0} (answers : P → A → Type 0) (slots n : ℕ) (m : Me (SlotState P A) (View P)) → MayFill m.0
     → Turning (λ k y. IsUnrun answers y) IsPiece slots n m.1 → ((k : ℕ) → k < slots → spot_at m.0.board k ≡ Out) → HoldsPieces answers n m
 pieces_held {P} {A} answers slots n m may t out = let q : ℕ = may.0.0 in let b : List (ℕ × Spot P) = m.0.board in let left = t.left in let done = t.done in
-    let other : List (ℕ × Stand P A) = numbered 0 t.new [] in let b' : List (ℕ × Spot P) = board_back (pieces answers) q (numbered n t.old []) b in (
+    let other : List (ℕ × SlotState P A) = numbered 0 t.new [] in let b' : List (ℕ × Spot P) = board_back (pieces answers) q (numbered n t.old []) b in (
       q,
       may.0.1,
       may.1,
-      subst (λ (c : List (ℕ × Stand P A)). MayPutAll (pieces answers) q c b) (sym t.hand)
+      subst (λ (c : List (ℕ × SlotState P A)). MayPutAll (pieces answers) q c b) (sym t.hand)
           (put_on answers q n t.old other b (λ k le lt. out k (omega arith)) t.old_are
           (may_put_all answers q 0 t.new b' (λ k le lt. back_before answers q n k t.old b (omega arith) ∙ out k (omega arith))
           (λ k y e. let w = t.new_are k y e in subst (IsUnrun answers) (sym w.1) tt))),
       λ k lt. let y = there t.new k (omega arith) in let w = t.new_are k y.0 y.1 in (
         w.0,
-        subst (λ (c : List (ℕ × Stand P A)). spot_at (board_back (pieces answers) q c b) k ≡ Filled q w.0) (sym t.hand)
+        subst (λ (c : List (ℕ × SlotState P A)). spot_at (board_back (pieces answers) q c b) k ≡ Filled q w.0) (sym t.hand)
             (ap (λ (z : List (ℕ × Spot P)). spot_at z k) (back_on answers q n t.old other b) ∙ piece_back answers q k t.new b' w.0
-            (y.1 ∙ ap (λ (z : Stand P A). some z) w.1)),
+            (y.1 ∙ ap (λ (z : SlotState P A). some z) w.1)),
       ),
     )

@@ -12,15 +12,15 @@ use Rattle.spindle_parts.specs.Runs.{state}
 use Rattle.spindle_rounds.specs.declared.round_table.view.View.{View}
 use Rattle.spindle_rounds.specs.declared.round_table.view.Spot.{Spot}
 use Rattle.spindle_rounds.specs.declared.round_table.view.Spot.TheVariants.{Filled}
-use Rattle.spindle_rounds.specs.declared.round_table.pieces.Stand.{Stand}
-use Rattle.spindle_rounds.specs.declared.round_table.pieces.Stand.TheVariants.{Waits, Done}
+use Rattle.spindle_rounds.specs.declared.round_table.pieces.SlotState.{SlotState}
+use Rattle.spindle_rounds.specs.declared.round_table.pieces.SlotState.TheVariants.{Waits, Done}
 use Rattle.spindle_rounds.specs.RoundSlots.{spot_at}
 use Rattle.spindle_rounds.specs.RoundPieces.{IsAway, IsHome, IsRunning, HasEnded, IsDoneWith, Fits, Held, SlotTells, SlotsTell}
 
 module _ {P A : Type 0} (answers : P → A → Type 0) where
   -- what a slot holds
   abbrev Slot : Type 0
-  Slot = Stand P A
+  Slot = SlotState P A
 
   apart : (h : m.Option (m.Option Slot)) (y : Slot) → IsAway h → IsHome h y → ⊥
   apart h y away home = some-ne-none y (sym (some-injective none (some y) (sym away ∙ home)))

@@ -1,5 +1,5 @@
 -- The definitions that contracts of this crate cite. SpotPlaces, PiecesStill and PiecesKept are
--- proofs: they stand here because the law of `Slots` for pieces must cite them.
+-- proofs: they stand here because the law of `SlotContents` for pieces must cite them.
 pub mod Spans
 pub mod Seating
 pub mod Words

@@ -3,7 +3,7 @@ use Rattle.std.specs.Prelude.{◌≡◌, ℕ, ◌+◌, List, None, Some, false}
 use Rattle.atomic_table.specs.Table.{Me}
 use Rattle.atomic_table.specs.declared.shared.Seat.{Seat}
 use Rattle.spindle_rounds.specs.declared.round.Round.{Round}
-use Rattle.spindle_rounds.specs.declared.round.task.Task.{Task}
+use Rattle.spindle_rounds.specs.declared.round.published_round.PublishedRound.{PublishedRound}
 use Rattle.spindle_rounds.specs.declared.round_table.view.View.{View}
 use Rattle.spindle_rounds.specs.RoundConditions.{HasEmptiedAll}
 use Rattle.spindle_rounds.specs.RoundSlots.{Discipline}
@@ -12,14 +12,14 @@ use Rattle.spindle_rounds.specs.Seating.{IsSeatAt, IsSameSeat}
 use Rattle.spindle_rounds.specs.Working.{OnTask}
 
 -- the seat is one of the round's table, and at work on the task
-pub record IsAtTask {T S N : Type 0} (round : Round T S N) (task : Task)
+pub record IsAtTask {T S N : Type 0} (round : Round T S N) (task : PublishedRound)
     (s : Seat S (View N)) : Type 0 where
   pub seated : IsSeatAt round.init s
   pub sized : s.me.0.threads ≡ round.init.threads
   pub on : OnTask task.jobs task.may_stop s.me.0
 
 -- it has gone on in its task
-pub record WentOn {T S N : Type 0} (round : Round T S N) (task : Task)
+pub record WentOn {T S N : Type 0} (round : Round T S N) (task : PublishedRound)
     (s t : Seat S (View N)) : Type 0 where
   pub same : IsSameSeat s t
   pub on : Onward s.me.0 t.me.0

@@ -5,7 +5,7 @@ use Rattle.atomic_table.specs.Table.{Me}
 use Rattle.spindle_rounds.specs.declared.round_table.view.Standing.TheVariants.{Inside}
 use Rattle.spindle_rounds.specs.declared.round_table.view.Spot.TheVariants.{Out}
 use Rattle.spindle_rounds.specs.declared.round_table.view.View.{View}
-use Rattle.spindle_rounds.specs.declared.round_table.pieces.Stand.{Stand}
+use Rattle.spindle_rounds.specs.declared.round_table.pieces.SlotState.{SlotState}
 use Rattle.spindle_rounds.specs.RoundSlots.{spot_at}
 use Rattle.spindle_rounds.specs.RoundShown.{Showed}
 use Rattle.spindle_rounds.specs.RoundSteps.{round_of}
@@ -18,7 +18,7 @@ use Rattle.spindle_rounds.specs.RoundPieces.{pieces, AreFilled}
 module _ {P A : Type 0} (answers : P → A → Type 0) where
   -- what a leader's seat holds
   abbrev pub Hand : Type 0
-  Hand = Me (Stand P A) (View P)
+  Hand = Me (SlotState P A) (View P)
 
   -- the leader, having published nothing, holds slots that may go back, and then each of n jobs has
   -- its piece in its slot

@@ -13,8 +13,8 @@ use Rattle.atomic_table.proofs.Lists.{at_set, set_else}
 use Rattle.spindle_rounds.specs.declared.round_table.view.View.{View}
 use Rattle.spindle_rounds.specs.declared.round_table.view.Spot.{Spot}
 use Rattle.spindle_rounds.specs.declared.round_table.view.Spot.TheVariants.{Vacant, Out, Filled}
-use Rattle.spindle_rounds.specs.declared.round_table.pieces.Stand.{Stand}
-use Rattle.spindle_rounds.specs.declared.round_table.pieces.Stand.TheVariants.{Empty, Waits, Done}
+use Rattle.spindle_rounds.specs.declared.round_table.pieces.SlotState.{SlotState}
+use Rattle.spindle_rounds.specs.declared.round_table.pieces.SlotState.TheVariants.{Empty, Waits, Done}
 use Rattle.spindle_rounds.specs.RoundSlots.{Lawful, Quiet, Begins, Finishes, Publishes, SameSlots}
 use Rattle.spindle_rounds.specs.RoundSlots.{NoSlots, AtRest, HasFinished, Spotted, spot_at}
 use Rattle.spindle_rounds.specs.RoundPieces.{IsRunning, Fits, Held, Found, Answered, HasAnswer}
@@ -26,7 +26,7 @@ use Rattle.spindle_rounds.specs.SpotPlaces.{spot_here, spot_else}
 module _ {P A : Type 0} (answers : P → A → Type 0) where
   -- what a slot holds
   abbrev Slot : Type 0
-  Slot = Stand P A
+  Slot = SlotState P A
 
   -- the fact of one slot depends on two counts and the slot
   moved : (r r' : Round) (k : ℕ) (x : P) (h h' : m.Option (m.Option Slot))

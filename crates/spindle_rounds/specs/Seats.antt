@@ -5,7 +5,7 @@ use mir.Syntax.{named}
 use Rattle.std.specs.Prelude.{[]}
 use Rattle.std.specs.Borrow.{Lends, MutBor, Fml}
 use Rattle.spindle_rounds.specs.declared.barrier.Barrier.{Barrier}
-use Rattle.spindle_rounds.specs.declared.round_table.slots.Slots as slots
+use Rattle.spindle_rounds.specs.declared.round_table.slots.SlotContents as slots
 use Rattle.spindle_rounds.specs.declared.round_table.view.View.{View}
 use Rattle.spindle_rounds.specs.contracts.barrier.Barrier as barrier
 use Rattle.spindle_rounds.specs.contracts.round_table.view.View as view

@@ -2,8 +2,8 @@
 use Rattle.std.specs.Prelude.{◌≡◌, ℕ, ◌+◌, List, [], length}
 use mathlib.Core.Option.{some}
 use lib.ListN.{get_elem?}
-use Rattle.spindle_rounds.specs.declared.round_table.pieces.Stand.{Stand}
-use Rattle.spindle_rounds.specs.declared.round_table.pieces.Stand.TheVariants.{Empty, Waits}
+use Rattle.spindle_rounds.specs.declared.round_table.pieces.SlotState.{SlotState}
+use Rattle.spindle_rounds.specs.declared.round_table.pieces.SlotState.TheVariants.{Empty, Waits}
 use Rattle.spindle_rounds.specs.SlotSteps.{numbered}
 
 -- whatever stands in the slot k
@@ -11,11 +11,11 @@ abbrev pub IsAny : {S : Type 0} → ℕ → S → Type 0
 IsAny k y = Unit {0}
 
 -- nothing stands in the slot k
-abbrev pub IsEmpty : {P A : Type 0} → ℕ → Stand P A → Type 0
+abbrev pub IsEmpty : {P A : Type 0} → ℕ → SlotState P A → Type 0
 IsEmpty k y = y ≡ Empty
 
 -- a piece stands in the slot k
-abbrev pub IsPiece : {P A : Type 0} → ℕ → Stand P A → Type 0
+abbrev pub IsPiece : {P A : Type 0} → ℕ → SlotState P A → Type 0
 IsPiece {P} k y = (x : P) × (y ≡ Waits x)
 
 module _ {X : Type 0} where

@@ -2,14 +2,14 @@
 ghost use Rattle.std.specs.Prelude.{◌≡◌, ◌≤◌};
 ghost use Rattle.spindle_rounds.specs.Words.{words_of};
 
-use crate::round_table::slots::Slots;
+use crate::round_table::slots::SlotContents;
 use crate::round_table::{RoundTable, Seat};
 
 pub mod ending;
 pub mod joining;
 pub mod leaving;
 pub mod opening;
-pub mod stance;
+pub mod detached_party;
 pub mod steps;
 pub mod waiting;
 pub mod word;
@@ -23,7 +23,7 @@ pub const MASK: u32 = 32767;
 
 /// A barrier that parties may join, over the table of a round (`BarrierInit` of spindle).
 #[derive(Drop)]
-pub struct BarrierInit<D: Slots> {
+pub struct BarrierInit<D: SlotContents> {
     pub(crate) table: RoundTable<D>,
     pub(crate) threads: usize,
     ghost sized: { (table.shared.key ≡ threads)
@@ -44,7 +44,7 @@ pub enum JoinRefused<P> {
 
 /// A party that has joined, or is the closer, with its seat (`Barrier` of spindle).
 #[derive(Drop)]
-pub struct Barrier<'a, D: Slots> {
+pub struct Barrier<'a, D: SlotContents> {
     init: &'a BarrierInit<D>,
     /// What the party steps with.
     pub seat: Seat<D>,

@@ -5,7 +5,7 @@ ghost use Rattle.spindle_rounds.specs.Seating.{IsSeatAt};
 
 use crate::barrier::BarrierInit;
 use crate::round_table::Seat;
-use crate::round_table::slots::{Bare, Slots};
+use crate::round_table::slots::{Bare, SlotContents};
 use spindle_parts::fault::Fault;
 use std::alloc::Global;
 
@@ -15,18 +15,18 @@ pub mod collecting;
 pub mod finishing;
 pub mod holding;
 pub mod leftovers;
-pub mod party;
+pub mod claimer;
 pub mod pieces;
 pub mod publishing;
 pub mod slots;
 pub mod source;
 pub mod stealing;
 pub mod stopping;
-pub mod task;
+pub mod published_round;
 
 /// The rounds of a table with a range for each thread, and the barrier that ends them.
 #[derive(Drop)]
-pub struct Round<D: Slots> {
+pub struct Round<D: SlotContents> {
     init: BarrierInit<D>,
     ghost ranges: { 0 < init.threads },
 }
@@ -48,7 +48,7 @@ impl Round<Bare> {
     }
 }
 
-impl<D: Slots> Round<D> {
+impl<D: SlotContents> Round<D> {
     /// The barrier over the same table.
     pub fn init(&self) -> &BarrierInit<D>
         ensures { result.now ≡ self.now.init }

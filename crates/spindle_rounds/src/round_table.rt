@@ -18,7 +18,7 @@ ghost use Rattle.std.specs.Prelude.{◌≡◌, ◌+◌, ◌*◌, ◌≤◌, true
 ghost use Rattle.spindle_rounds.specs.RoundRule.{Shown};
 ghost use Rattle.spindle_rounds.specs.RoundSteps.{outsider};
 
-use self::slots::Slots;
+use self::slots::SlotContents;
 use self::view::View;
 use atomic_table::{Shared, Table, TableRule};
 use std::alloc::Global;
@@ -55,22 +55,22 @@ pub const APART: usize = 16;
 pub const HIGH: u64 = 4294967296;
 
 /// The rule: between any two atomic steps there is a run that ends in a state which words and seats show.
-pub struct RoundRule<D: Slots> {
+pub struct RoundRule<D: SlotContents> {
     of: PhantomData<D>,
 }
 
 /// The key is the number of threads.
-impl<D: Slots> TableRule<D::Slot, View<D::Note>, u64> for RoundRule<D> {
+impl<D: SlotContents> TableRule<D::Slot, View<D::Note>, u64> for RoundRule<D> {
     ghost holds = { λ threads s. Shown D.discipline threads s };
 
     ghost first = { λ threads. outsider threads true };
 }
 
 /// The words as threads share them.
-pub type SharedWords<D: Slots> = Shared<D::Slot, View<D::Note>, u64, RoundRule<D>>;
+pub type SharedWords<D: SlotContents> = Shared<D::Slot, View<D::Note>, u64, RoundRule<D>>;
 
 /// The words with their memory.
-pub type RoundTable<D: Slots> = Table<D::Slot, View<D::Note>, u64, RoundRule<D>, Global>;
+pub type RoundTable<D: SlotContents> = Table<D::Slot, View<D::Note>, u64, RoundRule<D>, Global>;
 
 /// What one thread steps with.
-pub type Seat<D: Slots> = atomic_table::Seat<D::Slot, View<D::Note>>;
+pub type Seat<D: SlotContents> = atomic_table::Seat<D::Slot, View<D::Note>>;

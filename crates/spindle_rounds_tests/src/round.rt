@@ -11,7 +11,7 @@ use crate::checks::{holds, is};
 use spindle_parts::fault::Fault;
 use spindle_rounds::round::Round;
 use spindle_rounds::round::stopping::PutBack;
-use spindle_rounds::round_table::pieces::{Answers, Pieces};
+use spindle_rounds::round_table::pieces::{PieceKind, PieceSlots};
 use spindle_rounds::round_table::slots::Bare;
 use spindle_rounds::round_table::{APART, PUBLISHED, RANGES, REMAINDER, STOPPED, Seat};
 use std::test::Fail;
@@ -168,7 +168,7 @@ fn refused_round_is_no_table(rt: HostRuntime) {
 /// Pieces that are numbers, each answered by twice the number.
 struct Twice;
 
-impl Answers for Twice {
+impl PieceKind for Twice {
     ghost use Rattle.std.specs.Prelude.{◌≡◌, ◌*◌};
 
     type Piece = u32;
@@ -181,7 +181,7 @@ impl Answers for Twice {
 #[test]
 fn refused_slots_are_no_table(rt: HostRuntime) {
     for slots in [1, 11, 1000] {
-        match Round::<Pieces<Twice>>::with_slots(rt.alloc(), 3, slots) {
+        match Round::<PieceSlots<Twice>>::with_slots(rt.alloc(), 3, slots) {
             Ok((round, _seat)) => is(&rt, round.init().current_num_threads(), 0),
             Err(fault) => holds(&rt, matches!(fault, Fault::Memory)),
         }

@@ -32,9 +32,9 @@ module _ {T : Type 0} where
   )
 
   -- what became of all items has room where they were
-  pub all_fit : (R : T → T → Type 0) (items chunk remade : List T) (len cap left most : ℕ) → AllZip R chunk remade → chunk ≡ items
-      → (len ≡ length items) × (len ≤ cap) → left ≡ 0 → most ≡ cap → left + length remade ≤ most
-  all_fit R items chunk remade len cap left most z e fit none same = omega (arith, AllZip-long R chunk remade z, ap length e)
+  pub all_fit : (R : T → T → Type 0) (items chunk updated : List T) (len cap left most : ℕ) → AllZip R chunk updated → chunk ≡ items
+      → (len ≡ length items) × (len ≤ cap) → left ≡ 0 → most ≡ cap → left + length updated ≤ most
+  all_fit R items chunk updated len cap left most z e fit none same = omega (arith, AllZip-long R chunk updated z, ap length e)
 
   -- of the items before the next piece, those from this one's start on are the piece
   pub piece_last : (items : List T) (pieces k : ℕ) → drop (piece_start (length items) pieces k) (items_before items pieces (k + 1)) ≡ piece_at items pieces k

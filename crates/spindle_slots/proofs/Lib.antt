@@ -1,4 +1,4 @@
 -- The lemmas of this crate.
 mod SlotRounds
-mod SlotPosts
+mod SlotMembers
 mod InPlace

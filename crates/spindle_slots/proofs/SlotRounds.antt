@@ -4,8 +4,8 @@ use Rattle.std.proofs.Math.Nat.{div_self, mod_self}
 use Rattle.std.proofs.lemmas.List.{length-take, reverse-append}
 use Rattle.std.specs.List.{AllZip}
 use Rattle.atomic_table.specs.Table.{Me}
-use Rattle.spindle_rounds.specs.declared.round_table.pieces.Stand.{Stand}
-use Rattle.spindle_rounds.specs.declared.round_table.pieces.Stand.TheVariants as stand
+use Rattle.spindle_rounds.specs.declared.round_table.pieces.SlotState.{SlotState}
+use Rattle.spindle_rounds.specs.declared.round_table.pieces.SlotState.TheVariants as stand
 use Rattle.spindle_rounds.specs.declared.barrier.Barrier.{Barrier}
 use Rattle.spindle_rounds.specs.declared.round_table.view.View.{View}
 use Rattle.spindle_rounds.specs.PieceRounds.{PublishedPieces, AwaitsAnswers}
@@ -28,15 +28,15 @@ use Rattle.spindle_threads.specs.declared.tables.Tables.{Tables}
 
 module _ {A B : Type 0} where
   -- what was found in the slot of a number answers the number's piece
-  pub found_answer : (Meets : A → B → Type 0) (items : List A) (pieces k : ℕ) (c : List (ℕ × Stand (OneOr A (List A)) (OneOr B (List B))))
-      (y : Stand (OneOr A (List A)) (OneOr B (List B))) (r : OneOr B (List B)) → IsAtHand k y c
+  pub found_answer : (Meets : A → B → Type 0) (items : List A) (pieces k : ℕ) (c : List (ℕ × SlotState (OneOr A (List A)) (OneOr B (List B))))
+      (y : SlotState (OneOr A (List A)) (OneOr B (List B))) (r : OneOr B (List B)) → IsAtHand k y c
       → (x : OneOr A (List A)) × (o : OneOr B (List B)) × (y ≡ stand.Done o) × IsAnswerTo Meets x o × IsPieceOf items pieces k x
       → IsAtHand k (stand.Done r) c → AllZip Meets (piece_at items pieces k) (all_of r)
   found_answer Meets items pieces k c y r at d found = let is : stand.Done r ≡ stand.Done d.1 = one_at_hand c k (stand.Done r) y found at ∙ d.2 in
       let same : d.1 ≡ r = cc in subst (λ z. AllZip Meets z (all_of r)) d.4 (subst (λ z. AllZip Meets (all_of d.0) (all_of z)) same d.3)
 
   -- what a slot of a round that has ended holds
-  abbrev pub Held : (Meets : A → B → Type 0) (items : List A) (pieces : ℕ) → ℕ → Stand (OneOr A (List A)) (OneOr B (List B)) → Type 0
+  abbrev pub Held : (Meets : A → B → Type 0) (items : List A) (pieces : ℕ) → ℕ → SlotState (OneOr A (List A)) (OneOr B (List B)) → Type 0
   Held Meets items pieces = AnsweredAs (IsPieceOf items pieces) (IsAnswerTo Meets) pieces
 
 -- of as many pieces as items each is an item
@@ -51,7 +51,7 @@ item_is_piece {A} items n k piece many one = let l : ℕ = length items in
     ap all_of one.1 ∙ (sym one.2 ∙ (sym piece_is ∙ ap (λ (m : ℕ). piece_at items m k) (sym many)))
 
 -- so the slots hold the pieces, where each holds an item
-pub items_are_pieces : {A B : Type 0} (items : List A) (n slots : ℕ) (c : List (ℕ × Stand (OneOr A (List A)) B)) → n ≡ length items
+pub items_are_pieces : {A B : Type 0} (items : List A) (n slots : ℕ) (c : List (ℕ × SlotState (OneOr A (List A)) B)) → n ≡ length items
     → Turning IsEmpty (WaitsAs (IsItemOf items)) slots n c → Turning IsEmpty (WaitsAs (IsPieceOf items n)) slots n c
 items_are_pieces items n slots c many t = turning_less IsEmpty IsEmpty (WaitsAs (IsItemOf items)) (WaitsAs (IsPieceOf items n)) slots n c t (λ k y e. e)
     (λ k y w. (w.0, w.1, item_is_piece items n k w.0 many w.2))
@@ -67,7 +67,7 @@ reverse_twice [] = refl
 reverse_twice (x ∷ xs) = ap reverse (reverse-append (x ∷ []) xs) ∙ (reverse-append (reverse xs) (x ∷ []) ∙ ap (λ l. x ∷ l) (reverse_twice xs))
 
 -- a leader whose seat knows what it knew leads as it did, whatever it did at its hand
-pub still_leads : {T P A : Type 0} (tables : Tables T (Stand P A) P) (b c : Barrier T (Stand P A) P) → c.init ≡ b.init → c.sense ≡ b.sense
+pub still_leads : {T P A : Type 0} (tables : Tables T (SlotState P A) P) (b c : Barrier T (SlotState P A) P) → c.init ≡ b.init → c.sense ≡ b.sense
     → c.is_member ≡ b.is_member → IsSameSeat b.seat c.seat → c.seat.me.0 ≡ b.seat.me.0 → LeadsAt tables b → LeadsAt tables c
 still_leads {T} {P} {A} tables b c init sense member seat view l = let h = l.at.0 in record {
   at = (
@@ -85,16 +85,16 @@ still_leads {T} {P} {A} tables b c init sense member seat view l = let h = l.at.
   out = subst (λ (z : View P). AllOut (slots_of tables.round.init) z.board) (sym view) l.out;
 }
 
-module _ {P A : Type 0} (answers : P → A → Type 0) (slots n : ℕ) (m : Me (Stand P A) (View P)) where
+module _ {P A : Type 0} (answers : P → A → Type 0) (slots n : ℕ) (m : Me (SlotState P A) (View P)) where
   -- whatever the pieces are, once they are published and run their leader may await the answers
-  pub may_await : (w u : Me (Stand P A) (View P)) → Turning IsEmpty IsPiece slots n m.1 → PublishedPieces answers n m w → Onward w.0 u.0 → m.0.leader ≡ true
+  pub may_await : (w u : Me (SlotState P A) (View P)) → Turning IsEmpty IsPiece slots n m.1 → PublishedPieces answers n m w → Onward w.0 u.0 → m.0.leader ≡ true
       → IsIdle u.0 → IsDone u.0 → AwaitsAnswers answers slots n u
   may_await w u t p on leads idle done = let Any : ℕ → P → Type 0 = λ k x. Unit {0} in
       let any = turning_less IsEmpty IsEmpty IsPiece (WaitsAs Any) slots n m.1 t (λ k y e. e) (λ k y x. (x.0, x.1, tt {0})) in
       awaits answers Any slots n m w u (laid_out answers Any slots n m w any p) p on (on.leader ∙ (p.seat.1 ∙ leads)) idle done
 
   -- after the round the slots hold the answers to what the pieces were
-  pub answers_held : (Is : ℕ → P → Type 0) (x : Me (Stand P A) (View P)) → Turning IsEmpty (WaitsAs Is) slots n m.1 → n ≤ slots
+  pub answers_held : (Is : ℕ → P → Type 0) (x : Me (SlotState P A) (View P)) → Turning IsEmpty (WaitsAs Is) slots n m.1 → n ≤ slots
       → PlayedPieces answers slots n m x → HoldsEach (AnsweredAs Is answers n) slots x.1
   answers_held Is x t few p = collected answers Is slots n (round_of m.0.standing) p.found p.shown p.worked p.ended x
       (laid_out answers Is slots n m p.shown t p.published) p.on p.none p.next p.taken few p.answered

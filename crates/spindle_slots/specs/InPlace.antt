@@ -20,6 +20,6 @@ pub record IsReady {T : Type 0} (items jobs : ℕ) (ready : List ℕ) (waiting :
   pub none : waiting ≡ []
   pub places : jobs ≤ most
 
--- of these items those before the ones that are left were remade
-abbrev pub HasRemade : {T : Type 0} → (T → T → Type 0) → (items left done : List T) → Type 0
-HasRemade {T} Remade items left done = (before : List T) × (items ≡ before ++ left) × AllZip Remade before done
+-- of these items those before the ones that are left were updated
+abbrev pub HasUpdated : {T : Type 0} → (T → T → Type 0) → (items left done : List T) → Type 0
+HasUpdated {T} Updated items left done = (before : List T) × (items ≡ before ++ left) × AllZip Updated before done

@@ -12,5 +12,5 @@ pub use Rattle.spindle_rounds.specs.SlotHands
 pub use Rattle.spindle_rounds.specs.SlotLoops
 pub use Rattle.spindle_rounds.specs.Working
 pub use Rattle.spindle_rounds.specs.declared.round_table.view.View
-pub use Rattle.spindle_threads.specs.SlotPosts
+pub use Rattle.spindle_threads.specs.SlotMembers
 pub use Rattle.spindle_trays.specs.PieceRuns

@@ -1,3 +1,3 @@
-//! A kind of job that remakes items in place.
+//! A kind of job that updates items in place.
 
-pub mod remake;
+pub mod update;

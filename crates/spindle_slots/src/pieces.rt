@@ -6,6 +6,6 @@ pub mod in_place;
 pub mod in_slots;
 pub mod items;
 pub mod of_kind;
-pub mod rooms;
+pub mod output_buffers;
 pub mod slot_piece;
-pub mod store;
+pub mod chunk_buffers;

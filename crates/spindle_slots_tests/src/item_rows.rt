@@ -7,7 +7,7 @@ ghost use Rattle.std.specs.Prelude.{◌≤◌};
 use crate::checks::{are, is};
 use crate::marks::{Marks, Noted, Noting, ROWS, Taking, noted_items};
 use crate::rounds::rounds_of;
-use spindle::lock::{End, InPlace, JobCx, Limits, Pool, Remake};
+use spindle::lock::{End, InPlace, JobCx, Limits, Pool, Update};
 use spindle::{Fault, with_slots_in_place};
 use std::alloc::Global;
 use std::sync::{Arc, Wait};
@@ -37,12 +37,12 @@ fn each_job_in_slots_has_the_items_of_its_piece(rt: HostRuntime) -> Result<(), F
 /// Notes that its item is run, which stays as it is.
 pub struct NotingHere;
 
-impl Remake for NotingHere {
+impl Update for NotingHere {
     type Item = Noted;
 
     type Inner = End;
 
-    ghost remade = { λ _ _. Unit {0} };
+    ghost updated = { λ _ _. Unit {0} };
 
     fn run<H: Threads + Wait + Sync>(
         _rt: &H,
@@ -74,7 +74,7 @@ fn note_often<H: Threads + Wait + Sync>(
         slots,
         |leader| {
             for _ in 0..rounds {
-                leader.remake_each(rt, alloc, 11, items)?;
+                leader.update_each(rt, alloc, 11, items)?;
             }
             Ok::<(), Fault>(())
         },

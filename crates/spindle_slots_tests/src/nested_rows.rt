@@ -12,7 +12,7 @@ use crate::jobs::Seen;
 use crate::staying::{Staying, all_ran, stay, turns_of, until_all_run};
 use spindle::Fault;
 use spindle::lock::{
-    End, InPlace, Job, JobCx, Limits, LockOf, Nest, NoGate, PlaceLeader, Pool, Remake, SlotLeader,
+    End, InPlace, Job, JobCx, Limits, LockOf, Nest, NoGate, PlaceLeader, Pool, Update, SlotLeader,
     UnderInPlace, UnderSlots,
 };
 use spindle_trays_tests::rounds::rounds_of;
@@ -88,12 +88,12 @@ fn in_slots<H: Threads + Wait + Sync>(
 /// Stays as `Staying` does, for as many turns as its item says in the place of the threads that are there. The item becomes where it ran.
 pub struct StayingHere;
 
-impl Remake for StayingHere {
+impl Update for StayingHere {
     type Item = Seen;
 
     type Inner = End;
 
-    ghost remade = { λ _ _. Unit {0} };
+    ghost updated = { λ _ _. Unit {0} };
 
     fn run<H: Threads + Wait + Sync>(
         _rt: &H,
@@ -159,13 +159,13 @@ fn in_place<H: Threads + Wait + Sync>(
     jobs: usize,
     rounds: usize,
 ) -> Option<Vec<Seen>> {
-    match remade(rt, alloc, leader, jobs, rounds) {
+    match updated(rt, alloc, leader, jobs, rounds) {
         Ok(places) => Some(places),
-        Err(_) => remade(rt, alloc, leader, jobs, rounds).ok(),
+        Err(_) => updated(rt, alloc, leader, jobs, rounds).ok(),
     }
 }
 
-fn remade<H: Threads + Wait + Sync>(
+fn updated<H: Threads + Wait + Sync>(
     rt: &H,
     alloc: Global,
     leader: &mut PlaceLeader<StayingHere, NoGate>,
@@ -176,7 +176,7 @@ fn remade<H: Threads + Wait + Sync>(
     let mut places = Vec::new(alloc);
     for _ in 0..rounds {
         places = Vec::from_elem(alloc, (None, turns_of(rounds), 0), jobs)?;
-        leader.remake_each(rt, alloc, jobs.max(1), &mut places)?;
+        leader.update_each(rt, alloc, jobs.max(1), &mut places)?;
         if all_ran(&places, threads) {
             break;
         }
@@ -208,7 +208,7 @@ fn play<K: Job<In = Ask, Out = Vec<Seen>> + Send, H: Threads + Wait + Abort + Sy
 ) -> Result<(), Fault>
 where
     K::Inner: Send,
-    <K::Inner as Nest>::Slots: Send + Sync,
+    <K::Inner as Nest>::ChildSlots: Send + Sync,
 {
     let (threads, spin, rounds, jobs, ask, most) = row;
     let pool = Pool::new(threads.max(1), Limits { spin, pause: 8 }, NoGate);
@@ -230,7 +230,7 @@ fn refused_once<K: Job<In = Ask, Out = Vec<Seen>> + Send, H: Threads + Wait + Ab
 )
 where
     K::Inner: Send,
-    <K::Inner as Nest>::Slots: Send + Sync,
+    <K::Inner as Nest>::ChildSlots: Send + Sync,
 {
     for jobs in [1, 3, 7] {
         let row = (2, 65536, 1, 2, (2, jobs, 1), 2);
@@ -246,7 +246,7 @@ fn play_all<K: Job<In = Ask, Out = Vec<Seen>> + Send, H: Threads + Wait + Abort 
 ) -> Result<(), Fault>
 where
     K::Inner: Send,
-    <K::Inner as Nest>::Slots: Send + Sync,
+    <K::Inner as Nest>::ChildSlots: Send + Sync,
 {
     for row in ROWS {
         play::<K, H>(rt, alloc, row)?;

@@ -9,9 +9,9 @@ use crate::gates::Meetings;
 use crate::jobs::{Calls, Counting};
 use crate::sevens::seven_items;
 use spindle::lock::{
-    End, Gate, InPlace, JobCx, Limits, NoGate, PlaceLeader, Pool, Remake, RoundsInPlace,
+    End, Gate, InPlace, JobCx, Limits, NoGate, PlaceLeader, Pool, Update, RoundsInPlace,
 };
-use spindle::{Fault, play_in_place, remake_one, with_slots_in_place};
+use spindle::{Fault, play_in_place, update_one, with_slots_in_place};
 use std::alloc::Global;
 use std::process::Abort;
 use std::sync::Wait;
@@ -20,14 +20,14 @@ use std::thread::Threads;
 /// Adds 3 to a number, modulo 2^64.
 pub struct Step;
 
-impl Remake for Step {
+impl Update for Step {
     ghost use Rattle.std.specs.Prelude.{◌≡◌, ◌+◌, ◌%◌, ◌^◌};
 
     type Item = usize;
 
     type Inner = End;
 
-    ghost remade = { λ old new. new ≡ (old + 3) % 2 ^ 64 };
+    ghost updated = { λ old new. new ≡ (old + 3) % 2 ^ 64 };
 
     fn run<H: Threads + Wait + Sync>(
         _rt: &H,
@@ -59,7 +59,7 @@ impl RoundsInPlace for Steps {
         alloc: Global,
         leader: &mut PlaceLeader<Step, G>,
     ) -> Result<(), Fault> {
-        leader.remake_each(rt, alloc, 4, &mut self.list)
+        leader.update_each(rt, alloc, 4, &mut self.list)
     }
 }
 
@@ -96,7 +96,7 @@ fn step_often<G: Gate + Sync, H: Threads + Wait + Sync>(
             requires { 0 < jobs }
         {
             for _ in 0..rounds {
-                leader.remake_each(rt, alloc, jobs, list)?;
+                leader.update_each(rt, alloc, jobs, list)?;
             }
             Ok::<(), Fault>(())
         },
@@ -181,7 +181,7 @@ fn one_round_in_place_has_the_jobs_asked_for(rt: HostRuntime) -> Result<(), Faul
         let calls = Calls::new();
         let pool = Pool::new(threads, Limits::new(), Counting { calls: &calls });
         let items = (0..count).collect(alloc)?;
-        let list = remake_one::<InPlace<Step>, _, _>(&rt, alloc, &pool, asked, items)?;
+        let list = update_one::<InPlace<Step>, _, _>(&rt, alloc, &pool, asked, items)?;
         holds(&rt, have_stepped(list.as_slice(), count, 1));
         is(&rt, calls.in_all(), (jobs, jobs));
     }
@@ -199,7 +199,7 @@ fn step_once<H: Threads + Wait + Abort + Sync>(
     let list = if as_value {
         play_in_place(rt, alloc, &pool, 4, 3, Steps { list })?.list
     } else {
-        remake_one::<InPlace<Step>, _, _>(rt, alloc, &pool, 3, list)?
+        update_one::<InPlace<Step>, _, _>(rt, alloc, &pool, 3, list)?
     };
     holds(rt, have_stepped(list.as_slice(), 7, 1));
     Ok(())

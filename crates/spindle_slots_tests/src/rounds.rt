@@ -3,7 +3,7 @@ ghost use Rattle.std.specs.Prelude.{◌<◌, ◌≤◌};
 ghost use denote.Param.Send.{IsSync};
 
 use crate::jobs::Seen;
-use spindle::lock::{Gate, Job, Nest, OpensSlots, Pool, Rounds, SlotLeader};
+use spindle::lock::{Gate, Job, Nest, OpensSlots, Pool, RunsRounds, SlotLeader};
 use spindle::{Fault, with_slots};
 use std::alloc::Global;
 use std::sync::Wait;
@@ -25,7 +25,7 @@ where
     J::In: Send + Sync,
     J::Out: Send,
     J::Inner: Send,
-    <J::Inner as Nest>::Slots: Send + Sync,
+    <J::Inner as Nest>::ChildSlots: Send + Sync,
     requires most { 0 < most }
     requires slots { (1 ≤ slots) × (slots ≤ 4294967295) }
     requires jobs { 0 < jobs }
@@ -67,7 +67,7 @@ impl<'a, J: OpensSlots<P>, G: Gate, P> Seeing for SlotLeader<'a, J, G, P> {
 }
 
 // The rounds of a leader.
-fn play<J: Job, E: Rounds<J> + Seeing, H: Threads + Wait + Sync>(
+fn play<J: Job, E: RunsRounds<J> + Seeing, H: Threads + Wait + Sync>(
     rt: &H,
     alloc: Global,
     leader: &mut E,

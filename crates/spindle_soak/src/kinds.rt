@@ -61,12 +61,12 @@ impl Job for Turns {
     ghost equal_is_same = { Prim.search rules };
 }
 
-impl Remake for Turns {
+impl Update for Turns {
     type Item = u64;
 
     type Inner = End;
 
-    ghost remade = { λ _ _. Unit {0} };
+    ghost updated = { λ _ _. Unit {0} };
 
     fn run<H: Threads + Wait + Sync>(_: &H, _: Global, number: u64, _: &mut JobCx<End>) -> u64 {
         tripled(number)
@@ -134,12 +134,12 @@ impl Job for InSlots {
     ghost equal_is_same = { Prim.search rules };
 }
 
-impl Remake for Places {
+impl Update for Places {
     type Item = u64;
 
     type Inner = UnderInPlace<Turns>;
 
-    ghost remade = { λ _ _. Unit {0} };
+    ghost updated = { λ _ _. Unit {0} };
 
     fn run<H: Threads + Wait + Sync>(
         rt: &H,
@@ -168,6 +168,6 @@ fn tripled_in_place<H: Threads + Wait + Sync>(
     number: u64,
 ) -> Result<Vec<u64>, Fault> {
     let mut parts = parts(alloc, number)?;
-    leader.remake_each(rt, alloc, 4, &mut parts)?;
+    leader.update_each(rt, alloc, 4, &mut parts)?;
     Ok(parts)
 }

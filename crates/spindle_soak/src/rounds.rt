@@ -2,7 +2,7 @@
 ghost use Rattle.std.specs.Prelude.{◌≡◌, ◌<◌, IfOk};
 ghost use denote.Param.Send.{IsSync};
 
-use spindle::lock::{Nest, PlaysInPlace, Remakes};
+use spindle::lock::{Nest, PlaysInPlace, Updates};
 use spindle::prelude::*;
 use spindle::with_slots_in_place;
 use std::io;
@@ -43,7 +43,7 @@ pub fn in_trays<J: Job<In = u64, Out = u64> + Send, H: Machine>(
 ) -> anyhow::Result<()>
 where
     J::Inner: Send,
-    <J::Inner as Nest>::Slots: Send + Sync,
+    <J::Inner as Nest>::ChildSlots: Send + Sync,
 {
     let threads = pool.max_num_threads();
     LockOf::<J>::with_lock(
@@ -65,7 +65,7 @@ pub fn in_slots<J: Job<In = u64, Out = u64> + Send, H: Machine>(
 ) -> anyhow::Result<()>
 where
     J::Inner: Send,
-    <J::Inner as Nest>::Slots: Send + Sync,
+    <J::Inner as Nest>::ChildSlots: Send + Sync,
 {
     let threads = pool.max_num_threads();
     LockOf::<J>::with_slots(
@@ -81,14 +81,14 @@ where
 }
 
 /// The same in a lock in place, where J is `InPlace<M>`.
-pub fn in_place<J: Remakes<In = (), Out = (), Item = u64> + Send, H: Machine>(
+pub fn in_place<J: Updates<In = (), Out = (), Item = u64> + Send, H: Machine>(
     rt: &H,
     pool: &Pool<NoGate>,
     seen: &mut Seen,
 ) -> anyhow::Result<()>
 where
     J::Inner: Send,
-    <J::Inner as Nest>::Slots: Send + Sync,
+    <J::Inner as Nest>::ChildSlots: Send + Sync,
 {
     with_slots_in_place::<J, NoGate, anyhow::Result<()>, _, _, H>(
         rt,
@@ -102,7 +102,7 @@ where
     )?
 }
 
-fn lists<J: Job<In = u64, Out = u64>, E: Rounds<J>, H: Machine>(
+fn lists<J: Job<In = u64, Out = u64>, E: RunsRounds<J>, H: Machine>(
     rt: &H,
     leader: &mut E,
     seen: &mut Seen,
@@ -149,7 +149,7 @@ trait PlaysHere {
         requires jobs { 0 < jobs };
 }
 
-impl<'a, J: PlaysInPlace<P> + Remakes<Item = u64>, G: Gate, P> PlaysHere
+impl<'a, J: PlaysInPlace<P> + Updates<Item = u64>, G: Gate, P> PlaysHere
     for SlotLeader<'a, J, G, P> {
     fn play<H: Threads + Wait + Sync>(
         &mut self,
@@ -158,7 +158,7 @@ impl<'a, J: PlaysInPlace<P> + Remakes<Item = u64>, G: Gate, P> PlaysHere
         jobs: usize,
         numbers: &mut Vec<u64>,
     ) -> Result<(), Fault> {
-        self.remake_each(rt, alloc, jobs, numbers)
+        self.update_each(rt, alloc, jobs, numbers)
     }
 }
 

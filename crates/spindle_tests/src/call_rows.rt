@@ -6,7 +6,7 @@ ghost use denote.Param.Send.{IsSync};
 use crate::callers;
 use crate::checks::{are, holds, is};
 use crate::jobs::{Calls, Counting, Place, Square};
-use spindle::lock::{Limits, NoGate, Pool, Rounds};
+use spindle::lock::{Limits, NoGate, Pool, RunsRounds};
 use spindle::{Fault, run_one, with_lock};
 use std::alloc::Global;
 use std::process::Abort;
@@ -40,7 +40,7 @@ fn one_call_has_no_more_threads_than_jobs(rt: HostRuntime) -> Result<(), Fault> 
 }
 
 // Rounds into one list, whose memory serves again.
-fn square_into<R: Rounds<Square>, H: Threads + Wait + Abort + Sync>(
+fn square_into<R: RunsRounds<Square>, H: Threads + Wait + Abort + Sync>(
     rt: &H,
     alloc: Global,
     leader: &mut R,

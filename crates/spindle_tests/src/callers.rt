@@ -11,7 +11,7 @@ use spindle::for_each;
 use spindle::lock::{Nest, Opens};
 use spindle::prelude::*;
 use spindle::round_table::runs::every_moment;
-use spindle::round_table::slots::Slots;
+use spindle::round_table::slots::SlotContents;
 
 /// Squares a number.
 pub struct Square;
@@ -71,7 +71,7 @@ where
     J::In: Send + Sync,
     J::Out: Send,
     J::Inner: Send,
-    <J::Inner as Nest>::Slots: Send + Sync,
+    <J::Inner as Nest>::ChildSlots: Send + Sync,
     requires jobs { 0 < jobs }
     ensures { IfOk result (λ outputs. AllZip J.meets items.items outputs.items) }
 {
@@ -116,7 +116,7 @@ where
     J::In: Send + Sync,
     J::Out: Send,
     J::Inner: Send,
-    <J::Inner as Nest>::Slots: Send + Sync,
+    <J::Inner as Nest>::ChildSlots: Send + Sync,
     requires jobs { 0 < jobs }
     requires equal { equal_items.items ≡ items.items }
     requires function { IsFunction J.meets }
@@ -155,7 +155,7 @@ pub fn two_rounds<J: Opens<L>, G: Gate, L, H: Threads + Wait + Sync>(
 ///
 /// The run that the table shows has begun each number at most once, and the seats' trails together
 /// tell just what that run has begun.
-pub fn jobs_differ<D: Slots>()
+pub fn jobs_differ<D: SlotContents>()
     ensures { JobsDiffer D.discipline }
 {
     every_moment::<D>();

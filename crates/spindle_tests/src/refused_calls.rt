@@ -9,7 +9,7 @@ use crate::checks::{are, holds, is};
 use crate::chunks::{Halve, LastOdd};
 use crate::jobs::{Calls, Counting, Square};
 use crate::sevens::{are_seven_squares, seven_items};
-use spindle::lock::{ChunkRounds, Limits, Pool, Rounds};
+use spindle::lock::{ChunkRounds, Limits, Pool, RunsRounds};
 use spindle::{Fault, SharedList, reduce, run_one, with_lock, with_slots};
 use std::alloc::Global;
 

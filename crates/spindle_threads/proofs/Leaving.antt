@@ -3,12 +3,12 @@ use Rattle.std.proofs.Common.{◌≡◌, ◌+◌, ap, sym, subst, refl, ◌∙�
 use Rattle.atomic_table.specs.declared.shared.Seat.{Seat}
 use Rattle.spindle_threads.specs.declared.tables.Tables.{Tables}
 use Rattle.spindle_threads.specs.Posts.{IsAt, IsOut}
-use Rattle.spindle_threads.specs.declared.post.Post.{Post}
+use Rattle.spindle_threads.specs.declared.member.Member.{Member}
 use Rattle.spindle_rounds.specs.Working.{IsIdle}
 use Rattle.atomic_table.specs.Table.{Me}
 use Rattle.spindle_threads.specs.Accounts.{IsSameThread}
 use Rattle.spindle_threads.specs.Helpers.{EndedOrLeft}
-use Rattle.spindle_threads.specs.declared.notices.Notices.{Notices}
+use Rattle.spindle_threads.specs.declared.signals.Signals.{Signals}
 use Rattle.spindle_rounds.specs.declared.barrier.Barrier.{Barrier}
 use Rattle.spindle_rounds.specs.declared.barrier.steps.Arrival.TheVariants as arrival
 use Rattle.spindle_rounds.specs.declared.barrier.waiting.ExitStatus.{ExitStatus}
@@ -27,10 +27,10 @@ use Rattle.spindle_rounds.proofs.BarrierClients.{arrived_waits, keeps_on, leave_
 use Rattle.spindle_rounds.proofs.BarrierClients.{passed_from, stayed_waiting, went_on}
 
 -- the same seat at the same ledger, call after call
-pub same_thread_first : (a : Notices) → IsSameThread a a
+pub same_thread_first : (a : Signals) → IsSameThread a a
 same_thread_first a = (refl, refl, (refl, refl, refl))
 
-pub same_thread_on : (a b c : Notices) → IsSameThread a b → IsSameThread b c → IsSameThread a c
+pub same_thread_on : (a b c : Signals) → IsSameThread a b → IsSameThread b c → IsSameThread a c
 same_thread_on a b c x y = (y.0 ∙ x.0, y.1 ∙ x.1, (y.2.0 ∙ x.2.0, y.2.1 ∙ x.2.1, y.2.2 ∙ x.2.2))
 
 module _ {T S N : Type 0} where
@@ -91,7 +91,7 @@ module _ {T S N : Type 0} where
       (moved_known (Inside (round_of a.seat.me.0.standing + 1)) (unknown a.seat.me.0.leader false) a.seat.me c.seat.me next)
 
   -- a post stands at the barrier of its tables
-  pub post_at : (p : Post T S N) → IsAt p.tables.now p.barrier
+  pub post_at : (p : Member T S N) → IsAt p.tables.now p.barrier
   post_at p = (
     (
       p.seated ∙ sym p.home,

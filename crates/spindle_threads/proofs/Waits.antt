@@ -2,7 +2,7 @@
 use Rattle.std.proofs.Common.{◌≡◌, ◌≤◌, ◌<◌, ℕ, Bool, zero, suc, true, false, refl, subst, inl, inr, ⊎_elim, arith}
 use Rattle.spindle_parts.specs.declared.requests.plays.Account.{Account}
 use Rattle.spindle_parts.specs.declared.words.TheConstants.{REQUESTS}
-use Rattle.spindle_threads.specs.Notices.{Read}
+use Rattle.spindle_threads.specs.Signals.{Read}
 use Rattle.spindle_threads.specs.Waits.{LookedAtRequests}
 
 module _ (waited n : ℕ) (looks : Bool) (old new : Account) (read : looks ≡ true → Read REQUESTS n old new) where

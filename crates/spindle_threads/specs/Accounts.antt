@@ -2,13 +2,13 @@
 use Rattle.std.specs.Prelude.{◌≡◌}
 use Rattle.spindle_parts.specs.LedgerSeats.{IsSameSeat}
 use Rattle.spindle_parts.specs.declared.requests.plays.Account.{Account}
-use Rattle.spindle_threads.specs.declared.notices.Notices.{Notices}
+use Rattle.spindle_threads.specs.declared.signals.Signals.{Signals}
 
 -- what it knows, with the trail of its own steps
-abbrev pub account_of : Notices → Account
-account_of notices = notices.seat.me.0
+abbrev pub account_of : Signals → Account
+account_of signals = signals.seat.me.0
 
 -- the same seat at the same ledger
-abbrev pub IsSameThread : (old new : Notices) → Type 0
+abbrev pub IsSameThread : (old new : Signals) → Type 0
 IsSameThread old new = (new.ledger ≡ old.ledger) × (new.slots ≡ old.slots)
     × IsSameSeat old.seat new.seat

@@ -2,17 +2,17 @@
 use Rattle.std.specs.Prelude.{◌≡◌, false}
 use Rattle.spindle_parts.specs.ThreadNumbers.{outsider_view}
 use Rattle.spindle_parts.specs.LedgerSteps.{blank}
-use Rattle.spindle_threads.specs.declared.bench.Bench.{Bench}
+use Rattle.spindle_threads.specs.declared.spare_seats.SpareSeats.{SpareSeats}
 use Rattle.spindle_threads.specs.declared.tables.Tables.{Tables}
 use Rattle.spindle_rounds.specs.RoundSteps.{outsider}
 
 -- what rests on the bench are seats at these tables, as a helper needs them:
 -- no member of the barrier, no number, no request to answer for
 pub record IsBenchAt {T S N : Type 0} (tables : Tables T S N)
-    (bench : Bench T S N) : Type 0 where
-  pub round : bench.round.table_id ≡ tables.round.init.table.shared.table_id
-  pub outside : bench.round.view ≡ outsider tables.round.init.threads false
-  pub numbers : bench.numbers.table_id ≡ tables.numbers.table
-  pub unnumbered : bench.numbers.view ≡ outsider_view
-  pub ledger : bench.ledger.table_id ≡ tables.ledger.table.shared.table_id
-  pub blank : bench.ledger.view ≡ blank
+    (spare : SpareSeats T S N) : Type 0 where
+  pub round : spare.round.table_id ≡ tables.round.init.table.shared.table_id
+  pub outside : spare.round.view ≡ outsider tables.round.init.threads false
+  pub numbers : spare.numbers.table_id ≡ tables.numbers.table
+  pub unnumbered : spare.numbers.view ≡ outsider_view
+  pub ledger : spare.ledger.table_id ≡ tables.ledger.table.shared.table_id
+  pub blank : spare.ledger.view ≡ blank

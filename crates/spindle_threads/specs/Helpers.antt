@@ -1,11 +1,11 @@
 -- What a helper that waits is told, and where it is after a round.
 use Rattle.std.specs.Prelude.{◌≡◌, ℕ, false}
 use Rattle.atomic_table.specs.declared.shared.Seat.{Seat}
-use Rattle.spindle_threads.specs.declared.post.Whereabouts.{Whereabouts}
-use Rattle.spindle_threads.specs.declared.post.Whereabouts.TheVariants.{In, Out}
+use Rattle.spindle_threads.specs.declared.member.Whereabouts.{Whereabouts}
+use Rattle.spindle_threads.specs.declared.member.Whereabouts.TheVariants.{In, Out}
 use Rattle.spindle_threads.specs.declared.tables.Tables.{Tables}
-use Rattle.spindle_threads.specs.declared.helping.News.{News}
-use Rattle.spindle_threads.specs.declared.helping.News.TheVariants.{Exit, Round, Requests}
+use Rattle.spindle_threads.specs.declared.helper_waits.News.{News}
+use Rattle.spindle_threads.specs.declared.helper_waits.News.TheVariants.{Exit, Round, Requests}
 use Rattle.spindle_threads.specs.Posts.{IsOut, party_view}
 use Rattle.spindle_rounds.specs.declared.round_table.view.View.{View}
 use Rattle.spindle_rounds.specs.declared.barrier.Barrier.{Barrier}

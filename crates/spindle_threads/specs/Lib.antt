@@ -1,12 +1,12 @@
 -- The definitions that contracts of this crate cite.
-pub mod Crews
+pub mod ThreadCounts
 pub mod Opening
 pub mod Posts
-pub mod Notices
+pub mod Signals
 pub mod Accounts
 pub mod Helpers
 pub mod Waits
-pub mod SlotPosts
+pub mod SlotMembers
 pub mod Benches
 -- Those of the crates below that its public clauses name.
 pub use Rattle.spindle_parts.specs.Ledger

@@ -7,7 +7,7 @@ use Rattle.spindle_parts.specs.LedgerSeats as ledger
 use Rattle.spindle_parts.specs.ThreadNumbers as numbers
 use Rattle.spindle_parts.specs.declared.numbers.plays.Holding.TheVariants.{Nothing}
 use Rattle.spindle_rounds.specs.declared.barrier.Barrier.{Barrier}
-use Rattle.spindle_rounds.specs.declared.round.task.Task.{Task}
+use Rattle.spindle_rounds.specs.declared.round.published_round.PublishedRound.{PublishedRound}
 use Rattle.spindle_rounds.specs.declared.round_table.view.View.{View}
 use Rattle.spindle_rounds.specs.declared.round_table.view.Standing.TheVariants.{Away}
 use Rattle.spindle_rounds.specs.Holding.{IsHeld}
@@ -41,7 +41,7 @@ LastPublished q n may_stop v = (v.laid ≡ Some q)
     × IsDeed (Showed q n may_stop) (published_of v.trail)
 
 -- one load of the published word: there is no task exactly where it was 0
-abbrev pub LookedForTask : {N : Type 0} → Option Task → (old new : View N) → Type 0
+abbrev pub LookedForTask : {N : Type 0} → Option PublishedRound → (old new : View N) → Type 0
 LookedForTask None old new = new ≡ learning 0 old
 LookedForTask (Some task) old new = (word : ℕ) × (0 < word) × (new ≡ learning word old)
 

@@ -3,10 +3,10 @@ use Rattle.std.specs.Prelude.{◌≡◌, ◌⊎◌, ◌<◌, ℕ, Bool, true, fa
 use Rattle.atomic_table.specs.Table.{Me}
 use Rattle.spindle_parts.specs.declared.requests.plays.Account.{Account}
 use Rattle.spindle_parts.specs.declared.words.TheConstants.{REQUESTS}
-use Rattle.spindle_threads.specs.declared.helping.News.{News}
-use Rattle.spindle_threads.specs.declared.helping.News.TheVariants.{Exit, Round, Requests}
+use Rattle.spindle_threads.specs.declared.helper_waits.News.{News}
+use Rattle.spindle_threads.specs.declared.helper_waits.News.TheVariants.{Exit, Round, Requests}
 use Rattle.spindle_threads.specs.declared.tables.Tables.{Tables}
-use Rattle.spindle_threads.specs.Notices.{Read, ReadExit, ReadRest}
+use Rattle.spindle_threads.specs.Signals.{Read, ReadExit, ReadRest}
 use Rattle.spindle_threads.specs.Posts.{LookedForTask}
 use Rattle.spindle_rounds.specs.declared.barrier.Barrier.{Barrier}
 use Rattle.spindle_rounds.specs.declared.barrier.steps.Arrival.TheVariants as arrival

@@ -6,18 +6,18 @@
 
 ghost use Rattle.std.specs.Prelude.{◌≡◌, ◌<◌, ◌≤◌};
 
-pub mod asking;
-pub mod bench;
-pub mod helping;
-pub mod leader_post;
+pub mod helper_requests;
+pub mod spare_seats;
+pub mod helper_waits;
+pub mod leader_member;
 pub mod limits;
 pub mod members;
-pub mod notices;
-pub mod phases;
-pub mod post;
+pub mod signals;
+pub mod publish_and_end;
+pub mod member;
 pub mod present;
 pub mod seats;
-pub mod site;
+pub mod job_site;
 pub mod sleep;
 pub mod tables;
 
@@ -32,7 +32,7 @@ pub const MOST_THREADS: usize = 32767;
 
 /// A lock's threads, its leader counted, and those of the pool that it was opened from.
 #[derive(Clone, Copy)]
-pub struct Crew {
+pub struct ThreadCounts {
     pool: usize,
     most: usize,
     threads: usize,
@@ -42,11 +42,11 @@ pub struct Crew {
     ghost few: { most ≤ 32767 },
 }
 
-impl Crew {
-    ghost use Rattle.spindle_threads.specs.Crews.{lock_threads};
+impl ThreadCounts {
+    ghost use Rattle.spindle_threads.specs.ThreadCounts.{lock_threads};
 
     /// The threads of a lock that is opened for at most `max_threads`.
-    pub fn new(pool_threads: usize, max_threads: usize) -> Crew
+    pub fn new(pool_threads: usize, max_threads: usize) -> ThreadCounts
         requires pool { 0 < pool_threads }
         requires some { 0 < max_threads }
         ensures most { result.most ≡ lock_threads pool_threads max_threads }
@@ -54,7 +54,7 @@ impl Crew {
         ensures pool { result.pool ≡ pool_threads }
     {
         let threads = pool_threads.min(max_threads).min(MOST_THREADS);
-        Crew {
+        ThreadCounts {
             pool: pool_threads,
             most: threads,
             threads,
@@ -80,22 +80,22 @@ impl Crew {
     }
 
     /// The threads of a lock that a job opens in a lock with these.
-    pub fn nested(&self, max_threads: usize) -> Crew
+    pub fn nested(&self, max_threads: usize) -> ThreadCounts
         requires some { 0 < max_threads }
         ensures most { result.most ≡ lock_threads self.now.pool max_threads }
         ensures all { result.threads ≡ result.most }
         ensures pool { result.pool ≡ self.now.pool }
     {
-        Crew::new(self.pool, max_threads)
+        ThreadCounts::new(self.pool, max_threads)
     }
 
     /// The same, where the leader works alone.
-    pub fn alone(&self) -> Crew
+    pub fn alone(&self) -> ThreadCounts
         ensures most { result.most ≡ self.now.most }
         ensures alone { result.threads ≡ 1 }
         ensures pool { result.pool ≡ self.now.pool }
     {
-        Crew {
+        ThreadCounts {
             pool: self.pool,
             most: self.most,
             threads: 1,

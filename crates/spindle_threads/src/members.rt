@@ -17,7 +17,7 @@ pub enum Members<'a> {
 }
 
 impl<'a> Members<'a> {
-    ghost use Rattle.spindle_threads.specs.Crews.{told_of};
+    ghost use Rattle.spindle_threads.specs.ThreadCounts.{told_of};
 
     /// The number, the leader counted, of a lock of so many threads.
     pub fn current(&self, threads: usize) -> usize

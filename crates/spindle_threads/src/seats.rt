@@ -6,7 +6,7 @@ ghost use Rattle.spindle_threads.specs.Posts.{AreOut};
 ghost use Rattle.spindle_rounds.specs.RoundSteps.{outsider};
 ghost use Rattle.spindle_rounds.specs.Seating.{IsSeatAt};
 
-use crate::Crew;
+use crate::ThreadCounts;
 use crate::limits::Idling;
 use crate::present::Present;
 use crate::sleep::Sleep;
@@ -17,12 +17,12 @@ use spindle_parts::requests::Requests;
 use spindle_parts::{numbers, requests};
 use spindle_rounds::round::Round;
 use spindle_rounds::round_table;
-use spindle_rounds::round_table::slots::Slots;
+use spindle_rounds::round_table::slots::SlotContents;
 use std::alloc::Global;
 
 /// A thread's seats at the tables of its lock.
 #[derive(Drop)]
-pub struct Seats<D: Slots> {
+pub struct Seats<D: SlotContents> {
     /// At the round table.
     pub round: round_table::Seat<D>,
     /// At the table of thread numbers.
@@ -33,7 +33,7 @@ pub struct Seats<D: Slots> {
 
 /// A thread that isn't in the lock yet: its seats at the lock's tables.
 #[derive(Drop)]
-pub struct Recruit<'a, D: Slots> {
+pub struct HelperSeats<'a, D: SlotContents> {
     /// The tables.
     pub tables: &'a Tables<D>,
     /// Its seats there.
@@ -41,9 +41,9 @@ pub struct Recruit<'a, D: Slots> {
     ghost out: { AreOut tables.now seats },
 }
 
-impl<D: Slots> Seats<D> {
+impl<D: SlotContents> Seats<D> {
     /// One helper more, whose seats are split from the leader's.
-    pub fn recruit<'a>(&mut self, tables: &'a Tables<D>) -> Recruit<'a, D>
+    pub fn helper_seats<'a>(&mut self, tables: &'a Tables<D>) -> HelperSeats<'a, D>
         requires { AreSeatsAt tables.now self.old }
         ensures seats { AreSeatsAt tables.now self.new }
         ensures tables { result.tables.now ≡ tables.now }
@@ -53,36 +53,36 @@ impl<D: Slots> Seats<D> {
             numbers: tables.numbers.new_seat(&mut self.numbers),
             ledger: tables.ledger.new_seat(&mut self.ledger),
         };
-        Recruit { tables, seats }
+        HelperSeats { tables, seats }
     }
 }
 
-impl<D: Slots> Tables<D> {
+impl<D: SlotContents> Tables<D> {
     /// The tables of a lock with so many child slots, over rounds that were opened for it, and the leader's seats.
     pub fn new(
         alloc: Global,
-        crew: Crew,
+        counts: ThreadCounts,
         idling: Idling,
         child_slots: usize,
         round: Round<D>,
         round_seat: round_table::Seat<D>,
     ) -> Result<(Tables<D>, Seats<D>), Fault>
-        requires sized { round.init.threads ≡ crew.threads }
+        requires sized { round.init.threads ≡ counts.threads }
         requires seated { IsSeatAt round.init round_seat }
         requires outside { round_seat.me ≡ (outsider round.init.threads true, []) }
-        ensures crew { IfOk result (λ t. t.0.crew ≡ crew) }
+        ensures counts { IfOk result (λ t. t.0.counts ≡ counts) }
         ensures round { IfOk result (λ t. t.0.round ≡ round) }
         ensures slots { IfOk result (λ t. t.0.child_slots ≡ child_slots) }
         ensures idling { IfOk result (λ t. t.0.sleep.idling ≡ idling) }
         ensures seats { IfOk result (λ t. AreSeatsAt t.0 t.1) }
         ensures memory { OnErr result (IsErrOf result Fault.Memory) }
     {
-        let threads = crew.threads();
+        let threads = counts.threads();
         let (numbers, numbers_seat) = Numbers::new(alloc, threads)?;
         let (ledger, ledger_seat) = Requests::new(alloc, child_slots)?;
         let sleep = Sleep::new(idling);
         let tables = Tables {
-            crew,
+            counts,
             round,
             numbers,
             ledger,

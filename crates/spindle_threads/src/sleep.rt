@@ -18,21 +18,21 @@ const QUIET_TURNS: u32 = 64;
 #[derive(Drop)]
 pub struct Sleep {
     idling: Idling,
-    news: CachePadded<Bed>,
-    end: CachePadded<Bed>,
+    news: CachePadded<Sleepers>,
+    end: CachePadded<Sleepers>,
 }
 
 // How many sleep, behind the mutex of those who are about to. Whoever wakes them writes here, so it shares no cache line with what
 // waiting threads read, nor with the other bed.
 #[derive(Drop)]
-struct Bed {
+struct Sleepers {
     sleepers: Mutex<usize>,
     changed: Condvar,
 }
 
-impl Bed {
-    fn new() -> Bed {
-        Bed {
+impl Sleepers {
+    fn new() -> Sleepers {
+        Sleepers {
             sleepers: Mutex::new(0),
             changed: Condvar::new(),
         }
@@ -66,8 +66,8 @@ impl Sleep {
     {
         Sleep {
             idling,
-            news: CachePadded::new(Bed::new()),
-            end: CachePadded::new(Bed::new()),
+            news: CachePadded::new(Sleepers::new()),
+            end: CachePadded::new(Sleepers::new()),
         }
     }
 
@@ -108,7 +108,7 @@ impl Sleep {
         self.idle(&self.end)
     }
 
-    fn idle<'a>(&self, bed: &'a Bed) -> Idle<'a>
+    fn idle<'a>(&self, bed: &'a Sleepers) -> Idle<'a>
         ensures { (result.patience ≡ self.now.idling.patience) × (result.waited ≡ 0) }
     {
         let Idling { limits, patience } = self.idling;
@@ -128,7 +128,7 @@ impl Sleep {
 /// The pauses of one thread, from its first look on.
 #[derive(Drop)]
 pub struct Idle<'a> {
-    bed: &'a Bed,
+    bed: &'a Sleepers,
     pauses: u32,
     turns: u32,
     patience: u32,

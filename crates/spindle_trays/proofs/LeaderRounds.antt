@@ -17,12 +17,12 @@ use Rattle.spindle_parts.specs.Words.{most_jobs}
 use Rattle.spindle_trays.specs.Rounds.{job_count}
 use Rattle.spindle_rounds.specs.RoundConditions.{MayFill}
 use Rattle.spindle_threads.specs.Posts.{LastPublished, party_view}
-use Rattle.spindle_threads.specs.declared.leader_post.LeaderPost.{LeaderPost}
+use Rattle.spindle_threads.specs.declared.leader_member.LeaderMember.{LeaderMember}
 use Rattle.spindle_trays.specs.Leaders.{hands_of, AreLeft, IsTryRefusal, MadeNoStep, PlayedAs, PlayedOnce, TriedOnce}
 use Rattle.spindle_trays.specs.Reports.{is_marked, least_lost, IsNoted}
 use Rattle.spindle_trays.proofs.Reports.{least_first, least_within}
 use Rattle.spindle_trays.specs.declared.lock.leader.Leader.{Leader}
-use Rattle.spindle_trays.specs.declared.work.tally.Tally.{Tally}
+use Rattle.spindle_trays.specs.declared.running.tally.Tally.{Tally}
 
 -- what a call was refused for is what is passed on
 pub passed : {T E : Type 0} (r : Result T E) {x : E} → IsErrAnd r (λ z. z ≡ x) → r ≡ Err x
@@ -83,7 +83,7 @@ pub played_two : {P Q R : Type 0} (jobs : ℕ) → 2 ≤ jobs → P → (2 ≤ j
 played_two jobs two played = ((λ _. played), (λ one. absurd (omega (arith, two, one))), λ none. absurd (omega (arith, two, none)))
 
 -- a leader at its post is between two rounds
-pub between : {T S N : Type 0} (p : LeaderPost T S N) → MayFill (party_view p.post.barrier)
+pub between : {T S N : Type 0} (p : LeaderMember T S N) → MayFill (party_view p.post.barrier)
 between p = ((_, p.post.inside), p.post.role ∙ p.leads)
 
 -- marks that are all false mark nothing

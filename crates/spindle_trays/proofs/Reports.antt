@@ -22,7 +22,7 @@ use Rattle.spindle_trays.specs.Reports.{lost_at, less_of, first_astray, least_lo
 use Rattle.spindle_trays.proofs.PieceRuns.{before_first, items_more}
 use Rattle.spindle_trays.specs.PieceRuns.{items_before, piece_at, piece_start}
 use Rattle.spindle_trays.specs.declared.lock.report.Report.{Report}
-use Rattle.spindle_trays.specs.declared.work.tally.Tally.{Tally}
+use Rattle.spindle_trays.specs.declared.running.tally.Tally.{Tally}
 
 -- as many pieces are noted, however their number is written
 pub noted_at : {A B : Type 0} (Meets : A → B → Type 0) (Fails : B → Type 0) (items : List A) (n : ℕ) (left : List Bool) (tally : Tally B) {j k : ℕ} → j ≡ k

@@ -19,9 +19,9 @@ use Rattle.spindle_parts.specs.declared.fault.Fault.{Fault}
 use Rattle.spindle_parts.specs.declared.fault.Fault.TheVariants.{Memory, Lost}
 use Rattle.spindle_parts.specs.declared.requests.plays.Account.{Account}
 use Rattle.spindle_threads.specs.Accounts as accounts
-use Rattle.spindle_threads.specs.Notices as notices
-use Rattle.spindle_threads.specs.declared.Crew.{Crew}
-use Rattle.spindle_threads.specs.declared.leader_post.LeaderPost.{LeaderPost}
+use Rattle.spindle_threads.specs.Signals as signals
+use Rattle.spindle_threads.specs.declared.ThreadCounts.{ThreadCounts}
+use Rattle.spindle_threads.specs.declared.leader_member.LeaderMember.{LeaderMember}
 use Rattle.spindle_trays.specs.Reports.{HasFailed, IsAnswered}
 use Rattle.spindle_trays.specs.declared.lock.leader.Leader.{Leader}
 use Rattle.spindle_rounds.specs.declared.round_table.view.View.{View}
@@ -32,8 +32,8 @@ use Rattle.spindle_rounds.specs.RoundSteps.{round_of}
 use Rattle.spindle_rounds.specs.Working.{PlayedRound, PlayedRoundOf}
 
 -- the threads of the lock in whose barrier a leader stands
-abbrev pub crew_of : {T S N : Type 0} → LeaderPost T S N → Crew
-crew_of post = post.post.tables.now.crew
+abbrev pub crew_of : {T S N : Type 0} → LeaderMember T S N → ThreadCounts
+crew_of post = post.post.tables.now.counts
 
 -- the threads of its lock
 abbrev pub threads_of : {J G L I O N S : Type 0} → Leader J G L I O N S → ℕ
@@ -62,11 +62,11 @@ view_of leader = leader.post.post.barrier.seat.me.0
 
 -- what its seat at the ledger knows, with the trail of its own steps
 abbrev pub account_of : {J G L I O N S : Type 0} → Leader J G L I O N S → Account
-account_of leader = accounts.account_of leader.runner.notices
+account_of leader = accounts.account_of leader.runner.signals
 
 -- it told the idle threads to rest, and did nothing else at the ledger
 abbrev pub AnnouncedRest : {J G L I O N S : Type 0} → (old new : Leader J G L I O N S) → Type 0
-AnnouncedRest old new = notices.AnnouncedRest (account_of old) (account_of new)
+AnnouncedRest old new = signals.AnnouncedRest (account_of old) (account_of new)
 
 -- it is in, and nothing is published
 abbrev pub IsBetweenRounds : {J G L I O N S : Type 0} → Leader J G L I O N S → Type 0

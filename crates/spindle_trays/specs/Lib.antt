@@ -18,8 +18,8 @@ pub use Rattle.spindle_rounds.specs.Seating
 pub use Rattle.spindle_rounds.specs.Working
 pub use Rattle.spindle_threads.specs.Accounts
 pub use Rattle.spindle_threads.specs.Benches
-pub use Rattle.spindle_threads.specs.Crews
+pub use Rattle.spindle_threads.specs.ThreadCounts
 pub use Rattle.spindle_threads.specs.Helpers
-pub use Rattle.spindle_threads.specs.Notices
+pub use Rattle.spindle_threads.specs.Signals
 pub use Rattle.spindle_threads.specs.Opening
 pub use Rattle.spindle_threads.specs.Posts

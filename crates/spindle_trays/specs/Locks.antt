@@ -1,8 +1,8 @@
 -- What contracts see of a pool and of a job's context.
 use Rattle.std.specs.Prelude.{◌≡◌, ◌<◌, ◌≤◌, ℕ, Bool, Option, Some, false, IfSome, if◌then◌else◌}
 use Rattle.spindle_parts.specs.declared.requests.plays.Account.{Account}
-use Rattle.spindle_threads.specs.Crews.{lock_threads, told_of}
-use Rattle.spindle_threads.specs.declared.site.Site.{Site}
+use Rattle.spindle_threads.specs.ThreadCounts.{lock_threads, told_of}
+use Rattle.spindle_threads.specs.declared.job_site.JobSite.{JobSite}
 
 -- a pool: its threads, and how many pauses of a wait pass in its locks
 -- before a helper's first look at requests
@@ -22,13 +22,13 @@ pub record ContextView : Type 0 where
   pub account : Account
 
 -- the context of a job that runs at this site
-abbrev pub context_at : (has_slots : Bool) → Site → Account → ContextView
+abbrev pub context_at : (has_slots : Bool) → JobSite → Account → ContextView
 context_at has_slots site account = record {
-  threads = site.crew.most;
-  pool = site.crew.pool;
+  threads = site.counts.most;
+  pool = site.counts.pool;
   has_slots = has_slots;
   index = site.index;
-  told = told_of site.members site.crew.most;
+  told = told_of site.members site.counts.most;
   account = account;
 }
 
@@ -38,8 +38,8 @@ knowing account cx = record cx { account = account }
 
 -- a job that one at this site runs directly: it has that one's index and maximum, no child slots,
 -- and is told of as many threads as took part when it began
-abbrev pub RunsDirectly : Site → ContextView → Type 0
-RunsDirectly site job = let most = site.crew.most in (now : ℕ) × (0 < now) × (now ≤ most)
+abbrev pub RunsDirectly : JobSite → ContextView → Type 0
+RunsDirectly site job = let most = site.counts.most in (now : ℕ) × (0 < now) × (now ≤ most)
     × IfSome (told_of site.members most) (λ told. now ≡ told)
     × (job ≡ record (context_at false site job.account) { told = Some now })
 

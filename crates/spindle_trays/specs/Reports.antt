@@ -6,7 +6,7 @@ use Rattle.std.specs.List.{All, AllZip, Any}
 use Rattle.spindle_parts.specs.Pieces.{counted, joined}
 use Rattle.spindle_trays.specs.PieceRuns.{piece_at}
 use Rattle.spindle_trays.specs.declared.lock.report.Report.{Report}
-use Rattle.spindle_trays.specs.declared.work.tally.Tally.{Tally}
+use Rattle.spindle_trays.specs.declared.running.tally.Tally.{Tally}
 
 -- the numbers of the pieces that ran
 abbrev pub numbers_of : {V : Type 0} → List (ℕ × V) → List ℕ

@@ -18,7 +18,7 @@ abbrev pub IsRefusal : (threads jobs : ℕ) → Fault → Type 0
 IsRefusal threads jobs Memory = 0 < jobs
 IsRefusal threads jobs (Lost k) = (k < jobs) × (2 ≤ jobs) × (2 ≤ threads)
 
--- a round of no jobs isn't refused: a proof, which stands here because a law of `Rounds` must cite it
+-- a round of no jobs isn't refused: a proof, which stands here because a law of `RunsRounds` must cite it
 pub never_of_none : (threads : ℕ) (fault : Fault) → IsRefusal threads 0 fault → ⊥
 never_of_none threads Memory refused = not-suc-le-zero refused
 never_of_none threads (Lost k) refused = not-suc-le-zero refused.0

@@ -8,4 +8,4 @@
 pub mod job;
 pub mod lock;
 pub mod pieces;
-pub mod work;
+pub mod running;

@@ -11,8 +11,8 @@ use spindle_parts::lists::SharedList;
 use spindle_parts::cut::Piece;
 use spindle_trays::pieces::finished::Finished;
 use spindle_trays::pieces::gathering::gather;
-use spindle_trays::pieces::runs::Pieces;
-use spindle_trays::pieces::spares::Spares;
+use spindle_trays::pieces::list_runs::ListRuns;
+use spindle_trays::pieces::spare_lists::SpareLists;
 use spindle_trays::pieces::trays::Trays;
 use std::alloc::{AllocError, Global};
 use std::process::Abort;
@@ -133,9 +133,9 @@ fn gathered<H: Wait + Abort>(
     let kept = items.clone()?;
     let len = items.len();
     is(rt, len, 5);
-    let pieces = Pieces::new(items, 5);
+    let pieces = ListRuns::new(items, 5);
     let trays = Trays::<Square>::new(alloc, 2)?;
-    trays.hand_out(rt, alloc, &pieces, &mut Spares::none(alloc))?;
+    trays.hand_out(rt, alloc, &pieces, &mut SpareLists::none(alloc))?;
     for (number, item) in brought_back {
         bring_back(rt, alloc, &trays, *number, *item)?;
     }

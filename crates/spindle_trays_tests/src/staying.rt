@@ -8,7 +8,7 @@ use spindle_parts::fault::Fault;
 use spindle_trays::job::Job;
 use spindle_trays::job::context::JobCx;
 use spindle_trays::job::nest::End;
-use spindle_trays::lock::rounds::Rounds;
+use spindle_trays::lock::rounds::RunsRounds;
 use std::alloc::Global;
 use std::hint::spin_loop;
 use std::sync::Wait;
@@ -74,7 +74,7 @@ pub fn turns_of(rounds: usize) -> usize {
 }
 
 /// Plays rounds of so many jobs until each thread of the lock runs one, so many at most, and answers where those of the last round ran.
-pub fn until_all_run<R: Rounds<Staying>, H: Threads + Wait + Sync>(
+pub fn until_all_run<R: RunsRounds<Staying>, H: Threads + Wait + Sync>(
     rt: &H,
     alloc: Global,
     leader: &mut R,

@@ -8,10 +8,10 @@ use crate::trying::Trying;
 use spindle_parts::lists::SharedList;
 use spindle_trays::lock::report::Report;
 use spindle_trays::pieces::finished::Finished;
-use spindle_trays::pieces::runs::Pieces;
-use spindle_trays::pieces::spares::Spares;
+use spindle_trays::pieces::list_runs::ListRuns;
+use spindle_trays::pieces::spare_lists::SpareLists;
 use spindle_trays::pieces::trays::Trays;
-use spindle_trays::work::tally::Tally;
+use spindle_trays::running::tally::Tally;
 use std::alloc::Global;
 use std::process::Abort;
 use std::sync::Wait;
@@ -36,9 +36,9 @@ fn tallied<H: Wait + Abort>(
     requires { length left.now ≡ 5 }
 {
     let items = vec![in alloc; (0, fails), (1, false), (2, false), (3, false), (4, false)]?;
-    let pieces = Pieces::new(SharedList::from_vec(alloc, items)?, 5);
+    let pieces = ListRuns::new(SharedList::from_vec(alloc, items)?, 5);
     let trays = Trays::<Trying>::new(alloc, 2)?;
-    trays.hand_out(rt, alloc, &pieces, &mut Spares::none(alloc))?;
+    trays.hand_out(rt, alloc, &pieces, &mut SpareLists::none(alloc))?;
     for (number, item) in brought_back {
         let finished = run_with(alloc, *number, (*item, fails && *item == 0))?;
         if finished.number() < 5 {

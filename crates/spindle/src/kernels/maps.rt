@@ -7,11 +7,11 @@ ghost use Rattle.spindle.specs.Kernels.{IsOfKernel};
 use crate::kernels::Kernel;
 use crate::kernels::held::Again;
 use crate::kernels::source::{Source, parts_of};
-use crate::kernels::tasks::{PIECES, Task};
-use crate::lock::remake_one;
+use crate::kernels::tasks::{PIECES, PublishedRound};
+use crate::lock::update_one;
 use spindle_parts::lists::SharedList;
 use spindle_parts::fault::Fault;
-use spindle_slots::job::remake::{InPlace, Remake};
+use spindle_slots::job::update::{InPlace, Update};
 use spindle_trays::job::context::JobCx;
 use spindle_trays::job::gate::Gate;
 use spindle_trays::job::nest::End;
@@ -57,23 +57,23 @@ pub struct Mapping<K, S> {
     kind: PhantomData<(K, S)>,
 }
 
-impl<K: Kernel + Drop, S: Source<Item = K::In>> Remake for Mapping<K, S> {
-    type Item = Task<K, Run<S, K::Out>>;
+impl<K: Kernel + Drop, S: Source<Item = K::In>> Update for Mapping<K, S> {
+    type Item = PublishedRound<K, Run<S, K::Out>>;
 
     type Inner = End;
 
-    ghost remade = { λ old new.
+    ghost updated = { λ old new.
         AllZip (K.computes old.kernel) (S.items old.part.source) new.part.outputs.items };
 
     fn run<H: Threads + Wait + Sync>(
         _rt: &H,
         _alloc: Global,
-        task: Task<K, Run<S, K::Out>>,
+        task: PublishedRound<K, Run<S, K::Out>>,
         _cx: &mut JobCx<End>,
-    ) -> Task<K, Run<S, K::Out>> {
-        let Task { kernel, part } = task;
+    ) -> PublishedRound<K, Run<S, K::Out>> {
+        let PublishedRound { kernel, part } = task;
         let part = part.computed::<K>(&kernel);
-        Task { kernel, part }
+        PublishedRound { kernel, part }
     }
 }
 
@@ -120,7 +120,7 @@ where
     let jobs = pool.max_num_threads().saturating_mul(PIECES);
     let mut outputs = Vec::with_capacity(alloc, source.count())?;
     let tasks = map_tasks(alloc, &kernel, parts_of(alloc, source, jobs)?)?;
-    let tasks = remake_one::<InPlace<Mapping<&'k K, S>>, G, H>(rt, alloc, pool, jobs, tasks)?;
+    let tasks = update_one::<InPlace<Mapping<&'k K, S>>, G, H>(rt, alloc, pool, jobs, tasks)?;
     append_outputs(tasks, &mut outputs)?;
     Ok(outputs)
 }
@@ -130,7 +130,7 @@ fn map_tasks<K: Again, S: Source, U: Drop>(
     alloc: Global,
     kernel: &K,
     parts: Vec<S>,
-) -> Result<Vec<Task<K, Run<S, U>>>, AllocError>
+) -> Result<Vec<PublishedRound<K, Run<S, U>>>, AllocError>
     ensures parts { IfOk result (λ tasks.
         map (λ task. task.part.source) tasks.items ≡ parts.items) }
     ensures kernel { IfOk result (λ tasks. All (IsOfKernel kernel.now) tasks.items) }
@@ -139,21 +139,21 @@ fn map_tasks<K: Again, S: Source, U: Drop>(
     for part in parts {
         let kernel = kernel.again()?;
         let part = Run::new(alloc, part)?;
-        tasks.push_reserved(Task { kernel, part });
+        tasks.push_reserved(PublishedRound { kernel, part });
     }
     Ok(tasks)
 }
 
 // Moves what was computed of all pieces to the end of the list, one behind the other.
 fn append_outputs<K: Drop, S: Source, U: Drop>(
-    tasks: Vec<Task<K, Run<S, U>>>,
+    tasks: Vec<PublishedRound<K, Run<S, U>>>,
     all: &mut Vec<U>,
 ) -> Result<(), AllocError>
     ensures { let outputs = joined (map (λ task. task.part.outputs.items) tasks.items) in
         OnOk result (all.new.items ≡ all.old.items ++ outputs) }
 {
     for task in tasks {
-        let Task { part, .. } = task;
+        let PublishedRound { part, .. } = task;
         let Run { mut outputs, .. } = part;
         all.append(&mut outputs)?;
     }

@@ -6,11 +6,11 @@ ghost use Rattle.spindle.specs.Kernels.{IsOfKernel};
 
 use crate::kernels::Change;
 use crate::kernels::held::Again;
-use crate::kernels::tasks::{PIECES, Task};
-use crate::lock::remake_one;
+use crate::kernels::tasks::{PIECES, PublishedRound};
+use crate::lock::update_one;
 use spindle_parts::cut::{Piece, cut};
 use spindle_parts::fault::Fault;
-use spindle_slots::job::remake::{InPlace, Remake};
+use spindle_slots::job::update::{InPlace, Update};
 use spindle_trays::job::context::JobCx;
 use spindle_trays::job::gate::Gate;
 use spindle_trays::job::nest::End;
@@ -25,25 +25,25 @@ pub struct Updating<K> {
     kind: PhantomData<K>,
 }
 
-impl<K: Change + Drop> Remake for Updating<K> {
-    type Item = Task<K, Piece<K::Item>>;
+impl<K: Change + Drop> Update for Updating<K> {
+    type Item = PublishedRound<K, Piece<K::Item>>;
 
     type Inner = End;
 
-    ghost remade = { λ old new.
+    ghost updated = { λ old new.
         AllZip (K.changes old.kernel) old.part.items.items new.part.items.items };
 
     fn run<H: Threads + Wait + Sync>(
         _rt: &H,
         _alloc: Global,
-        task: Task<K, Piece<K::Item>>,
+        task: PublishedRound<K, Piece<K::Item>>,
         _cx: &mut JobCx<End>,
-    ) -> Task<K, Piece<K::Item>> {
-        let Task { kernel, part } = task;
+    ) -> PublishedRound<K, Piece<K::Item>> {
+        let PublishedRound { kernel, part } = task;
         let Piece { number, mut items } = part;
         change_each::<K>(&kernel, &mut items);
         let part = Piece { number, items };
-        Task { kernel, part }
+        PublishedRound { kernel, part }
     }
 }
 
@@ -76,7 +76,7 @@ where
     }
     let jobs = pool.max_num_threads().saturating_mul(PIECES);
     let tasks = tasks_of(alloc, &kernel, cut(alloc, &mut list, jobs)?)?;
-    let tasks = remake_one::<InPlace<Updating<&'k K>>, G, H>(rt, alloc, pool, jobs, tasks)?;
+    let tasks = update_one::<InPlace<Updating<&'k K>>, G, H>(rt, alloc, pool, jobs, tasks)?;
     append_items(tasks, &mut list)?;
     Ok(list)
 }
@@ -86,28 +86,28 @@ fn tasks_of<K: Again, T: Drop>(
     alloc: Global,
     kernel: &K,
     pieces: Vec<Piece<T>>,
-) -> Result<Vec<Task<K, Piece<T>>>, AllocError>
+) -> Result<Vec<PublishedRound<K, Piece<T>>>, AllocError>
     ensures parts { IfOk result (λ tasks. map (λ task. task.part) tasks.items ≡ pieces.items) }
     ensures kernel { IfOk result (λ tasks. All (IsOfKernel kernel.now) tasks.items) }
 {
     let mut tasks = Vec::with_capacity(alloc, pieces.len())?;
     for part in pieces {
         let kernel = kernel.again()?;
-        tasks.push_reserved(Task { kernel, part });
+        tasks.push_reserved(PublishedRound { kernel, part });
     }
     Ok(tasks)
 }
 
 // Moves the items of all pieces to the end of the list, one behind the other.
 fn append_items<K: Drop, T: Drop>(
-    tasks: Vec<Task<K, Piece<T>>>,
+    tasks: Vec<PublishedRound<K, Piece<T>>>,
     list: &mut Vec<T>,
 ) -> Result<(), AllocError>
     ensures { let items = joined (map (λ task. task.part.items.items) tasks.items) in
         OnOk result (list.new.items ≡ list.old.items ++ items) }
 {
     for task in tasks {
-        let Task { part, .. } = task;
+        let PublishedRound { part, .. } = task;
         let Piece { mut items, .. } = part;
         list.append(&mut items)?;
     }

@@ -3,10 +3,10 @@ ghost use Rattle.std.specs.Prelude.{◌≡◌, IfOk, IsOk, OnErr, IsErrOf, fold,
 ghost use Rattle.spindle.specs.Folds.{IsAssociative, IsNeutral, total_of};
 
 use crate::kernels::{Source, parts_of};
-use crate::lock::place_once::remake_one;
+use crate::lock::place_once::update_one;
 use spindle_parts::lists::SharedList;
 use spindle_parts::fault::Fault;
-use spindle_slots::job::remake::{InPlace, Remake};
+use spindle_slots::job::update::{InPlace, Update};
 use spindle_trays::job::context::JobCx;
 use spindle_trays::job::gate::Gate;
 use spindle_trays::job::nest::End;
@@ -64,12 +64,12 @@ pub struct Folds<C, S> {
     kind: PhantomData<(C, S)>,
 }
 
-impl<C: Combine, S: Source<Item = C::Item>> Remake for Folds<C, S> {
+impl<C: Combine, S: Source<Item = C::Item>> Update for Folds<C, S> {
     type Item = Part<S, C::Total>;
 
     type Inner = End;
 
-    ghost remade = { λ old new.
+    ghost updated = { λ old new.
         new.total ≡ total_of C.combine C.neutral C.of (S.items old.source) };
 
     fn run<H: Threads + Wait + Sync>(
@@ -88,7 +88,7 @@ impl<C: Combine, S: Source<Item = C::Item>> Remake for Folds<C, S> {
 /// it. The caller's thread combines what the jobs answer, in the order of the pieces. Where `n_jobs` is 0, there are as many jobs
 /// as the pool has threads. Memory is the only refusal.
 ///
-/// The pieces are those of `share_out_evenly`, and the lock is that of `remake_one`. An empty list takes no memory and opens no lock.
+/// The pieces are those of `share_out_evenly`, and the lock is that of `update_one`. An empty list takes no memory and opens no lock.
 pub fn reduce<C: Combine + Send>(
     rt: &(impl Threads + Wait + Sync),
     alloc: Global,
@@ -127,7 +127,7 @@ where
     let threads = pool.max_num_threads();
     let jobs = if n_jobs == 0 { threads } else { n_jobs };
     let parts = fold_parts::<C, S>(alloc, parts_of(alloc, source, jobs)?)?;
-    let parts = remake_one::<InPlace<Folds<C, S>>, G, H>(rt, alloc, pool, jobs, parts)?;
+    let parts = update_one::<InPlace<Folds<C, S>>, G, H>(rt, alloc, pool, jobs, parts)?;
     Ok(combined::<C, S>(parts))
 }
 

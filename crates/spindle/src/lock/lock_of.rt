@@ -1,7 +1,7 @@
 //! The locks of a kind of job, by its name: each call opens one, and names no type but that kind.
 ghost use Rattle.std.specs.Prelude.{◌≡◌, ◌<◌, ◌≤◌, IfOk, OnErr, IsErrOf};
 ghost use Rattle.std.specs.Fn.{FnOnceReturnsAtMut};
-ghost use Rattle.spindle_threads.specs.Crews.{lock_threads};
+ghost use Rattle.spindle_threads.specs.ThreadCounts.{lock_threads};
 ghost use Rattle.spindle_trays.specs.Leaders.{hands_of, threads_of as tray_threads};
 ghost use Rattle.spindle.specs.SlotLeaders.{TakesLeaders, IsLeaderOf, threads_of};
 
@@ -9,10 +9,10 @@ use crate::lock::slot_leader::SlotLeader;
 use crate::lock::slot_nest::UnderPieces;
 use crate::lock::{nested, slot_root};
 use spindle_parts::fault::Fault;
-use spindle_rounds::round_table::pieces::Pieces;
-use spindle_slots::job::remake::Remakes;
+use spindle_rounds::round_table::pieces::PieceSlots;
+use spindle_slots::job::update::Updates;
 use spindle_slots::pieces::of_kind::{ChunkOf, PieceOf};
-use spindle_slots::posts::slot_workspace::{MakesSlots, SlotWorkspace};
+use spindle_slots::leader_states::slot_workspace::{MakesSlots, SlotWorkspace};
 use spindle_trays::job::Job;
 use spindle_trays::job::context::JobCx;
 use spindle_trays::job::gate::{Gate, NoGate};
@@ -46,7 +46,7 @@ impl<J> LockOf<J> {
         J::In: Send + Sync,
         J::Out: Send,
         J::Inner: Send,
-        <J::Inner as Nest>::Slots: Send + Sync,
+        <J::Inner as Nest>::ChildSlots: Send + Sync,
         requires some { 0 < max_threads }
         requires callable { F.IsAlwaysCallable f }
         ensures promise { IfOk result (λ r. (old : _) × (new : _)
@@ -74,11 +74,11 @@ impl<J> LockOf<J> {
         f: F,
     ) -> Result<R, Fault>
     where
-        J: MakesSlots<P, Pieces<PieceOf<J>>, SlotWorkspace<J>> + Send,
+        J: MakesSlots<P, PieceSlots<PieceOf<J>>, SlotWorkspace<J>> + Send,
         J::In: Send + Sync,
         J::Out: Send,
         J::Inner: Send,
-        <J::Inner as Nest>::Slots: Send + Sync,
+        <J::Inner as Nest>::ChildSlots: Send + Sync,
         requires some { 0 < max_threads }
         requires slots { (1 ≤ slots) × (slots ≤ 4294967295) }
         requires callable { TakesLeaders J.OpensSlots.slot_count slots F.FnOnce f }
@@ -91,7 +91,7 @@ impl<J> LockOf<J> {
         slot_root::with_slots::<J, G, R, F, P, H>(rt, alloc, pool, max_threads, slots, f)
     }
 
-    /// Opens a lock whose rounds remake lists in place, where J is `InPlace<M>`: `spindle::with_slots_in_place`.
+    /// Opens a lock whose rounds update lists in place, where J is `InPlace<M>`: `spindle::with_slots_in_place`.
     pub fn with_slots_in_place<
         G: Gate + Sync,
         R,
@@ -107,12 +107,12 @@ impl<J> LockOf<J> {
         f: F,
     ) -> Result<R, Fault>
     where
-        J: MakesSlots<P, Pieces<ChunkOf<J>>, SlotWorkspace<J>> + Remakes + Send,
+        J: MakesSlots<P, PieceSlots<ChunkOf<J>>, SlotWorkspace<J>> + Updates + Send,
         J::In: Send + Sync,
         J::Out: Send,
         J::Item: Send,
         J::Inner: Send,
-        <J::Inner as Nest>::Slots: Send + Sync,
+        <J::Inner as Nest>::ChildSlots: Send + Sync,
         requires some { 0 < max_threads }
         requires slots { (1 ≤ slots) × (slots ≤ 4294967295) }
         requires callable { TakesLeaders J.OpensSlots.slot_count slots F.FnOnce f }
@@ -140,7 +140,7 @@ impl<J> LockOf<J> {
         f: F,
     ) -> Result<R, Fault>
     where
-        J: Job + MakesSlots<P, Pieces<PieceOf<J>>, SlotWorkspace<J>>,
+        J: Job + MakesSlots<P, PieceSlots<PieceOf<J>>, SlotWorkspace<J>>,
         requires some { 0 < max_threads }
         requires slots { (1 ≤ slots) × (slots ≤ 4294967295) }
         requires callable { TakesLeaders J.OpensSlots.slot_count slots F.FnOnce f }
@@ -168,7 +168,7 @@ impl<J> LockOf<J> {
         f: F,
     ) -> Result<R, Fault>
     where
-        J: MakesSlots<P, Pieces<ChunkOf<J>>, SlotWorkspace<J>> + Remakes,
+        J: MakesSlots<P, PieceSlots<ChunkOf<J>>, SlotWorkspace<J>> + Updates,
         requires some { 0 < max_threads }
         requires slots { (1 ≤ slots) × (slots ≤ 4294967295) }
         requires callable { TakesLeaders J.OpensSlots.slot_count slots F.FnOnce f }

@@ -5,24 +5,24 @@
 ghost use Rattle.std.specs.Prelude.{◌≡◌, ◌<◌, ◌≤◌, IfOk, OnErr, IsErrOf};
 ghost use Rattle.std.specs.Arc.{arc_value};
 ghost use Rattle.std.specs.Fn.{FnOnceReturnsAtMut};
-ghost use Rattle.spindle_threads.specs.Crews.{lock_threads};
+ghost use Rattle.spindle_threads.specs.ThreadCounts.{lock_threads};
 ghost use Rattle.spindle.specs.SlotLeaders.{TakesLeaders, IsLeaderOf};
 
 use crate::lock::slot_leader::SlotLeader;
-use crate::lock::slot_nest::{Entry, NestedSlots, UnderPieces};
-use spindle_threads::Crew;
+use crate::lock::slot_nest::{NestedLeaderStart, NestedSlots, UnderPieces};
+use spindle_threads::ThreadCounts;
 use spindle_threads::limits::Idling;
 use spindle_parts::fault::Fault;
-use spindle_rounds::round_table::pieces::Pieces;
-use spindle_slots::crew::slot_post::Newcomer;
-use spindle_slots::job::remake::Remakes;
+use spindle_rounds::round_table::pieces::PieceSlots;
+use spindle_slots::threads::slot_member::LeaderSeats;
+use spindle_slots::job::update::Updates;
 use spindle_slots::pieces::of_kind::{ChunkOf, PieceOf};
-use spindle_slots::posts::slot_workspace::{MakesSlots, SlotWorkspace};
-use spindle_slots::work::in_slots::RunsPieces;
+use spindle_slots::leader_states::slot_workspace::{MakesSlots, SlotWorkspace};
+use spindle_slots::running::in_slots::RunsPieces;
 use spindle_trays::job::Job;
 use spindle_trays::job::context::{JobCx, child_slots_of, site_of};
 use spindle_trays::job::gate::NoGate;
-use spindle_trays::lock::nested::{Berth, close};
+use spindle_trays::lock::nested::{ChildLease, close};
 use spindle_trays::lock::opening::take_post;
 use std::alloc::Global;
 use std::sync::Wait;
@@ -34,7 +34,7 @@ use std::thread::Threads;
 /// The lock has the least of the pool's threads, `max_threads` and 32767, its leader counted. With one thread, or where the
 /// job's lock has no free child slot, its leader works alone. `Memory` hasn't run f, and is the only refusal.
 pub fn with_slots<
-    J: MakesSlots<P, Pieces<PieceOf<J>>, SlotWorkspace<J>>,
+    J: MakesSlots<P, PieceSlots<PieceOf<J>>, SlotWorkspace<J>>,
     R,
     F: FnOnce(&mut SlotLeader<J, NoGate, P>) -> R,
     P: Drop,
@@ -59,11 +59,11 @@ pub fn with_slots<
     open::<J, PieceOf<J>, R, F, P, H>(rt, alloc, cx, max_threads, slots, f)
 }
 
-/// Opens a lock in a job whose rounds remake lists in place, in at most so many jobs, runs f with its leader, and closes the lock.
+/// Opens a lock in a job whose rounds update lists in place, in at most so many jobs, runs f with its leader, and closes the lock.
 ///
-/// J is `InPlace<M>` for a kind M of remaking. It is a lock as `with_slots` opens it, and a refusal hasn't run f.
+/// J is `InPlace<M>` for a kind M of updating. It is a lock as `with_slots` opens it, and a refusal hasn't run f.
 pub fn with_slots_in_place<
-    J: MakesSlots<P, Pieces<ChunkOf<J>>, SlotWorkspace<J>> + Remakes,
+    J: MakesSlots<P, PieceSlots<ChunkOf<J>>, SlotWorkspace<J>> + Updates,
     R,
     F: FnOnce(&mut SlotLeader<J, NoGate, P>) -> R,
     P: Drop,
@@ -90,7 +90,7 @@ pub fn with_slots_in_place<
 
 // Opens a lock whose slots hold A's pieces, runs f with its leader, and closes the lock.
 fn open<
-    J: Job + MakesSlots<P, Pieces<A>, SlotWorkspace<J>>,
+    J: Job + MakesSlots<P, PieceSlots<A>, SlotWorkspace<J>>,
     A: RunsPieces<J>,
     R,
     F: FnOnce(&mut SlotLeader<J, NoGate, P>) -> R,
@@ -113,47 +113,47 @@ fn open<
     ensures same { cx.new ≡ cx.old }
 {
     let site = site_of(cx);
-    let crew = site.crew.nested(max_threads);
+    let counts = site.counts.nested(max_threads);
     let idling = site.sleep.idling();
     if let Some(places) = child_slots_of(cx)
-        && crew.threads() > 1
+        && counts.threads() > 1
     {
-        let (child, entry) = NestedSlots::open(alloc, crew, idling, slots)?;
+        let (child, entry) = NestedSlots::open(alloc, counts, idling, slots)?;
         let asked = cx.asks.ask(&*child.shared.tables);
-        if let Some(berth) = Berth::take(rt, places, &child, asked, site.sleep) {
+        if let Some(child_lease) = ChildLease::take(rt, places, &child, asked, site.sleep) {
             let mut leader = take_lead(rt, &*child.shared, &NoGate, entry);
             let answer = f(&mut leader);
-            close(rt, leader, berth);
+            close(rt, leader, child_lease);
             return Ok(answer);
         }
     }
-    lead_alone::<J, A, R, F, P, H>(rt, alloc, crew, idling, slots, f)
+    lead_alone::<J, A, R, F, P, H>(rt, alloc, counts, idling, slots, f)
 }
 
 // Runs f with the leader of a lock of so many threads that stands in no child slot, so that no helper comes to it.
 fn lead_alone<
-    J: Job + MakesSlots<P, Pieces<A>, SlotWorkspace<J>>,
+    J: Job + MakesSlots<P, PieceSlots<A>, SlotWorkspace<J>>,
     A: RunsPieces<J>,
     R,
     F: FnOnce(&mut SlotLeader<J, NoGate, P>) -> R,
     P: Drop,
     H: Threads + Wait + Sync,
->(rt: &H, alloc: Global, crew: Crew, idling: Idling, slots: usize, f: F) -> Result<R, Fault>
+>(rt: &H, alloc: Global, counts: ThreadCounts, idling: Idling, slots: usize, f: F) -> Result<R, Fault>
     requires slots { (1 ≤ slots) × (slots ≤ 4294967295) }
     requires callable { TakesLeaders J.OpensSlots.slot_count slots F.FnOnce f }
     ensures promise { IfOk result (λ r. (old : _) × (new : _)
-        × IsLeaderOf J.OpensSlots.slot_count crew.most slots old
+        × IsLeaderOf J.OpensSlots.slot_count counts.most slots old
         × FnOnceReturnsAtMut F.FnOnce f old r new) }
     ensures memory { OnErr result (IsErrOf result Fault.Memory) }
 {
-    let (child, entry) = NestedSlots::open(alloc, crew.alone(), idling, slots)?;
+    let (child, entry) = NestedSlots::open(alloc, counts.alone(), idling, slots)?;
     Ok(f(&mut take_lead(rt, &*child.shared, &NoGate, entry)))
 }
 
 // The leader of a lock that nobody leads yet.
 fn take_lead<
     'b,
-    J: Job + MakesSlots<P, Pieces<A>, SlotWorkspace<J>>,
+    J: Job + MakesSlots<P, PieceSlots<A>, SlotWorkspace<J>>,
     A: RunsPieces<J>,
     P: Drop,
     H: Wait,
@@ -161,24 +161,24 @@ fn take_lead<
     rt: &H,
     nested: &'b NestedSlots<SlotWorkspace<J>, A>,
     gate: &'b NoGate,
-    entry: Entry<A>,
+    entry: NestedLeaderStart<A>,
 ) -> SlotLeader<'b, J, NoGate, P>
     requires { arc_value entry.share ≡ arc_value nested.now.tables }
-    ensures { IsLeaderOf J.OpensSlots.slot_count (arc_value nested.now.tables).crew.most entry.slots result }
+    ensures { IsLeaderOf J.OpensSlots.slot_count (arc_value nested.now.tables).counts.most entry.slots result }
 {
-    let Entry {
+    let NestedLeaderStart {
         share,
         seats,
         slots,
     } = entry;
     let tables = &*nested.tables;
-    let (post, runner) = take_post::<Pieces<A>, J, NoGate, SlotWorkspace<J>, H>(
+    let (post, runner) = take_post::<PieceSlots<A>, J, NoGate, SlotWorkspace<J>, H>(
         rt,
         tables,
         &nested.workspace,
         gate,
         seats,
     );
-    let mut newcomer = Some(Newcomer::new(share, post, slots));
-    SlotLeader::new(runner, J::settle(&mut newcomer))
+    let mut leader_seats = Some(LeaderSeats::new(share, post, slots));
+    SlotLeader::new(runner, J::settle(&mut leader_seats))
 }

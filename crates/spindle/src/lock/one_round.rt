@@ -2,7 +2,7 @@
 ghost use Rattle.std.specs.Prelude.{◌≡◌, ◌<◌, IfOk, IfErr, vec_len};
 ghost use Rattle.std.specs.List.{AllZip};
 ghost use Rattle.spindle_trays.specs.Leaders.{hands_of};
-ghost use Rattle.spindle_threads.specs.Crews.{lock_threads};
+ghost use Rattle.spindle_threads.specs.ThreadCounts.{lock_threads};
 ghost use Rattle.spindle.specs.OneRound.{asked_jobs};
 ghost use Rattle.spindle_trays.specs.Rounds.{job_count, IsRefusal};
 
@@ -33,7 +33,7 @@ where
     J::In: Send + Sync,
     J::Out: Send,
     J::Inner: Send,
-    <J::Inner as Nest>::Slots: Send + Sync,
+    <J::Inner as Nest>::ChildSlots: Send + Sync,
     ensures answer { IfOk result (λ outputs. AllZip J.meets items.items outputs.items) }
     ensures refused { let threads = pool.now.threads in
         let jobs = job_count (vec_len items) (asked_jobs threads n_jobs) in

@@ -5,12 +5,12 @@ ghost use Rattle.std.specs.List.{AllZip};
 ghost use denote.Param.Send.{IsSync};
 ghost use Rattle.spindle.specs.SlotLeaders.{IsForMemory};
 
-use crate::lock::place_rounds::remake;
+use crate::lock::place_rounds::update;
 use crate::lock::slot_leader::SlotLeader;
 use crate::lock::slot_root::with_slots_in_place;
 use spindle_parts::fault::Fault;
-use spindle_slots::job::remake::Remakes;
-use spindle_slots::posts::place_post::PlacePost;
+use spindle_slots::job::update::Updates;
+use spindle_slots::leader_states::place_leader_state::PlaceLeaderState;
 use spindle_trays::job::Job;
 use spindle_trays::job::gate::Gate;
 use spindle_trays::job::nest::Nest;
@@ -20,10 +20,10 @@ use std::alloc::Global;
 use std::sync::Wait;
 use std::thread::Threads;
 
-/// Rounds in place of one lock, with what they remake.
+/// Rounds in place of one lock, with what they update.
 pub trait RoundsInPlace: Drop {
-    /// The kind of job: `InPlace<M>` for a kind M of remaking.
-    type Kind: Remakes;
+    /// The kind of job: `InPlace<M>` for a kind M of updating.
+    type Kind: Updates;
 
     /// The relation between what the rounds begin with and what they leave.
     ghost played: { Self → Self → Type 0 };
@@ -33,7 +33,7 @@ pub trait RoundsInPlace: Drop {
         &mut self,
         rt: &H,
         alloc: Global,
-        leader: &mut SlotLeader<Self::Kind, G, PlacePost<Self::Kind>>,
+        leader: &mut SlotLeader<Self::Kind, G, PlaceLeaderState<Self::Kind>>,
     ) -> Result<(), Fault>
         requires { IsSync H.row }
         ensures played { OnOk result (played self.old self.new) }
@@ -56,9 +56,9 @@ where
     S::Kind: Send,
     <S::Kind as Job>::In: Send + Sync,
     <S::Kind as Job>::Out: Send,
-    <S::Kind as Remakes>::Item: Send,
+    <S::Kind as Updates>::Item: Send,
     <S::Kind as Job>::Inner: Send,
-    <<S::Kind as Job>::Inner as Nest>::Slots: Send + Sync,
+    <<S::Kind as Job>::Inner as Nest>::ChildSlots: Send + Sync,
     requires some { 0 < max_threads }
     requires slots { (1 ≤ slots) × (slots ≤ 4294967295) }
     ensures played { IfOk result (λ new. S.played rounds new) }
@@ -83,34 +83,34 @@ where
 
 // One round over a list, in as many jobs as the list has items or its lock slots.
 #[derive(Drop)]
-struct OneRound<J: Remakes> {
+struct OneRound<J: Updates> {
     items: Vec<J::Item>,
 }
 
-impl<J: Remakes> RoundsInPlace for OneRound<J> {
+impl<J: Updates> RoundsInPlace for OneRound<J> {
     type Kind = J;
 
-    ghost played = { λ old new. AllZip J.remade old.items.items new.items.items };
+    ghost played = { λ old new. AllZip J.updated old.items.items new.items.items };
 
     fn play<G: Gate, H: Threads + Wait + Sync>(
         &mut self,
         rt: &H,
         alloc: Global,
-        leader: &mut SlotLeader<J, G, PlacePost<J>>,
+        leader: &mut SlotLeader<J, G, PlaceLeaderState<J>>,
     ) -> Result<(), Fault> {
         let jobs = self.items.len();
         let (runner, post) = (&mut leader.runner, &mut leader.post);
-        remake::<J, PlacePost<J>, G, H>(rt, alloc, runner, post, jobs, &mut self.items)
+        update::<J, PlaceLeaderState<J>, G, H>(rt, alloc, runner, post, jobs, &mut self.items)
     }
 }
 
-/// Opens a lock over J, which is `InPlace<M>` for a kind M of remaking, remakes the items in one round of `n_jobs` jobs, and closes the
+/// Opens a lock over J, which is `InPlace<M>` for a kind M of updating, updates the items in one round of `n_jobs` jobs, and closes the
 /// lock. Where `n_jobs` is 0, there are as many jobs as the pool has threads. What becomes of an item stands where the item stood.
 ///
 /// The lock has the least of the pool's threads, the jobs and 32767. Its helpers start and end with the call, so rounds that follow
 /// each other belong into one lock. No items are no job: that takes no memory and opens no lock. A refusal, for memory alone, gives
 /// the items up.
-pub fn remake_one<J: Remakes + Send, G: Gate + Sync, H: Threads + Wait + Sync>(
+pub fn update_one<J: Updates + Send, G: Gate + Sync, H: Threads + Wait + Sync>(
     rt: &H,
     alloc: Global,
     pool: &Pool<G>,
@@ -120,10 +120,10 @@ pub fn remake_one<J: Remakes + Send, G: Gate + Sync, H: Threads + Wait + Sync>(
 where
     J::In: Send + Sync,
     J::Out: Send,
-    <J as Remakes>::Item: Send,
+    <J as Updates>::Item: Send,
     J::Inner: Send,
-    <J::Inner as Nest>::Slots: Send + Sync,
-    ensures remade { IfOk result (λ new. AllZip J.remade items.items new.items) }
+    <J::Inner as Nest>::ChildSlots: Send + Sync,
+    ensures updated { IfOk result (λ new. AllZip J.updated items.items new.items) }
     ensures refused { IsForMemory (vec_len items) result }
 {
     if items.is_empty() {

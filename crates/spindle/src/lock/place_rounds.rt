@@ -9,25 +9,25 @@ ghost use Rattle.spindle.specs.SlotLeaders.{slot_jobs, GoesOn, IsForMemory, Play
 
 use crate::lock::slot_leader::SlotLeader;
 use spindle_parts::fault::Fault;
-use spindle_slots::job::remake::InPlace;
-use spindle_slots::posts::place_post::{PlacePost, PlaysInPlace};
-use spindle_slots::posts::slot_workspace::OpensSlots;
+use spindle_slots::job::update::InPlace;
+use spindle_slots::leader_states::place_leader_state::{PlaceLeaderState, PlaysInPlace};
+use spindle_slots::leader_states::slot_workspace::OpensSlots;
 use spindle_trays::job::gate::Gate;
-use spindle_trays::work::runner::Runner;
+use spindle_trays::running::runner::Runner;
 use std::alloc::Global;
 use std::sync::Wait;
 use std::thread::Threads;
 
-/// The leader of a lock whose rounds remake items of the kind M in place, lent to the closure that the lock was opened for.
-pub type PlaceLeader<'a, M, G> = SlotLeader<'a, InPlace<M>, G, PlacePost<InPlace<M>>>;
+/// The leader of a lock whose rounds update items of the kind M in place, lent to the closure that the lock was opened for.
+pub type PlaceLeader<'a, M, G> = SlotLeader<'a, InPlace<M>, G, PlaceLeaderState<InPlace<M>>>;
 
 impl<'a, J: PlaysInPlace<P>, G: Gate, P> SlotLeader<'a, J, G, P> {
-    /// Remakes the items in `n_jobs` jobs, or in as many as there are items or slots where these are fewer. What becomes of an item
-    /// stands in its place, and the list keeps its room. Each job remakes a piece of the items, as `cut` cuts them.
+    /// Updates the items in `n_jobs` jobs, or in as many as there are items or slots where these are fewer. What becomes of an item
+    /// stands in its place, and the list keeps its room. Each job updates a piece of the items, as `cut` cuts them.
     ///
     /// One job is run by the leader directly. No items are no job: that round takes no memory. The lock keeps the room of a round
     /// for later ones. A refusal leaves the items as they were, and may give up room that was kept.
-    pub fn remake_each<H: Threads + Wait + Sync>(
+    pub fn update_each<H: Threads + Wait + Sync>(
         &mut self,
         rt: &H,
         alloc: Global,
@@ -35,7 +35,7 @@ impl<'a, J: PlaysInPlace<P>, G: Gate, P> SlotLeader<'a, J, G, P> {
         items: &mut Vec<J::Item>,
     ) -> Result<(), Fault>
         requires jobs { 0 < vec_len items.old → 0 < n_jobs }
-        ensures remade { OnOk result (AllZip J.remade items.old.items items.new.items) }
+        ensures updated { OnOk result (AllZip J.updated items.old.items items.new.items) }
         ensures kept { OnErr result (items.new.items ≡ items.old.items) }
         ensures refused { IsForMemory (vec_len items.old) result }
         ensures trail { PlayedAs J.OpensSlots.view
@@ -43,12 +43,12 @@ impl<'a, J: PlaysInPlace<P>, G: Gate, P> SlotLeader<'a, J, G, P> {
             self.old self.new result }
         ensures goes_on { GoesOn J.OpensSlots.view J.OpensSlots.slot_count self.old self.new }
     {
-        remake::<J, P, G, H>(rt, alloc, &mut self.runner, &mut self.post, n_jobs, items)
+        update::<J, P, G, H>(rt, alloc, &mut self.runner, &mut self.post, n_jobs, items)
     }
 }
 
 /// The same by a leader that runs jobs with this and has this post.
-pub(crate) fn remake<J: PlaysInPlace<P>, P, G: Gate, H: Threads + Wait + Sync>(
+pub(crate) fn update<J: PlaysInPlace<P>, P, G: Gate, H: Threads + Wait + Sync>(
     rt: &H,
     alloc: Global,
     runner: &mut Runner<'_, J, G>,
@@ -58,12 +58,12 @@ pub(crate) fn remake<J: PlaysInPlace<P>, P, G: Gate, H: Threads + Wait + Sync>(
 ) -> Result<(), Fault>
     requires jobs { 0 < vec_len items.old → 0 < n_jobs }
     requires sync { IsSync H.row }
-    ensures remade { OnOk result (AllZip J.remade items.old.items items.new.items) }
+    ensures updated { OnOk result (AllZip J.updated items.old.items items.new.items) }
     ensures kept { OnErr result (items.new.items ≡ items.old.items) }
     ensures refused { IsForMemory (vec_len items.old) result }
     ensures nothing { min (vec_len items.old) (min n_jobs (J.OpensSlots.slot_count post.old)) ≡ 0
         → (J.OpensSlots.view post.new ≡ J.OpensSlots.view post.old)
-        × (account_of runner.new.notices ≡ account_of runner.old.notices) }
+        × (account_of runner.new.signals ≡ account_of runner.old.signals) }
     ensures played { let jobs = min (vec_len items.old) (min n_jobs (J.OpensSlots.slot_count post.old)) in
         OnOk result (2 ≤ jobs
         → PlayedRound jobs (J.OpensSlots.view post.old) (J.OpensSlots.view post.new)) }

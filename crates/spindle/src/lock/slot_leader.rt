@@ -5,19 +5,19 @@
 ghost use Rattle.std.specs.Prelude.{◌≡◌, ◌<◌, ◌≤◌, IsNone};
 ghost use Rattle.spindle.specs.SlotLeaders.{threads_of, AnnouncedRest, IsAsBefore};
 
-use spindle_threads::Crew;
-use spindle_slots::posts::piece_post::PiecePost;
-use spindle_slots::posts::slot_workspace::OpensSlots;
+use spindle_threads::ThreadCounts;
+use spindle_slots::leader_states::slot_leader_state::SlotLeaderState;
+use spindle_slots::leader_states::slot_workspace::OpensSlots;
 use spindle_trays::job::Job;
 use spindle_trays::job::gate::Gate;
 use spindle_trays::lock::nested::Leads;
-use spindle_trays::work::runner::Runner;
+use spindle_trays::running::runner::Runner;
 use std::sync::Wait;
 
 /// The leader of a lock with slots over jobs of kind J, lent to the closure that the lock was opened for.
 #[derive(Drop)]
-pub struct SlotLeader<'a, J: Job, G: Gate, P = PiecePost<J>> {
-    pub(crate) crew: Crew,
+pub struct SlotLeader<'a, J: Job, G: Gate, P = SlotLeaderState<J>> {
+    pub(crate) counts: ThreadCounts,
     pub(crate) runner: Runner<'a, J, G>,
     pub(crate) post: P,
 }
@@ -25,11 +25,11 @@ pub struct SlotLeader<'a, J: Job, G: Gate, P = PiecePost<J>> {
 impl<'a, J: OpensSlots<P>, G: Gate, P> SlotLeader<'a, J, G, P> {
     /// The leader of a lock, which runs jobs with this, and has this post.
     pub(crate) fn new(runner: Runner<'a, J, G>, post: P) -> SlotLeader<'a, J, G, P>
-        ensures threads { threads_of result ≡ runner.entry.site.crew.most }
+        ensures threads { threads_of result ≡ runner.entry.site.counts.most }
         ensures post { result.post ≡ post }
     {
         SlotLeader {
-            crew: runner.site.crew,
+            counts: runner.site.counts,
             runner,
             post,
         }
@@ -40,14 +40,14 @@ impl<'a, J: OpensSlots<P>, G: Gate, P> SlotLeader<'a, J, G, P> {
         ensures leader { 0 < result }
         ensures most { result ≤ threads_of self.now }
     {
-        self.runner.site.members.current(self.crew.most())
+        self.runner.site.members.current(self.counts.most())
     }
 
     /// The lock's threads.
     pub fn max_num_threads(&self) -> usize
         ensures { result ≡ threads_of self.now }
     {
-        self.crew.most()
+        self.counts.most()
     }
 
     /// None: a leader has no number between rounds.
@@ -64,7 +64,7 @@ impl<'a, J: OpensSlots<P>, G: Gate, P> SlotLeader<'a, J, G, P> {
         ensures slots { IsAsBefore J.OpensSlots.slot_count self.old self.new }
         ensures rest { AnnouncedRest self.old self.new }
     {
-        self.runner.notices.announce_rest();
+        self.runner.signals.announce_rest();
     }
 }
 
@@ -74,7 +74,7 @@ impl<'a, J: OpensSlots<P>, G: Gate, P> Leads for SlotLeader<'a, J, G, P> {
     ghost account = { account_of };
 
     fn dismiss<H: Wait>(&mut self, rt: &H) {
-        self.runner.notices.announce_exit();
+        self.runner.signals.announce_exit();
         J::wake(rt, &self.post);
     }
 

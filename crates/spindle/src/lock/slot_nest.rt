@@ -6,19 +6,19 @@ ghost use Rattle.spindle_rounds.specs.Seating.{HasSlots};
 ghost use Rattle.spindle_threads.specs.Benches.{IsBenchAt};
 ghost use Rattle.spindle_threads.specs.Opening.{AreSeatsAt};
 
-use spindle_threads::Crew;
-use spindle_threads::bench::Bench;
+use spindle_threads::ThreadCounts;
+use spindle_threads::spare_seats::SpareSeats;
 use spindle_threads::limits::Idling;
-use spindle_threads::notices::Notices;
+use spindle_threads::signals::Signals;
 use spindle_threads::seats::Seats;
 use spindle_threads::tables::Tables;
 use spindle_parts::fault::Fault;
 use spindle_rounds::round::Round;
-use spindle_rounds::round_table::pieces::{Answers, Pieces};
-use spindle_slots::job::remake::InPlace;
+use spindle_rounds::round_table::pieces::{PieceKind, PieceSlots};
+use spindle_slots::job::update::InPlace;
 use spindle_slots::pieces::of_kind::{ChunkOf, PieceOf};
-use spindle_slots::posts::slot_workspace::SlotWorkspace;
-use spindle_slots::work::in_slots::RunsPieces;
+use spindle_slots::leader_states::slot_workspace::SlotWorkspace;
+use spindle_slots::running::in_slots::RunsPieces;
 use spindle_trays::job::Job;
 use spindle_trays::job::is_nest::IsNest;
 use spindle_trays::job::nest::Nest;
@@ -38,24 +38,24 @@ pub struct UnderPieces<J, A> {
 /// Nested locks with slots over jobs of kind K.
 pub type UnderSlots<K> = UnderPieces<K, PieceOf<K>>;
 
-/// Nested locks whose rounds remake items of the kind M in place.
+/// Nested locks whose rounds update items of the kind M in place.
 pub type UnderInPlace<M> = UnderPieces<InPlace<M>, ChunkOf<InPlace<M>>>;
 
 /// What the threads of a nested lock with slots share: its tables, what stands beside them, and seats for its helpers. W is
 /// `SlotWorkspace<J>` for its kind of job J; a bound on it here would be passed on with each lock that stands in another.
 #[derive(Drop)]
-pub struct NestedSlots<W, A: Answers> {
-    pub(crate) tables: Arc<Tables<Pieces<A>>>,
+pub struct NestedSlots<W, A: PieceKind> {
+    pub(crate) tables: Arc<Tables<PieceSlots<A>>>,
     pub(crate) workspace: W,
-    pub(crate) benches: Vec<Bench<Pieces<A>>>,
-    ghost seated: { All (IsBenchAt (arc_value tables)) benches.items },
+    pub(crate) spare_seats: Vec<SpareSeats<PieceSlots<A>>>,
+    ghost seated: { All (IsBenchAt (arc_value tables)) spare_seats.items },
 }
 
 /// What the leader of a nested lock with slots comes with: a share of the lock's tables, its seats there, and the number of slots.
 #[derive(Drop)]
-pub(crate) struct Entry<A: Answers> {
-    pub(crate) share: Arc<Tables<Pieces<A>>>,
-    pub(crate) seats: Seats<Pieces<A>>,
+pub(crate) struct NestedLeaderStart<A: PieceKind> {
+    pub(crate) share: Arc<Tables<PieceSlots<A>>>,
+    pub(crate) seats: Seats<PieceSlots<A>>,
     pub(crate) slots: usize,
     ghost seated: { AreSeatsAt (arc_value share) seats },
     ghost many: { HasSlots (arc_value share).round.init slots },
@@ -66,23 +66,23 @@ impl<J: Job, A: RunsPieces<J>> NestedSlots<SlotWorkspace<J>, A> {
     /// A nested lock of so many slots, and what its leader comes with.
     pub(crate) fn open(
         alloc: Global,
-        crew: Crew,
+        counts: ThreadCounts,
         idling: Idling,
         slots: usize,
-    ) -> Result<(Child<NestedSlots<SlotWorkspace<J>, A>>, Entry<A>), Fault>
+    ) -> Result<(Child<NestedSlots<SlotWorkspace<J>, A>>, NestedLeaderStart<A>), Fault>
         requires slots { (1 ≤ slots) × (slots ≤ 4294967295) }
         ensures share { IfOk result (λ t. arc_value t.1.share ≡ arc_value (arc_value t.0.shared).tables) }
-        ensures crew { IfOk result (λ t. (arc_value t.1.share).crew ≡ crew) }
+        ensures counts { IfOk result (λ t. (arc_value t.1.share).counts ≡ counts) }
         ensures slots { IfOk result (λ t. t.1.slots ≡ slots) }
         ensures idling { IfOk result (λ t. (arc_value t.1.share).sleep.idling ≡ idling) }
         ensures memory { OnErr result (IsErrOf result Fault.Memory) }
     {
-        let threads = crew.threads();
+        let threads = counts.threads();
         let children = <J::Inner as Nest>::make(alloc, threads)?;
         let (round, seat) = Round::with_slots(alloc, threads, slots)?;
         let places = J::Inner::slot_count(threads);
-        let (tables, mut seats) = Tables::new(alloc, crew, idling, places, round, seat)?;
-        let benches = tables.benches(alloc, &mut seats)?;
+        let (tables, mut seats) = Tables::new(alloc, counts, idling, places, round, seat)?;
+        let spare_seats = tables.spare_seats(alloc, &mut seats)?;
         let tables = Arc::new(alloc, tables)?;
         let share = Arc::try_clone(&tables)?;
         let shared = Arc::new(
@@ -90,10 +90,10 @@ impl<J: Job, A: RunsPieces<J>> NestedSlots<SlotWorkspace<J>, A> {
             NestedSlots {
                 tables,
                 workspace: SlotWorkspace::new(children),
-                benches,
+                spare_seats,
             },
         )?;
-        let entry = Entry {
+        let entry = NestedLeaderStart {
             share,
             seats,
             slots,
@@ -104,16 +104,16 @@ impl<J: Job, A: RunsPieces<J>> NestedSlots<SlotWorkspace<J>, A> {
 
 impl<J: Job, A: RunsPieces<J>> TakesHelpers for NestedSlots<SlotWorkspace<J>, A> {
     fn help<H: Threads + Wait + Sync>(&self, rt: &H, alloc: Global) {
-        let benches = self.benches.as_slice();
+        let spare_seats = self.spare_seats.as_slice();
         let tables = self.tables.as_ref();
-        help_from::<_, J, SlotWorkspace<J>, H>(rt, alloc, tables, &self.workspace, benches);
+        help_from::<_, J, SlotWorkspace<J>, H>(rt, alloc, tables, &self.workspace, spare_seats);
     }
 }
 
 impl<J: Job, A: RunsPieces<J>> IsNest for UnderPieces<J, A> {}
 
 impl<J: Job, A: RunsPieces<J>> Nest for UnderPieces<J, A> {
-    type Slots = Vec<ChildSlot<NestedSlots<SlotWorkspace<J>, A>>>;
+    type ChildSlots = Vec<ChildSlot<NestedSlots<SlotWorkspace<J>, A>>>;
 
     fn slot_count(threads: usize) -> usize {
         threads
@@ -130,8 +130,8 @@ impl<J: Job, A: RunsPieces<J>> Nest for UnderPieces<J, A> {
         rt: &H,
         alloc: Global,
         slots: &Vec<ChildSlot<NestedSlots<SlotWorkspace<J>, A>>>,
-        notices: &mut Notices<'_>,
+        signals: &mut Signals<'_>,
     ) {
-        serve_slots(rt, alloc, slots, notices);
+        serve_slots(rt, alloc, slots, signals);
     }
 }

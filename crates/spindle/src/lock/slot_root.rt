@@ -1,16 +1,16 @@
 //! Opening a lock with slots in a thread that is in none: over lists, and in place.
 ghost use Rattle.std.specs.Prelude.{◌≡◌, ◌<◌, ◌≤◌, IfOk, OnErr, IsErrOf};
 ghost use Rattle.std.specs.Fn.{FnOnceReturnsAtMut};
-ghost use Rattle.spindle_threads.specs.Crews.{lock_threads};
+ghost use Rattle.spindle_threads.specs.ThreadCounts.{lock_threads};
 ghost use Rattle.spindle.specs.SlotLeaders.{TakesLeaders, threads_of};
 
 use crate::lock::slot_leader::SlotLeader;
 use crate::lock::slot_opening::open;
 use spindle_parts::fault::Fault;
-use spindle_rounds::round_table::pieces::Pieces;
-use spindle_slots::job::remake::Remakes;
+use spindle_rounds::round_table::pieces::PieceSlots;
+use spindle_slots::job::update::Updates;
 use spindle_slots::pieces::of_kind::{ChunkOf, PieceOf};
-use spindle_slots::posts::slot_workspace::{MakesSlots, SlotWorkspace};
+use spindle_slots::leader_states::slot_workspace::{MakesSlots, SlotWorkspace};
 use spindle_trays::job::Job;
 use spindle_trays::job::gate::Gate;
 use spindle_trays::job::nest::Nest;
@@ -25,7 +25,7 @@ use std::thread::Threads;
 /// piece is lost, nothing is compared, and nothing is behind a lock. The lock has as many threads as one that `with_lock`
 /// opens. A refusal hasn't run f.
 pub fn with_slots<
-    J: MakesSlots<P, Pieces<PieceOf<J>>, SlotWorkspace<J>> + Send,
+    J: MakesSlots<P, PieceSlots<PieceOf<J>>, SlotWorkspace<J>> + Send,
     G: Gate + Sync,
     R,
     F: FnOnce(&mut SlotLeader<J, G, P>) -> R,
@@ -36,7 +36,7 @@ where
     J::In: Send + Sync,
     J::Out: Send,
     J::Inner: Send,
-    <J::Inner as Nest>::Slots: Send + Sync,
+    <J::Inner as Nest>::ChildSlots: Send + Sync,
     requires some { 0 < max_threads }
     requires slots { (1 ≤ slots) × (slots ≤ 4294967295) }
     requires callable { TakesLeaders J.OpensSlots.slot_count slots F.FnOnce f }
@@ -49,11 +49,11 @@ where
     open::<J, PieceOf<J>, SlotWorkspace<J>, G, R, F, P, H>(rt, alloc, pool, max_threads, slots, f)
 }
 
-/// Opens a lock whose rounds remake lists in place, in at most so many jobs, runs f with its leader, and closes the lock.
+/// Opens a lock whose rounds update lists in place, in at most so many jobs, runs f with its leader, and closes the lock.
 ///
-/// J is `InPlace<M>` for a kind M of remaking. It is a lock as `with_slots` opens it, and a refusal hasn't run f.
+/// J is `InPlace<M>` for a kind M of updating. It is a lock as `with_slots` opens it, and a refusal hasn't run f.
 pub fn with_slots_in_place<
-    J: MakesSlots<P, Pieces<ChunkOf<J>>, SlotWorkspace<J>> + Remakes + Send,
+    J: MakesSlots<P, PieceSlots<ChunkOf<J>>, SlotWorkspace<J>> + Updates + Send,
     G: Gate + Sync,
     R,
     F: FnOnce(&mut SlotLeader<J, G, P>) -> R,
@@ -65,7 +65,7 @@ where
     J::Out: Send,
     J::Item: Send,
     J::Inner: Send,
-    <J::Inner as Nest>::Slots: Send + Sync,
+    <J::Inner as Nest>::ChildSlots: Send + Sync,
     requires some { 0 < max_threads }
     requires slots { (1 ≤ slots) × (slots ≤ 4294967295) }
     requires callable { TakesLeaders J.OpensSlots.slot_count slots F.FnOnce f }

@@ -12,9 +12,9 @@ ghost use Rattle.spindle.specs.SlotLeaders.{threads_of, slots_of, slot_jobs, Goe
 use crate::lock::slot_leader::SlotLeader;
 use spindle_parts::fault::Fault;
 use spindle_slots::pieces::items::{FillsSlots, Items, Numbers};
-use spindle_slots::posts::piece_post::PlaysPieces;
+use spindle_slots::leader_states::slot_leader_state::PlaysPieces;
 use spindle_trays::job::gate::Gate;
-use spindle_trays::lock::rounds::Rounds;
+use spindle_trays::lock::rounds::RunsRounds;
 use std::alloc::Global;
 use std::mem;
 use std::sync::Wait;
@@ -110,7 +110,7 @@ impl<'a, J: PlaysPieces<P>, G: Gate, P> SlotLeader<'a, J, G, P> {
     }
 }
 
-impl<'a, J: PlaysPieces<P>, G: Gate, P> Rounds<J> for SlotLeader<'a, J, G, P> {
+impl<'a, J: PlaysPieces<P>, G: Gate, P> RunsRounds<J> for SlotLeader<'a, J, G, P> {
     ghost threads = { λ leader. threads_of leader };
 
     ghost refuses = { λ _ jobs fault. (fault ≡ Memory) × (0 < jobs) };
@@ -119,7 +119,7 @@ impl<'a, J: PlaysPieces<P>, G: Gate, P> Rounds<J> for SlotLeader<'a, J, G, P> {
 
     fn max_num_threads(&self) -> usize {
         let _slots = J::slots(&self.post);
-        self.crew.most()
+        self.counts.most()
     }
 
     fn for_each_into<H: Threads + Wait + Sync>(

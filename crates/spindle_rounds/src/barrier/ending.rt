@@ -9,19 +9,19 @@ ghost use Rattle.spindle_rounds.specs.Seating.{IsSeatAt, IsSameSeat};
 use super::word::{FIELD, MEMBER, SENSE};
 use super::{Barrier, BarrierInit};
 use crate::round_table::plays::{Clears, CloserReads, Ends};
-use crate::round_table::slots::Slots;
+use crate::round_table::slots::SlotContents;
 use crate::round_table::{BARRIER, PUBLISHED, Seat};
 
 /// What the closer has after the round's end.
 #[derive(Drop)]
-pub enum AfterEnd<'a, D: Slots> {
+pub enum AfterEnd<'a, D: SlotContents> {
     /// A member, which is inside the next round.
     Next(Barrier<'a, D>),
     /// Its seat, where it had exited.
     Gone(Seat<D>),
 }
 
-pub(crate) fn end_round<D: Slots>(init: &BarrierInit<D>, seat: &mut Seat<D>)
+pub(crate) fn end_round<D: SlotContents>(init: &BarrierInit<D>, seat: &mut Seat<D>)
     requires seated { IsSeatAt init.now seat.old }
     requires cleared { HasCleared seat.old.me.0 }
     ensures seat { IsSameSeat seat.old seat.new }
@@ -34,7 +34,7 @@ pub(crate) fn end_round<D: Slots>(init: &BarrierInit<D>, seat: &mut Seat<D>)
     words.store::<Ends>(seat, BARRIER, turned);
 }
 
-impl<'a, D: Slots> Barrier<'a, D> {
+impl<'a, D: SlotContents> Barrier<'a, D> {
     /// The closer stores 0 in the published word.
     pub fn clear(&mut self)
         requires held { IsHeld self.old }

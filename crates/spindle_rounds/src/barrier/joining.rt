@@ -10,10 +10,10 @@ use super::steps::JoinStep;
 use super::word::{FIELD, MEMBER, PARTY, SENSE};
 use super::{Barrier, BarrierInit, JoinRefused, MASK};
 use crate::round_table::plays::{Joins, Loads};
-use crate::round_table::slots::Slots;
+use crate::round_table::slots::SlotContents;
 use crate::round_table::{BARRIER, Seat};
 
-fn join<D: Slots>(init: &BarrierInit<D>, seat: &mut Seat<D>) -> JoinStep
+fn join<D: SlotContents>(init: &BarrierInit<D>, seat: &mut Seat<D>) -> JoinStep
     requires seated { IsSeatAt init.now seat.old }
     requires away { seat.old.me.0.standing ≡ Away }
     ensures seat { IsSameSeat seat.old seat.new }
@@ -35,7 +35,7 @@ fn join<D: Slots>(init: &BarrierInit<D>, seat: &mut Seat<D>) -> JoinStep
     }
 }
 
-impl<D: Slots> BarrierInit<D> {
+impl<D: SlotContents> BarrierInit<D> {
     /// Joins the barrier by one exchange. The party's sense starts as the word's; `thread_id` decides nothing.
     ///
     /// # Errors

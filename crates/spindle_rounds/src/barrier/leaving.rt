@@ -9,12 +9,12 @@ use super::steps::{ExitStep, LeaveStep};
 use super::word::{FIELD, MEMBER, PARTY, SENSE};
 use super::{Barrier, BarrierInit};
 use crate::round_table::plays::{Exits, Leaves, Loads, Looks};
-use crate::round_table::slots::Slots;
+use crate::round_table::slots::SlotContents;
 use crate::round_table::{BARRIER, Seat};
 
 /// What came of one attempt to leave.
 #[derive(Drop)]
-pub enum Leave<'a, D: Slots> {
+pub enum Leave<'a, D: SlotContents> {
     /// The party is no member any more.
     Left(Seat<D>),
     /// Its round has ended: it is inside the next.
@@ -27,7 +27,7 @@ pub enum Leave<'a, D: Slots> {
 
 /// What came of one attempt to exit.
 #[derive(Drop)]
-pub enum Exit<'a, D: Slots> {
+pub enum Exit<'a, D: SlotContents> {
     /// The party is no member any more.
     Gone(Seat<D>),
     /// It is no member any more, but all others have arrived: it closes the round.
@@ -36,7 +36,7 @@ pub enum Exit<'a, D: Slots> {
     Again(Barrier<'a, D>),
 }
 
-fn leave_once<D: Slots>(init: &BarrierInit<D>, seat: &mut Seat<D>, sense: u64) -> LeaveStep
+fn leave_once<D: SlotContents>(init: &BarrierInit<D>, seat: &mut Seat<D>, sense: u64) -> LeaveStep
     requires seated { IsSeatAt init.now seat.old }
     requires waiting { MayLeave seat.old.me.0 }
     requires sense { HasSense seat.old.me.0.standing sense }
@@ -59,7 +59,7 @@ fn leave_once<D: Slots>(init: &BarrierInit<D>, seat: &mut Seat<D>, sense: u64) -
     }
 }
 
-fn exit_once<D: Slots>(init: &BarrierInit<D>, seat: &mut Seat<D>) -> ExitStep
+fn exit_once<D: SlotContents>(init: &BarrierInit<D>, seat: &mut Seat<D>) -> ExitStep
     requires seated { IsSeatAt init.now seat.old }
     requires free { MayExit seat.old.me.0 }
     ensures seat { IsSameSeat seat.old seat.new }
@@ -82,7 +82,7 @@ fn exit_once<D: Slots>(init: &BarrierInit<D>, seat: &mut Seat<D>) -> ExitStep
     }
 }
 
-impl<'a, D: Slots> Barrier<'a, D> {
+impl<'a, D: SlotContents> Barrier<'a, D> {
     /// A party that has arrived leaves, unless its round has ended or is closing: the members become one less.
     pub fn try_leave(mut self) -> Leave<'a, D>
         requires held { IsHeld self }

@@ -7,7 +7,7 @@ ghost use Rattle.spindle_rounds.specs.Words.{words_of};
 use crate::barrier::BarrierInit;
 use crate::barrier::word::{FIELD, MEMBER};
 use crate::round_table::plays::NewSeat;
-use crate::round_table::slots::{Bare, Slots};
+use crate::round_table::slots::{Bare, SlotContents};
 use crate::round_table::{APART, BARRIER, RANGES, Seat};
 use atomic_table::Table;
 use spindle_parts::fault::Fault;
@@ -28,7 +28,7 @@ impl BarrierInit<Bare> {
     }
 }
 
-impl<D: Slots> BarrierInit<D> {
+impl<D: SlotContents> BarrierInit<D> {
     pub(crate) fn open(
         alloc: Global,
         threads: usize,

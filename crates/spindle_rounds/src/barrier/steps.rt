@@ -9,7 +9,7 @@ ghost use Rattle.spindle_rounds.specs.RoundConditions.{IsFreeInside, IsDone, IsW
 use crate::barrier::Barrier;
 use crate::barrier::word::{FIELD, SENSE};
 use crate::round_table::plays::{Arrives, Looks};
-use crate::round_table::slots::Slots;
+use crate::round_table::slots::SlotContents;
 use crate::round_table::{BARRIER, Seat};
 
 /// What came of one attempt to join.
@@ -66,11 +66,11 @@ pub enum ExitStep {
     Again,
 }
 
-impl<'a, D: Slots> Barrier<'a, D> {
+impl<'a, D: SlotContents> Barrier<'a, D> {
     /// The party's seat, for the calls of `Round`.
     pub fn seat(&mut self) -> &mut Seat<D>
         ensures* writes_back { sem 𝓛
-            (LendsSeat D.row D.Slot.row D.Note.row D.Slots self.entry result) }
+            (LendsSeat D.row D.Slot.row D.Note.row D.SlotContents self.entry result) }
         ensures value { result.now ≡ self.old.seat }
     {
         &mut self.seat

@@ -11,7 +11,7 @@ use super::leaving::{Exit, Leave};
 use super::steps::{Arrival, Look};
 use super::{Barrier, BarrierInit, JoinRefused};
 use crate::round_table::Seat;
-use crate::round_table::slots::Slots;
+use crate::round_table::slots::SlotContents;
 use spindle_parts::pauses::Pauses;
 use std::sync::Wait;
 
@@ -39,7 +39,7 @@ impl<P> JoinRefused<P> {
 
 /// What a party has after it waited for its round's end, or left.
 #[derive(Drop)]
-pub enum ExitStatus<'a, D: Slots> {
+pub enum ExitStatus<'a, D: SlotContents> {
     /// It left, and is no member any more.
     Exit(Seat<D>),
     /// It is inside the next round.
@@ -48,14 +48,14 @@ pub enum ExitStatus<'a, D: Slots> {
 
 /// What is left of a party that has exited.
 #[derive(Drop)]
-pub struct Departure<D: Slots> {
+pub struct Departure<D: SlotContents> {
     /// Its seat.
     pub seat: Seat<D>,
     /// Whether it closed its round, for whose end others waited.
     pub has_closed: bool,
 }
 
-impl<D: Slots> BarrierInit<D> {
+impl<D: SlotContents> BarrierInit<D> {
     /// Joins the barrier, and tries again until it has (`BarrierInit::barrier` of spindle).
     ///
     /// # Errors
@@ -87,7 +87,7 @@ impl<D: Slots> BarrierInit<D> {
     }
 }
 
-impl<'a, D: Slots> Barrier<'a, D> {
+impl<'a, D: SlotContents> Barrier<'a, D> {
     /// Arrives, and waits until the round has ended (`Barrier::wait` of spindle).
     pub fn wait<R: Wait>(&mut self, rt: &R)
         requires held { IsHeld self.old }

@@ -8,10 +8,10 @@ ghost use Rattle.spindle_rounds.specs.Seating.{IsSeatAt, IsSameSeat};
 use crate::round::Round;
 use crate::round::claim::{Claim, Claimed};
 use crate::round_table::plays::{Claims, ClaimsRemainder, ReadsRemainder, Recalls, Searches};
-use crate::round_table::slots::Slots;
+use crate::round_table::slots::SlotContents;
 use crate::round_table::{APART, HIGH, PUBLISHED, RANGES, REMAINDER, Seat};
 
-impl<D: Slots> Round<D> {
+impl<D: SlotContents> Round<D> {
     /// Claims the first number of the range of thread t.
     pub fn try_claim_own(&self, seat: &mut Seat<D>, t: usize) -> Claim
         requires seated { IsSeatAt self.now.init seat.old }

@@ -13,18 +13,18 @@ ghost use Rattle.spindle_rounds.specs.Holding.{IsHeld, Keeps};
 ghost use Rattle.spindle_rounds.specs.Passing.{InNext};
 ghost use Rattle.spindle_rounds.specs.Seating.{IsSeatAt, IsSameSeat, slots_of};
 ghost use Rattle.spindle_rounds.specs.RoundSlots.{spot_at};
-ghost use Rattle.spindle_rounds.specs.declared.round_table.pieces.Stand.TheVariants.{Empty, Done};
-ghost use Rattle.spindle_rounds.specs.declared.round_table.view.Spot.TheVariants.{Filled, Out};
+ghost use Rattle.spindle_rounds.specs.declared.round_table.pieces.SlotState.TheVariants.{Empty, Done};
+ghost use Rattle.spindle_rounds.specs.declared.round_table.view.Spot.TheVariants.{Out};
 
 use crate::barrier::Barrier;
 use crate::round::Round;
 use crate::round_table::Seat;
-use crate::round_table::pieces::{Answers, Pieces, Stand};
+use crate::round_table::pieces::{PieceKind, PieceSlots, SlotState};
 use std::sync::Wait;
 
-impl<A: Answers> Round<Pieces<A>> {
+impl<A: PieceKind> Round<PieceSlots<A>> {
     /// After a round of so many pieces the leader takes every slot out: those of the pieces hold their answers.
-    pub fn take_answered(&self, seat: &mut Seat<Pieces<A>>, jobs: u64)
+    pub fn take_answered(&self, seat: &mut Seat<PieceSlots<A>>, jobs: u64)
         requires seated { IsSeatAt self.now.init seat.old }
         requires leads { MayTakeOut (pieces A.answers) (slots_of self.now.init) seat.old.me.0 }
         requires few { jobs ≤ slots_of self.now.init }
@@ -40,7 +40,7 @@ impl<A: Answers> Round<Pieces<A>> {
     }
 
     /// Takes the answer out of the slot at the leader's hand, which then goes behind the others that it holds.
-    pub fn take_answer(&self, seat: &mut Seat<Pieces<A>>, slot: usize) -> A::Answer
+    pub fn take_answer(&self, seat: &mut Seat<PieceSlots<A>>, slot: usize) -> A::Answer
         requires seated { IsSeatAt self.now.init seat.old }
         requires head { (o : _) × IsAtHand slot (Done o) seat.old.me.1 }
         ensures seat { IsSameSeat seat.old seat.new }
@@ -48,15 +48,15 @@ impl<A: Answers> Round<Pieces<A>> {
         ensures behind { seat.new.me
             ≡ (seat.old.me.0, rest seat.old.me.1 ++ (slot, Empty) ∷ []) }
     {
-        match self.swap_slot(seat, slot, Stand::Empty) {
-            Stand::Done(answer) => answer,
-            Stand::Empty => unreachable!(),
-            Stand::Waits(_) => unreachable!(),
+        match self.swap_slot(seat, slot, SlotState::Empty) {
+            SlotState::Done(answer) => answer,
+            SlotState::Empty => unreachable!(),
+            SlotState::Waits(_) => unreachable!(),
         }
     }
 
     /// Gives back the slots with the pieces of a round, and publishes it: from now on every member may claim them.
-    pub fn publish_pieces(&self, seat: &mut Seat<Pieces<A>>, jobs: u64)
+    pub fn publish_pieces(&self, seat: &mut Seat<PieceSlots<A>>, jobs: u64)
         requires seated { IsSeatAt self.now.init seat.old }
         requires pieces { HoldsPieces A.answers jobs seat.old.me }
         requires counted { (2 ≤ jobs) × (jobs ≤ 4294967295) }
@@ -70,7 +70,7 @@ impl<A: Answers> Round<Pieces<A>> {
 
     /// The same where the leader holds all slots: the first ones with the pieces of so many jobs, and in the others nothing
     /// that was run, as a loop over the first ones leaves them.
-    pub fn publish_held(&self, seat: &mut Seat<Pieces<A>>, jobs: u64)
+    pub fn publish_held(&self, seat: &mut Seat<PieceSlots<A>>, jobs: u64)
         requires seated { IsSeatAt self.now.init seat.old }
         requires leads { MayFill seat.old.me.0 }
         requires held { Turning (λ k y. IsUnrun A.answers y) IsPiece (slots_of self.now.init) jobs
@@ -84,19 +84,19 @@ impl<A: Answers> Round<Pieces<A>> {
     }
 
     /// Empties the slots at the leader's hand, of which there are so many.
-    pub fn empty_slots(&self, seat: &mut Seat<Pieces<A>>, slots: usize)
+    pub fn empty_slots(&self, seat: &mut Seat<PieceSlots<A>>, slots: usize)
         requires seated { IsSeatAt self.now.init seat.old }
         requires held { HoldsEach IsAny slots seat.old.me.1 }
         ensures seat { IsSameSeat seat.old seat.new × (seat.new.me.0 ≡ seat.old.me.0) }
         ensures held { HoldsEach IsEmpty slots seat.new.me.1 }
     {
         for slot in 0..slots {
-            let _ = self.swap_slot(seat, slot, Stand::Empty);
+            let _ = self.swap_slot(seat, slot, SlotState::Empty);
         }
     }
 
     /// Waits until the round has ended, and takes every slot out: those of the pieces hold their answers.
-    pub fn await_answers<R: Wait>(&self, rt: &R, leader: &mut Barrier<Pieces<A>>, jobs: u64)
+    pub fn await_answers<R: Wait>(&self, rt: &R, leader: &mut Barrier<PieceSlots<A>>, jobs: u64)
         requires held { IsHeld leader.old }
         requires seated { IsSeatAt self.now.init leader.old.seat }
         requires few { jobs ≤ slots_of self.now.init }
@@ -110,20 +110,5 @@ impl<A: Answers> Round<Pieces<A>> {
     {
         leader.wait(rt);
         self.take_answered(&mut leader.seat, jobs);
-    }
-
-    /// The answer to the first piece of a round that has ended, with no check at run time.
-    pub fn first_answer(&self, seat: &mut Seat<Pieces<A>>, jobs: u64) -> A::Answer
-        requires seated { IsSeatAt self.now.init seat.old }
-        requires leads { MayTakeOut (pieces A.answers) (slots_of self.now.init) seat.old.me.0 }
-        requires few { (1 ≤ jobs) × (jobs ≤ slots_of self.now.init) }
-        requires published { (r : ℕ) × HasPublished seat.old.me.0 r jobs
-            × AreFilled A.answers r jobs seat.old.me.0.board }
-        ensures seat { IsSameSeat seat.old seat.new }
-        ensures answer { (r : ℕ) × (x : _) × (spot_at seat.old.me.0.board 0 ≡ Filled r x)
-            × A.answers x result }
-    {
-        self.take_answered(seat, jobs);
-        self.take_answer(seat, 0)
     }
 }

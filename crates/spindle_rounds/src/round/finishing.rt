@@ -9,7 +9,7 @@ ghost use Rattle.spindle_rounds.specs.Seating.{IsSeatAt, IsSameSeat};
 use crate::round::Round;
 use crate::round::claim::Claimed;
 use crate::round_table::plays::Finishes;
-use crate::round_table::slots::{Bare, Slots};
+use crate::round_table::slots::{Bare, SlotContents};
 use crate::round_table::{FINISHED, Seat};
 
 /// A piece of a round that was run. The round knows its number, and that its outputs answer its inputs.
@@ -25,7 +25,7 @@ pub trait Numbered {
         ensures { answered self.now };
 }
 
-impl<D: Slots> Round<D> {
+impl<D: SlotContents> Round<D> {
     /// The number of the seat's claim is counted as finished, by one fetch_add, which answers how many were before. Its slot,
     /// if it has one, goes back.
     pub(crate) fn count_finished(&self, seat: &mut Seat<D>, claimed: Claimed) -> u64

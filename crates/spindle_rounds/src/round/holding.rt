@@ -8,11 +8,11 @@ ghost use Rattle.spindle_rounds.specs.SlotSteps.{TakenOut};
 
 use crate::round::Round;
 use crate::round_table::Seat;
-use crate::round_table::pieces::{Answers, Pieces};
+use crate::round_table::pieces::{PieceKind, PieceSlots};
 
-impl<A: Answers> Round<Pieces<A>> {
+impl<A: PieceKind> Round<PieceSlots<A>> {
     /// A leader that has done nothing with the slots, of which there are so many, takes all of them: they are empty.
-    pub fn hold_slots(&self, seat: &mut Seat<Pieces<A>>, slots: usize)
+    pub fn hold_slots(&self, seat: &mut Seat<PieceSlots<A>>, slots: usize)
         requires seated { IsSeatAt self.now.init seat.old }
         requires slots { HasSlots self.now.init slots }
         requires leads { MayFill seat.old.me.0 }
@@ -27,7 +27,7 @@ impl<A: Answers> Round<Pieces<A>> {
     }
 
     /// Turns the slots from one on behind the others that the leader holds, of so many in all. Nothing is done at run time.
-    pub fn turn_slots(&self, seat: &mut Seat<Pieces<A>>, from: usize, slots: usize)
+    pub fn turn_slots(&self, seat: &mut Seat<PieceSlots<A>>, from: usize, slots: usize)
         requires { from ≤ slots }
         ensures seat { IsSameSeat seat.old seat.new }
         ensures turned { seat.new.me

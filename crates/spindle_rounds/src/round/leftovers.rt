@@ -8,16 +8,16 @@ ghost use Rattle.spindle_rounds.specs.SlotSteps.{IsDeed};
 ghost use Rattle.spindle_rounds.specs.Seating.{IsSeatAt, IsSameSeat};
 
 use crate::round::Round;
-use crate::round_table::slots::Slots;
+use crate::round_table::slots::SlotContents;
 use crate::round_table::{HIGH, Seat};
 
 /// What ranges and remainder stand for at every moment after a round, as its leader has read them and while it stores
 /// nothing for another: the numbers that haven't begun in that round, as the trails of all seats tell.
-pub fn every_leftover<D: Slots>()
+pub fn every_leftover<D: SlotContents>()
     ensures { EveryLeftover D.discipline }
 {}
 
-impl<D: Slots> Round<D> {
+impl<D: SlotContents> Round<D> {
     /// After a round the leader marks the numbers that are left in the ranges and in the remainder, of as many as there are
     /// marks. Each word is read once.
     ///

@@ -7,10 +7,10 @@ ghost use Rattle.spindle_rounds.specs.Seating.{IsSeatAt, IsSameSeat};
 
 use crate::round::Round;
 use crate::round_table::plays::{Fills, Learns, Publishes, PublishesTry};
-use crate::round_table::slots::Slots;
+use crate::round_table::slots::SlotContents;
 use crate::round_table::{APART, FINISHED, HIGH, PUBLISHED, RANGES, REMAINDER, STOPPED, Seat};
 
-impl<D: Slots> Round<D> {
+impl<D: SlotContents> Round<D> {
     /// The published word: 0, or n, or n + 2^32 for a round that may stop.
     pub fn published(&self, seat: &mut Seat<D>) -> u64
         requires seated { IsSeatAt self.now.init seat.old }

@@ -6,10 +6,10 @@ ghost use Rattle.spindle_rounds.specs.Seating.{IsSeatAt, IsSameSeat, slots_of};
 
 use crate::round::Round;
 use crate::round_table::plays::{GivesBack, TakesOut};
-use crate::round_table::slots::Slots;
+use crate::round_table::slots::SlotContents;
 use crate::round_table::{PUBLISHED, Seat};
 
-impl<D: Slots> Round<D> {
+impl<D: SlotContents> Round<D> {
     /// The leader takes every slot out. They are at its hand in their order, the first one first.
     pub fn take_slots(&self, seat: &mut Seat<D>)
         requires seated { IsSeatAt self.now.init seat.old }

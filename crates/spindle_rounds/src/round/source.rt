@@ -7,7 +7,7 @@ ghost use Rattle.spindle_rounds.specs.Seating.{IsSeatAt, IsSameSeat};
 use crate::round::Round;
 use crate::round::claim::{Claim, Claimed, Share, Steal};
 use crate::round_table::Seat;
-use crate::round_table::slots::Slots;
+use crate::round_table::slots::SlotContents;
 
 /// What a party takes numbers from.
 #[derive(Clone, Copy)]
@@ -54,7 +54,7 @@ impl Taken {
 
 impl Source {
     /// Claims the next number, if there is one and no step comes between.
-    pub fn try_claim<D: Slots>(self, round: &Round<D>, seat: &mut Seat<D>) -> Taken
+    pub fn try_claim<D: SlotContents>(self, round: &Round<D>, seat: &mut Seat<D>) -> Taken
         requires seated { IsSeatAt round.now.init seat.old }
         requires sized { seat.old.me.0.threads ≡ round.now.init.threads }
         requires there { IsIn round.now.init.threads self }

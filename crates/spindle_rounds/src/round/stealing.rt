@@ -9,7 +9,7 @@ ghost use Rattle.spindle_rounds.specs.Seating.{IsSeatAt, IsSameSeat};
 use crate::round::Round;
 use crate::round::claim::{Claimed, Share, Steal};
 use crate::round_table::plays::{Searches, Steals, TakesShare};
-use crate::round_table::slots::Slots;
+use crate::round_table::slots::SlotContents;
 use crate::round_table::{APART, HIGH, RANGES, Seat};
 
 /// How many numbers a range holds.
@@ -33,7 +33,7 @@ fn last_half(range: u64) -> u64
     }
 }
 
-impl<D: Slots> Round<D> {
+impl<D: SlotContents> Round<D> {
     /// Reads all ranges: whose is the longest, the first among equals, and its value.
     fn longest(&self, seat: &mut Seat<D>) -> (usize, u64)
         requires seated { IsSeatAt self.now.init seat.old }
@@ -77,7 +77,7 @@ impl<D: Slots> Round<D> {
     }
 }
 
-impl<D: Slots> Round<D> {
+impl<D: SlotContents> Round<D> {
     /// Begins the first number of a share, and stores what is left of it in the share word of thread t, which nobody
     /// reads. `None`, without a step, where the share is empty.
     pub fn next_of_share(&self, seat: &mut Seat<D>, t: usize, share: &mut Share) -> Option<Claimed>

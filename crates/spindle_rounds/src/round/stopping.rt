@@ -9,7 +9,7 @@ ghost use Rattle.spindle_rounds.specs.Seating.{IsSeatAt, IsSameSeat};
 use crate::round::Round;
 use crate::round::claim::{Claimed, Share};
 use crate::round_table::plays::{Finds, FindsRemainder, PutsBack, Searches, Sees, Stops};
-use crate::round_table::slots::Slots;
+use crate::round_table::slots::SlotContents;
 use crate::round_table::{APART, HIGH, RANGES, REMAINDER, STOPPED, Seat};
 
 /// What came of putting a share back into the range of a thread.
@@ -23,7 +23,7 @@ pub enum PutBack {
     Again,
 }
 
-impl<D: Slots> Round<D> {
+impl<D: SlotContents> Round<D> {
     /// Stops the round, whose job has failed.
     pub fn stop(&self, seat: &mut Seat<D>, claimed: &Claimed)
         requires seated { IsSeatAt self.now.init seat.old }

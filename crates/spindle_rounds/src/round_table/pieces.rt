@@ -5,12 +5,12 @@ ghost use lib.ListN.{get_elem?};
 ghost use Rattle.spindle_rounds.specs.RoundPieces.{pieces, EverySlot};
 ghost use Rattle.spindle_rounds.specs.PiecesKept.{pieces_lawful};
 
-use crate::round_table::slots::Slots;
+use crate::round_table::slots::SlotContents;
 use std::alloc::{AllocError, Global};
 use std::marker::PhantomData;
 
 /// What a piece is, what answers it, and which answers are right.
-pub trait Answers {
+pub trait PieceKind {
     /// What the party of a number is given.
     type Piece: Drop;
 
@@ -22,7 +22,7 @@ pub trait Answers {
 
 /// What stands in a slot.
 #[derive(Drop)]
-pub enum Stand<P, A> {
+pub enum SlotState<P, A> {
     /// Nothing.
     Empty,
     /// A piece that wasn't run.
@@ -32,21 +32,21 @@ pub enum Stand<P, A> {
 }
 
 /// Slots that hold pieces.
-pub struct Pieces<A: Answers> {
+pub struct PieceSlots<A: PieceKind> {
     of: PhantomData<A>,
 }
 
-impl<A: Answers> Slots for Pieces<A> {
-    type Slot = Stand<A::Piece, A::Answer>;
+impl<A: PieceKind> SlotContents for PieceSlots<A> {
+    type Slot = SlotState<A::Piece, A::Answer>;
 
     type Note = A::Piece;
 
     ghost discipline = { pieces A.answers };
 
-    fn vacant(alloc: Global, slots: usize) -> Result<Vec<Stand<A::Piece, A::Answer>>, AllocError> {
+    fn vacant(alloc: Global, slots: usize) -> Result<Vec<SlotState<A::Piece, A::Answer>>, AllocError> {
         let mut all = Vec::with_capacity(alloc, slots)?;
         for _ in 0..slots {
-            all.push_reserved(Stand::Empty);
+            all.push_reserved(SlotState::Empty);
         }
         Ok(all)
     }
@@ -57,6 +57,6 @@ impl<A: Answers> Slots for Pieces<A> {
 /// What the slots hold at every moment: from the publish of n on each number below n has a piece in its slot, and until
 /// the leader takes that slot out it is away exactly while the number runs; at home it holds an answer to the piece exactly
 /// where the number has finished, and else the piece.
-pub fn every_slot<A: Answers>()
+pub fn every_slot<A: PieceKind>()
     ensures { EverySlot A.answers }
 {}

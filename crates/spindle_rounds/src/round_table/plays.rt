@@ -6,7 +6,7 @@ ghost use Rattle.spindle_rounds.specs.RoundTells.{ClaimTells, StealTells, Remain
 ghost use Rattle.spindle_rounds.specs.SlotSteps.{TakeOutTells, GiveBackTells};
 ghost use Rattle.spindle_rounds.specs.Leftovers.{FindTells, FindRestTells};
 
-use crate::round_table::slots::Slots;
+use crate::round_table::slots::SlotContents;
 use crate::round_table::view::View;
 use atomic_table::{Play, Split};
 use std::marker::PhantomData;
@@ -137,43 +137,43 @@ impl<S, N> Play<S, View<N>> for Recalls {
     ghost then = { RecallTells };
 }
 
-pub(crate) struct Claims<D: Slots> {
+pub(crate) struct Claims<D: SlotContents> {
     of: PhantomData<D>,
 }
 
-impl<D: Slots> Play<D::Slot, View<D::Note>> for Claims<D> {
+impl<D: SlotContents> Play<D::Slot, View<D::Note>> for Claims<D> {
     ghost then = { ClaimTells D.discipline };
 }
 
-pub(crate) struct Steals<D: Slots> {
+pub(crate) struct Steals<D: SlotContents> {
     of: PhantomData<D>,
 }
 
-impl<D: Slots> Play<D::Slot, View<D::Note>> for Steals<D> {
+impl<D: SlotContents> Play<D::Slot, View<D::Note>> for Steals<D> {
     ghost then = { StealTells D.discipline };
 }
 
-pub(crate) struct ClaimsRemainder<D: Slots> {
+pub(crate) struct ClaimsRemainder<D: SlotContents> {
     of: PhantomData<D>,
 }
 
-impl<D: Slots> Play<D::Slot, View<D::Note>> for ClaimsRemainder<D> {
+impl<D: SlotContents> Play<D::Slot, View<D::Note>> for ClaimsRemainder<D> {
     ghost then = { RemainderClaimTells D.discipline };
 }
 
-pub(crate) struct TakesShare<D: Slots> {
+pub(crate) struct TakesShare<D: SlotContents> {
     of: PhantomData<D>,
 }
 
-impl<D: Slots> Play<D::Slot, View<D::Note>> for TakesShare<D> {
+impl<D: SlotContents> Play<D::Slot, View<D::Note>> for TakesShare<D> {
     ghost then = { ShareTells D.discipline };
 }
 
-pub(crate) struct Finishes<D: Slots> {
+pub(crate) struct Finishes<D: SlotContents> {
     of: PhantomData<D>,
 }
 
-impl<D: Slots> Play<D::Slot, View<D::Note>> for Finishes<D> {
+impl<D: SlotContents> Play<D::Slot, View<D::Note>> for Finishes<D> {
     ghost then = { FinishTells D.discipline };
 }
 
@@ -197,19 +197,19 @@ impl<S, N> Play<S, View<N>> for PutsBack {
 }
 
 /// The leader takes every slot out.
-pub(crate) struct TakesOut<D: Slots> {
+pub(crate) struct TakesOut<D: SlotContents> {
     of: PhantomData<D>,
 }
 
-impl<D: Slots> Play<D::Slot, View<D::Note>> for TakesOut<D> {
+impl<D: SlotContents> Play<D::Slot, View<D::Note>> for TakesOut<D> {
     ghost then = { TakeOutTells D.discipline };
 }
 
 /// The leader gives back the slots that it holds.
-pub(crate) struct GivesBack<D: Slots> {
+pub(crate) struct GivesBack<D: SlotContents> {
     of: PhantomData<D>,
 }
 
-impl<D: Slots> Play<D::Slot, View<D::Note>> for GivesBack<D> {
+impl<D: SlotContents> Play<D::Slot, View<D::Note>> for GivesBack<D> {
     ghost then = { GiveBackTells D.discipline };
 }

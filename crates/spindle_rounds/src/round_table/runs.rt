@@ -7,13 +7,13 @@ ghost use Rattle.spindle_rounds.specs.RoundRuns.{EveryStep};
 ghost use Rattle.spindle_rounds.specs.RoundTrails.{EveryMoment};
 ghost use Rattle.spindle_rounds.specs.Headline.{Headline};
 
-use crate::round_table::slots::Slots;
+use crate::round_table::slots::SlotContents;
 use spindle_parts::numbers::numbers_differ;
 use spindle_parts::requests::books_balance;
 use spindle_parts::steps::every_run;
 
 /// The headline: what runs, steps, moments, thread numbers and the books of a lock promise, in one record.
-pub fn headline<D: Slots>()
+pub fn headline<D: SlotContents>()
     ensures { Headline D.discipline }
 {
     every_run();
@@ -31,7 +31,7 @@ pub fn headline<D: Slots>()
 ///
 /// There is no other kind: outside this crate nobody reaches the words of a table, since the field `table` of
 /// `BarrierInit` and the kinds in `plays` are the crate's own.
-pub fn every_step<D: Slots>()
+pub fn every_step<D: SlotContents>()
     ensures { EveryStep D.discipline }
 {}
 
@@ -39,7 +39,7 @@ pub fn every_step<D: Slots>()
 ///
 /// What began and finished in it is what the trails of all seats tell together. So no two of them
 /// tell of one job.
-pub fn every_moment<D: Slots>()
+pub fn every_moment<D: SlotContents>()
     ensures { EveryMoment D.discipline }
 {
     every_run();

@@ -8,7 +8,7 @@ use std::alloc::{AllocError, Global};
 ///
 /// The discipline says what holds of the slots beside the state of the round and what the seats know: which slot a
 /// number gives when it begins, what its end gives back, and what may be published.
-pub trait Slots {
+pub trait SlotContents {
     /// What stands in one slot.
     type Slot: Drop;
 
@@ -28,7 +28,7 @@ pub trait Slots {
 /// A table without slots.
 pub struct Bare;
 
-impl Slots for Bare {
+impl SlotContents for Bare {
     type Slot = ();
 
     type Note = ();

@@ -22,11 +22,11 @@ pub struct Lists<T> {
 
 /// Room for the items of a piece, and for what becomes of them. Contracts know it as the number of items for which there is room.
 #[derive(Drop)]
-pub struct Room<T> {
+pub struct ChunkBuffer<T> {
     lists: Box<Lists<T>>,
 }
 
-impl<T> Model for Room<T> {
+impl<T> Model for ChunkBuffer<T> {
     ghost use Rattle.std.specs.Prelude.{◌≡◌, ◌≤◌, ℕ, [], min, vec_capacity};
 
     ghost Value = { ℕ };
@@ -55,11 +55,11 @@ impl<T> Model for Chunk<T> {
 
 /// What became of the items of a chunk.
 #[derive(Drop)]
-pub struct Remade<T> {
+pub struct Updated<T> {
     lists: Box<Lists<T>>,
 }
 
-impl<T> Model for Remade<T> {
+impl<T> Model for Updated<T> {
     ghost use Rattle.std.specs.Prelude.{◌≡◌, List, []};
 
     ghost Value = { List T };
@@ -88,9 +88,9 @@ impl<T> Lists<T> {
     }
 }
 
-impl<T: Drop> Room<T> {
+impl<T: Drop> ChunkBuffer<T> {
     /// Room for no item.
-    pub(crate) fn new(alloc: Global) -> Result<Room<T>, Fault>
+    pub(crate) fn new(alloc: Global) -> Result<ChunkBuffer<T>, Fault>
         ensures { OnErr result (IsErrOf result Fault.Memory) }
     {
         let lists = Lists {
@@ -98,11 +98,11 @@ impl<T: Drop> Room<T> {
             done: Vec::new(alloc),
         };
         let lists = Box::new(alloc, lists)?;
-        Ok(Room { lists })
+        Ok(ChunkBuffer { lists })
     }
 }
 
-impl<T> Room<T> {
+impl<T> ChunkBuffer<T> {
     /// Room for so many items.
     pub(crate) fn reserve(&mut self, items: usize) -> Result<(), Fault>
         ensures room { OnOk result (items ≤ self.new) }
@@ -129,7 +129,7 @@ impl<T> Room<T> {
         ensures block { vec_capacity items.new ≡ vec_capacity items.old }
         ensures taken { result ≡ drop from items.old.items }
     {
-        let Room { mut lists } = self;
+        let ChunkBuffer { mut lists } = self;
         lists.load(items, from);
         Chunk { lists }
     }
@@ -146,30 +146,30 @@ impl<T> Chunk<T> {
     }
 }
 
-impl<T> Remade<T> {
+impl<T> Updated<T> {
     /// What became of the items, none of which waits any more.
-    pub(crate) fn new(lists: Box<Lists<T>>) -> Remade<T>
+    pub(crate) fn new(lists: Box<Lists<T>>) -> Updated<T>
         requires { lists.value.todo.items ≡ [] }
         ensures { result ≡ lists.value.done.items }
     {
-        Remade { lists }
+        Updated { lists }
     }
 
     /// Moves what became of the items to the end of the list, and leaves their room.
-    pub(crate) fn unload(self, items: &mut Vec<T>) -> Room<T>
+    pub(crate) fn unload(self, items: &mut Vec<T>) -> ChunkBuffer<T>
         requires room { vec_len items.old + length self ≤ vec_capacity items.old }
         ensures items { items.new.items ≡ items.old.items ++ self }
         ensures block { vec_capacity items.old ≤ vec_capacity items.new }
     {
-        let Remade { mut lists } = self;
+        let Updated { mut lists } = self;
         items.append(&mut lists.done).unwrap();
-        Room { lists }
+        ChunkBuffer { lists }
     }
 }
 
-impl<T> OneOr<T, Remade<T>> {
+impl<T> OneOr<T, Updated<T>> {
     /// Moves what became of the items to the end of the list. Of a chunk its room is left.
-    pub(crate) fn unload(self, items: &mut Vec<T>) -> Option<Room<T>>
+    pub(crate) fn unload(self, items: &mut Vec<T>) -> Option<ChunkBuffer<T>>
         requires room { vec_len items.old + length (all_of self) ≤ vec_capacity items.old }
         ensures items { items.new.items ≡ items.old.items ++ all_of self }
         ensures block { vec_capacity items.old ≤ vec_capacity items.new }
@@ -179,7 +179,7 @@ impl<T> OneOr<T, Remade<T>> {
                 items.push_reserved(item);
                 None
             }
-            OneOr::Many(remade) => Some(remade.unload(items)),
+            OneOr::Many(updated) => Some(updated.unload(items)),
         }
     }
 }

@@ -6,21 +6,21 @@ ghost use Rattle.spindle_rounds.specs.SlotLoops.{HoldsEach, IsEmpty, Turning};
 ghost use Rattle.spindle_slots.specs.InPlace.{IsReady};
 ghost use Rattle.spindle_slots.specs.SlotPieces.{IsPieceOf};
 
-use crate::crew::slot_tables::SlotTables;
-use crate::job::remake::Remakes;
+use crate::threads::slot_tables::SlotTables;
+use crate::job::update::Updates;
 use crate::pieces::of_kind::ChunkOf;
 use crate::pieces::slot_piece::OneOr;
-use crate::pieces::store::Store;
+use crate::pieces::chunk_buffers::ChunkBuffers;
 use spindle_rounds::round_table::Seat;
-use spindle_rounds::round_table::pieces::Pieces;
+use spindle_rounds::round_table::pieces::PieceSlots;
 
-impl<'t, J: Remakes> SlotTables<'t, Pieces<ChunkOf<J>>> {
+impl<'t, J: Updates> SlotTables<'t, PieceSlots<ChunkOf<J>>> {
     /// Puts the items into the slots of so many jobs: each into one of its own, where there are as many, else in chunks. The list
     /// keeps its room.
     pub(crate) fn fill_in_place(
         &self,
-        seat: &mut Seat<Pieces<ChunkOf<J>>>,
-        store: &mut Store<J::Item>,
+        seat: &mut Seat<PieceSlots<ChunkOf<J>>>,
+        store: &mut ChunkBuffers<J::Item>,
         jobs: usize,
         items: &mut Vec<J::Item>,
     )

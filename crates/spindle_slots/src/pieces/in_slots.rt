@@ -6,20 +6,20 @@ ghost use Rattle.spindle_rounds.specs.SlotLoops.{HoldsEach, IsEmpty, Turning};
 ghost use Rattle.spindle_parts.specs.Pieces.{counted};
 ghost use Rattle.spindle_slots.specs.SlotPieces.{IsItemOf, IsPieceOf};
 
-use crate::crew::slot_tables::SlotTables;
+use crate::threads::slot_tables::SlotTables;
 use crate::pieces::of_kind::PieceOf;
-use crate::pieces::rooms::Rooms;
+use crate::pieces::output_buffers::OutputBuffers;
 use crate::pieces::slot_piece::{Batch, OneOr, Parts};
 use spindle_parts::fault::Fault;
 use spindle_rounds::round_table::Seat;
-use spindle_rounds::round_table::pieces::{Answers, Pieces};
+use spindle_rounds::round_table::pieces::{PieceKind, PieceSlots};
 use spindle_trays::job::Job;
-use spindle_trays::pieces::runs;
+use spindle_trays::pieces::list_runs;
 use std::alloc::{AllocError, Global};
 
 // The piece of a number, with this room for its outputs, if there is any.
 fn batch<T: Drop, U: Drop>(
-    pieces: &runs::Pieces<T>,
+    pieces: &list_runs::ListRuns<T>,
     number: usize,
     room: Result<Box<Parts<T, U>>, AllocError>,
 ) -> Result<OneOr<T, Batch<T, U>>, AllocError>
@@ -29,9 +29,9 @@ fn batch<T: Drop, U: Drop>(
     Ok(OneOr::Many(Batch::new(pieces.run(number)?, room?)?))
 }
 
-impl<'t, T: Drop, M: Drop, A: Answers<Piece = OneOr<T, M>>> SlotTables<'t, Pieces<A>> {
+impl<'t, T: Drop, M: Drop, A: PieceKind<Piece = OneOr<T, M>>> SlotTables<'t, PieceSlots<A>> {
     /// Puts each item into a slot of its own, in order. The list keeps its room.
-    pub(crate) fn fill_each(&self, seat: &mut Seat<Pieces<A>>, items: &mut Vec<T>)
+    pub(crate) fn fill_each(&self, seat: &mut Seat<PieceSlots<A>>, items: &mut Vec<T>)
         requires seated { IsSeatAt self.now.tables.now.round.init seat.old }
         requires held { HoldsEach IsEmpty self.now.slots seat.old.me.1 }
         requires few { vec_len items.old ≤ self.now.slots }
@@ -49,9 +49,9 @@ impl<'t, T: Drop, M: Drop, A: Answers<Piece = OneOr<T, M>>> SlotTables<'t, Piece
     }
 }
 
-impl<'t, M: Drop, A: Answers<Piece = OneOr<usize, M>>> SlotTables<'t, Pieces<A>> {
+impl<'t, M: Drop, A: PieceKind<Piece = OneOr<usize, M>>> SlotTables<'t, PieceSlots<A>> {
     /// Puts the numbers from 0 up to a count into slots, each into its own.
-    pub(crate) fn fill_counted(&self, seat: &mut Seat<Pieces<A>>, count: usize)
+    pub(crate) fn fill_counted(&self, seat: &mut Seat<PieceSlots<A>>, count: usize)
         requires seated { IsSeatAt self.now.tables.now.round.init seat.old }
         requires held { HoldsEach IsEmpty self.now.slots seat.old.me.1 }
         requires few { count ≤ self.now.slots }
@@ -65,14 +65,14 @@ impl<'t, M: Drop, A: Answers<Piece = OneOr<usize, M>>> SlotTables<'t, Pieces<A>>
     }
 }
 
-impl<'t, J: Job> SlotTables<'t, Pieces<PieceOf<J>>> {
+impl<'t, J: Job> SlotTables<'t, PieceSlots<PieceOf<J>>> {
     /// Puts the runs into slots, in order, each with the room that is kept for its outputs. After a refusal all slots are empty.
     pub(crate) fn fill_runs(
         &self,
         alloc: Global,
-        seat: &mut Seat<Pieces<PieceOf<J>>>,
-        pieces: &runs::Pieces<J::In>,
-        rooms: &mut Rooms<J::In, J::Out>,
+        seat: &mut Seat<PieceSlots<PieceOf<J>>>,
+        pieces: &list_runs::ListRuns<J::In>,
+        rooms: &mut OutputBuffers<J::In, J::Out>,
     ) -> Result<(), Fault>
         requires seated { IsSeatAt self.now.tables.now.round.init seat.old }
         requires held { HoldsEach IsEmpty self.now.slots seat.old.me.1 }

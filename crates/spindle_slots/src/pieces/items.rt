@@ -7,14 +7,14 @@ ghost use Rattle.spindle_rounds.specs.SlotHands.{WaitsAs};
 ghost use Rattle.spindle_rounds.specs.SlotLoops.{HoldsEach, IsEmpty, Turning};
 ghost use Rattle.spindle_slots.specs.SlotPieces.{IsPieceOf, all_items, pieces_of};
 
-use crate::crew::slot_tables::SlotTables;
+use crate::threads::slot_tables::SlotTables;
 use crate::pieces::of_kind::PieceOf;
-use crate::pieces::rooms::Rooms;
+use crate::pieces::output_buffers::OutputBuffers;
 use spindle_parts::lists::shared::SharedList;
 use spindle_parts::fault::Fault;
 use spindle_rounds::round_table::{Seat, pieces};
 use spindle_trays::job::Job;
-use spindle_trays::pieces::runs::Pieces;
+use spindle_trays::pieces::list_runs::ListRuns;
 use std::alloc::{AllocError, Global};
 
 /// What the slots of a round over jobs of kind J are filled with.
@@ -34,9 +34,9 @@ pub trait FillsSlots<J: Job> {
     fn fill(
         &mut self,
         alloc: Global,
-        tables: &SlotTables<'_, pieces::Pieces<PieceOf<J>>>,
-        seat: &mut Seat<pieces::Pieces<PieceOf<J>>>,
-        rooms: &mut Rooms<J::In, J::Out>,
+        tables: &SlotTables<'_, pieces::PieceSlots<PieceOf<J>>>,
+        seat: &mut Seat<pieces::PieceSlots<PieceOf<J>>>,
+        rooms: &mut OutputBuffers<J::In, J::Out>,
     ) -> Result<(), Fault>
         requires seated { IsSeatAt tables.now.tables.now.round.init seat.old }
         requires held { HoldsEach IsEmpty tables.now.slots seat.old.me.1 }
@@ -55,7 +55,7 @@ pub enum Items<T> {
     /// Each is a piece.
     Each(Vec<T>),
     /// A piece is a run of them.
-    Runs(Pieces<T>),
+    Runs(ListRuns<T>),
 }
 
 impl<T: Drop> Items<T> {
@@ -69,7 +69,7 @@ impl<T: Drop> Items<T> {
             return Ok(Items::Each(items));
         }
         let shared = SharedList::from_vec(alloc, items)?;
-        Ok(Items::Runs(Pieces::new(shared, jobs)))
+        Ok(Items::Runs(ListRuns::new(shared, jobs)))
     }
 }
 
@@ -88,9 +88,9 @@ impl<J: Job> FillsSlots<J> for Items<J::In> {
     fn fill(
         &mut self,
         alloc: Global,
-        tables: &SlotTables<'_, pieces::Pieces<PieceOf<J>>>,
-        seat: &mut Seat<pieces::Pieces<PieceOf<J>>>,
-        rooms: &mut Rooms<J::In, J::Out>,
+        tables: &SlotTables<'_, pieces::PieceSlots<PieceOf<J>>>,
+        seat: &mut Seat<pieces::PieceSlots<PieceOf<J>>>,
+        rooms: &mut OutputBuffers<J::In, J::Out>,
     ) -> Result<(), Fault> {
         match self {
             Items::Each(items) => {
@@ -129,9 +129,9 @@ impl<J: Job<In = usize>> FillsSlots<J> for Numbers {
     fn fill(
         &mut self,
         _alloc: Global,
-        tables: &SlotTables<'_, pieces::Pieces<PieceOf<J>>>,
-        seat: &mut Seat<pieces::Pieces<PieceOf<J>>>,
-        _rooms: &mut Rooms<J::In, J::Out>,
+        tables: &SlotTables<'_, pieces::PieceSlots<PieceOf<J>>>,
+        seat: &mut Seat<pieces::PieceSlots<PieceOf<J>>>,
+        _rooms: &mut OutputBuffers<J::In, J::Out>,
     ) -> Result<(), Fault> {
         tables.fill_counted(seat, self.count);
         Ok(())

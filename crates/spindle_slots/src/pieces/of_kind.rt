@@ -1,17 +1,17 @@
 //! The pieces of a lock with slots, and what answers one.
 ghost use Rattle.spindle_slots.specs.SlotPieces.{IsAnswerTo};
 
-use crate::job::remake::Remakes;
-use crate::pieces::chunk::{Chunk, Remade};
-use crate::pieces::rooms::Rooms;
+use crate::job::update::Updates;
+use crate::pieces::chunk::{Chunk, Updated};
+use crate::pieces::output_buffers::OutputBuffers;
 use crate::pieces::slot_piece::{Batch, OneOr, Outputs};
-use crate::pieces::store::Store;
-use spindle_rounds::round_table::pieces::Answers;
+use crate::pieces::chunk_buffers::ChunkBuffers;
+use spindle_rounds::round_table::pieces::PieceKind;
 use spindle_trays::job::Job;
 use std::marker::PhantomData;
 
 /// Pieces of whose rounds a leader keeps something for later ones.
-pub trait Keeps: Answers {
+pub trait Reuses: PieceKind {
     /// What it keeps.
     type Kept: Drop;
 }
@@ -21,7 +21,7 @@ pub struct PieceOf<J: Job> {
     kind: PhantomData<J>,
 }
 
-impl<J: Job> Answers for PieceOf<J> {
+impl<J: Job> PieceKind for PieceOf<J> {
     type Piece = OneOr<J::In, Batch<J::In, J::Out>>;
 
     type Answer = OneOr<J::Out, Outputs<J::In, J::Out>>;
@@ -29,23 +29,23 @@ impl<J: Job> Answers for PieceOf<J> {
     ghost answers = { IsAnswerTo J.meets };
 }
 
-impl<J: Job> Keeps for PieceOf<J> {
-    type Kept = Rooms<J::In, J::Out>;
+impl<J: Job> Reuses for PieceOf<J> {
+    type Kept = OutputBuffers<J::In, J::Out>;
 }
 
 /// A piece in place is answered by what became of its items, each in its place.
-pub struct ChunkOf<J: Remakes> {
+pub struct ChunkOf<J: Updates> {
     kind: PhantomData<J>,
 }
 
-impl<J: Remakes> Answers for ChunkOf<J> {
+impl<J: Updates> PieceKind for ChunkOf<J> {
     type Piece = OneOr<J::Item, Chunk<J::Item>>;
 
-    type Answer = OneOr<J::Item, Remade<J::Item>>;
+    type Answer = OneOr<J::Item, Updated<J::Item>>;
 
-    ghost answers = { IsAnswerTo J.remade };
+    ghost answers = { IsAnswerTo J.updated };
 }
 
-impl<J: Remakes> Keeps for ChunkOf<J> {
-    type Kept = Store<J::Item>;
+impl<J: Updates> Reuses for ChunkOf<J> {
+    type Kept = ChunkBuffers<J::Item>;
 }

@@ -5,40 +5,40 @@
 ghost use Rattle.std.specs.Prelude.{◌≡◌, ◌+◌, ◌<◌, ◌≤◌, IfSome, is_some};
 
 use crate::job::nest::Nest;
-use spindle_threads::Crew;
-use spindle_threads::asking::Asked;
-use spindle_threads::notices::Notices;
-use spindle_threads::site::Site;
+use spindle_threads::ThreadCounts;
+use spindle_threads::helper_requests::HelperRequest;
+use spindle_threads::signals::Signals;
+use spindle_threads::job_site::JobSite;
 use spindle_threads::tables::Tables;
-use spindle_rounds::round_table::slots::Slots;
+use spindle_rounds::round_table::slots::SlotContents;
 use std::marker::Model;
 
 /// The context of a job whose kind has the inner nest N.
 #[derive(Drop)]
 pub struct JobCx<'a, N: Nest> {
     // The lock's child slots; none in a job that another job runs directly.
-    pub(crate) slots: Option<&'a N::Slots>,
+    pub(crate) slots: Option<&'a N::ChildSlots>,
     /// By this the library asks for the helpers of a lock that the job opens.
     pub asks: Asks<'a>,
     // What it sees of its lock.
-    pub(crate) site: Site<'a>,
+    pub(crate) site: JobSite<'a>,
 }
 
 /// A job's access to what its lock's threads announce. Who has no tables of a lock, as a job hasn't, can do nothing with it.
 #[derive(Drop)]
 pub struct Asks<'a> {
-    pub(crate) notices: Notices<'a>,
+    pub(crate) signals: Signals<'a>,
 }
 
 impl<'a> Asks<'a> {
     ghost use Rattle.spindle_threads.specs.Accounts.{account_of};
 
     /// Asks for a helper for each thread but the leader of the lock with these tables, which the job opens.
-    pub fn ask<D: Slots>(&mut self, tables: &Tables<D>) -> Asked<'a>
-        ensures same { account_of self.new.notices ≡ account_of self.old.notices }
-        ensures helpers { 1 + result.helpers ≡ tables.now.crew.threads }
+    pub fn ask<D: SlotContents>(&mut self, tables: &Tables<D>) -> HelperRequest<'a>
+        ensures same { account_of self.new.signals ≡ account_of self.old.signals }
+        ensures helpers { 1 + result.helpers ≡ tables.now.counts.threads }
     {
-        self.notices.ask(tables)
+        self.signals.ask(tables)
     }
 }
 
@@ -49,47 +49,47 @@ impl<'a, N: Nest> Model for JobCx<'a, N> {
 
     ghost Value = { ContextView };
 
-    ghost view = { λ c. context_at (is_some c.slots) c.site (account_of c.asks.notices) };
+    ghost view = { λ c. context_at (is_some c.slots) c.site (account_of c.asks.signals) };
 }
 
 impl<'a, N: Nest> JobCx<'a, N> {
     ghost use Rattle.spindle_threads.specs.Accounts.{account_of};
-    ghost use Rattle.spindle_threads.specs.Notices.{AnnouncedRest};
-    ghost use Rattle.spindle_threads.specs.Crews.{lock_threads};
+    ghost use Rattle.spindle_threads.specs.Signals.{AnnouncedRest};
+    ghost use Rattle.spindle_threads.specs.ThreadCounts.{lock_threads};
     ghost use Rattle.spindle_trays.specs.Locks.{RunsDirectly, context_at, knowing, nested_hands};
 
     /// The context of a job that runs at this site.
-    pub fn new(slots: Option<&'a N::Slots>, notices: Notices<'a>, site: Site<'a>) -> JobCx<'a, N>
-        ensures { result ≡ context_at (is_some slots.entry) site.entry (account_of notices.entry) }
+    pub fn new(slots: Option<&'a N::ChildSlots>, signals: Signals<'a>, site: JobSite<'a>) -> JobCx<'a, N>
+        ensures { result ≡ context_at (is_some slots.entry) site.entry (account_of signals.entry) }
     {
         JobCx {
             slots,
-            asks: Asks { notices },
+            asks: Asks { signals },
             site,
         }
     }
 
     /// The context of a job that one at this site runs directly.
-    pub(crate) fn within(notices: Notices<'a>, site: &Site<'a>) -> JobCx<'a, N>
+    pub(crate) fn within(signals: Signals<'a>, site: &JobSite<'a>) -> JobCx<'a, N>
         ensures { RunsDirectly site.now result }
     {
         JobCx {
             slots: None,
-            asks: Asks { notices },
+            asks: Asks { signals },
             site: site.within(),
         }
     }
 
     /// The threads of a lock that the job opens. Its leader is alone where there are no child slots.
-    pub(crate) fn crew_for(&self, max_threads: usize) -> Crew
+    pub(crate) fn counts_for(&self, max_threads: usize) -> ThreadCounts
         requires some { 0 < max_threads }
         ensures most { result.most ≡ lock_threads self.now.pool max_threads }
         ensures hands { result.threads ≡ nested_hands self.now.has_slots result.most }
     {
-        let crew = self.site.crew.nested(max_threads);
+        let counts = self.site.counts.nested(max_threads);
         match self.slots {
-            Some(_) => crew,
-            None => crew.alone(),
+            Some(_) => counts,
+            None => counts.alone(),
         }
     }
 
@@ -107,7 +107,7 @@ impl<'a, N: Nest> JobCx<'a, N> {
     pub fn max_num_threads(&self) -> usize
         ensures { result ≡ self.now.threads }
     {
-        self.site.crew.most()
+        self.site.counts.most()
     }
 
     /// The number of the thread that runs the job, the leader's being 0; None in a job that a leader runs
@@ -124,20 +124,20 @@ impl<'a, N: Nest> JobCx<'a, N> {
         ensures rest { AnnouncedRest self.old.account self.new.account }
         ensures same { self.new ≡ knowing self.new.account self.old }
     {
-        self.asks.notices.announce_rest();
+        self.asks.signals.announce_rest();
     }
 }
 
 /// Where a job runs.
-pub fn site_of<'a, N: Nest>(cx: &JobCx<'a, N>) -> Site<'a>
-    ensures threads { result.crew.most ≡ cx.now.threads }
-    ensures pool { result.crew.pool ≡ cx.now.pool }
+pub fn site_of<'a, N: Nest>(cx: &JobCx<'a, N>) -> JobSite<'a>
+    ensures threads { result.counts.most ≡ cx.now.threads }
+    ensures pool { result.counts.pool ≡ cx.now.pool }
 {
     cx.site
 }
 
 /// The child slots in which the locks stand that a job opens.
-pub fn child_slots_of<'a, N: Nest>(cx: &JobCx<'a, N>) -> Option<&'a N::Slots>
+pub fn child_slots_of<'a, N: Nest>(cx: &JobCx<'a, N>) -> Option<&'a N::ChildSlots>
     ensures { is_some result ≡ cx.now.has_slots }
 {
     cx.slots

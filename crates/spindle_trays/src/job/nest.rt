@@ -9,7 +9,7 @@ ghost use Rattle.spindle_threads.specs.Accounts.{IsSameThread};
 use crate::job::Job;
 use crate::job::is_nest::IsNest;
 use crate::lock::nested::{ChildSlot, Nested, make_slots, serve_slots};
-use spindle_threads::notices::Notices;
+use spindle_threads::signals::Signals;
 use spindle_parts::fault::Fault;
 use std::alloc::Global;
 use std::marker::PhantomData;
@@ -20,13 +20,13 @@ use std::thread::Threads;
 /// trait's calls are the library's own, and who names `spindle` alone can't implement it.
 pub trait Nest: IsNest {
     /// Where a lock keeps the locks that its jobs open.
-    type Slots: Drop;
+    type ChildSlots: Drop;
 
     /// How many child slots a lock of so many threads has.
     fn slot_count(threads: usize) -> usize;
 
     /// Slots for a lock of so many threads.
-    fn make(alloc: Global, threads: usize) -> Result<Self::Slots, Fault>
+    fn make(alloc: Global, threads: usize) -> Result<Self::ChildSlots, Fault>
         ensures { OnErr result (IsErrOf result Fault.Memory) };
 
     /// A helper's walk over the slots, from the first to the last: where it gets a place it lives as a helper of the lock that
@@ -34,11 +34,11 @@ pub trait Nest: IsNest {
     fn serve<H: Threads + Wait + Sync>(
         rt: &H,
         alloc: Global,
-        slots: &Self::Slots,
-        notices: &mut Notices<'_>,
+        slots: &Self::ChildSlots,
+        signals: &mut Signals<'_>,
     )
         requires { IsSync H.row }
-        ensures { IsSameThread notices.old notices.new };
+        ensures { IsSameThread signals.old signals.new };
 }
 
 /// No nested locks.
@@ -47,7 +47,7 @@ pub struct End;
 impl IsNest for End {}
 
 impl Nest for End {
-    type Slots = ();
+    type ChildSlots = ();
 
     fn slot_count(_threads: usize) -> usize {
         0
@@ -61,7 +61,7 @@ impl Nest for End {
         _rt: &H,
         _alloc: Global,
         _slots: &(),
-        _notices: &mut Notices<'_>,
+        _notices: &mut Signals<'_>,
     ) {}
 }
 
@@ -73,7 +73,7 @@ pub struct Under<K> {
 impl<K: Job> IsNest for Under<K> {}
 
 impl<K: Job> Nest for Under<K> {
-    type Slots = Vec<ChildSlot<Nested<K>>>;
+    type ChildSlots = Vec<ChildSlot<Nested<K>>>;
 
     fn slot_count(threads: usize) -> usize {
         threads
@@ -87,8 +87,8 @@ impl<K: Job> Nest for Under<K> {
         rt: &H,
         alloc: Global,
         slots: &Vec<ChildSlot<Nested<K>>>,
-        notices: &mut Notices<'_>,
+        signals: &mut Signals<'_>,
     ) {
-        serve_slots(rt, alloc, slots, notices);
+        serve_slots(rt, alloc, slots, signals);
     }
 }

@@ -8,14 +8,14 @@ use crate::job::Job;
 use crate::job::gate::Gate;
 use crate::job::nest::Nest;
 use crate::lock::part::TakesPart;
-use crate::work::runner::Runner;
-use spindle_threads::helping::{News, await_news, end_part, take_number};
-use spindle_threads::notices::Notices;
-use spindle_threads::post::{Post, Whereabouts};
-use spindle_threads::seats::{Recruit, Seats};
+use crate::running::runner::Runner;
+use spindle_threads::helper_waits::{News, await_news, end_part, take_number};
+use spindle_threads::signals::Signals;
+use spindle_threads::member::{Member, Whereabouts};
+use spindle_threads::seats::{HelperSeats, Seats};
 use spindle_threads::tables::Tables;
 use spindle_rounds::round_table;
-use spindle_rounds::round_table::slots::Slots;
+use spindle_rounds::round_table::slots::SlotContents;
 use std::alloc::Global;
 use std::sync::Wait;
 use std::thread::Threads;
@@ -23,27 +23,27 @@ use std::thread::Threads;
 /// A helper's life, from its number to its end. Its seats come back.
 pub(crate) fn help<
     'a,
-    D: Slots,
+    D: SlotContents,
     J: Job + 'a,
     L: TakesPart<J, D>,
     G: Gate,
     H: Threads + Wait + Sync,
->(rt: &H, alloc: Global, recruit: Recruit<'a, D>, workspace: &'a L, gate: &'a G) -> Seats<D>
-    ensures out { AreOut recruit.entry.tables.now result }
-    ensures own { AreSameSeats recruit.entry.seats result }
+>(rt: &H, alloc: Global, helper_seats: HelperSeats<'a, D>, workspace: &'a L, gate: &'a G) -> Seats<D>
+    ensures out { AreOut helper_seats.entry.tables.now result }
+    ensures own { AreSameSeats helper_seats.entry.seats result }
 {
-    let Recruit { tables, seats } = recruit;
+    let HelperSeats { tables, seats } = helper_seats;
     let Seats {
         round,
         mut numbers,
         mut ledger,
     } = seats;
     let thread = take_number(rt, &tables.numbers, &mut numbers);
-    let post = Post::join(rt, tables, round, thread);
+    let post = Member::join(rt, tables, round, thread);
     let seat = tables.ledger.new_seat(&mut ledger);
-    let notices = Notices::new(&tables.ledger, seat, tables.child_slots);
+    let signals = Signals::new(&tables.ledger, seat, tables.child_slots);
     let site = tables.site(L::members(tables), thread);
-    let runner = Runner::<'a, J, G>::new(workspace.children(), gate, site, notices);
+    let runner = Runner::<'a, J, G>::new(workspace.children(), gate, site, signals);
     let round = live::<D, J, L, G, H>(rt, alloc, post, runner, workspace);
     tables.numbers.give(&mut numbers, thread);
     Seats {
@@ -54,10 +54,10 @@ pub(crate) fn help<
 }
 
 // Takes part in each round, and goes to the nested locks that ask for helpers, until exit is announced.
-fn live<'a, D: Slots, J: Job, L: TakesPart<J, D>, G: Gate, H: Threads + Wait + Sync>(
+fn live<'a, D: SlotContents, J: Job, L: TakesPart<J, D>, G: Gate, H: Threads + Wait + Sync>(
     rt: &H,
     alloc: Global,
-    mut post: Post<'a, D>,
+    mut post: Member<'a, D>,
     mut runner: Runner<'a, J, G>,
     workspace: &L,
 ) -> round_table::Seat<D>
@@ -69,7 +69,7 @@ fn live<'a, D: Slots, J: Job, L: TakesPart<J, D>, G: Gate, H: Threads + Wait + S
     let tables = post.tables;
     let thread = post.thread;
     for _ in rt.forever() {
-        let news = await_news(rt, &mut post, &mut runner.notices);
+        let news = await_news(rt, &mut post, &mut runner.signals);
         if let News::Exit = news {
             return post.leave(rt);
         }
@@ -80,11 +80,11 @@ fn live<'a, D: Slots, J: Job, L: TakesPart<J, D>, G: Gate, H: Threads + Wait + S
 }
 
 // Does what it was told.
-fn follow<'a, D: Slots, J: Job, L: TakesPart<J, D>, G: Gate, H: Threads + Wait + Sync>(
+fn follow<'a, D: SlotContents, J: Job, L: TakesPart<J, D>, G: Gate, H: Threads + Wait + Sync>(
     rt: &H,
     alloc: Global,
     workspace: &L,
-    mut post: Post<'a, D>,
+    mut post: Member<'a, D>,
     runner: &mut Runner<'_, J, G>,
     news: News,
 ) -> Whereabouts<'a, D>
@@ -96,23 +96,23 @@ fn follow<'a, D: Slots, J: Job, L: TakesPart<J, D>, G: Gate, H: Threads + Wait +
     match news {
         News::Round(task) => {
             workspace.take_part(rt, alloc, &mut post, runner, task);
-            end_part(rt, post, &mut runner.notices)
+            end_part(rt, post, &mut runner.signals)
         }
         _ => Whereabouts::Out(post.leave(rt)),
     }
 }
 
 // A helper that is out of the barrier goes to the nested locks that ask for helpers, and joins again.
-fn return_to_post<'a, D: Slots, J: Job, G: Gate, H: Threads + Wait + Sync>(
+fn return_to_post<'a, D: SlotContents, J: Job, G: Gate, H: Threads + Wait + Sync>(
     rt: &H,
     alloc: Global,
     tables: &'a Tables<D>,
     thread: usize,
     runner: &mut Runner<'_, J, G>,
     now: Whereabouts<'a, D>,
-) -> Post<'a, D>
+) -> Member<'a, D>
     requires at { IsHelperAt tables.now thread now }
-    requires thread { thread < tables.now.crew.threads }
+    requires thread { thread < tables.now.counts.threads }
     ensures tables { result.tables.now ≡ tables.now }
     ensures thread { result.thread ≡ thread }
     ensures leader { (party_view result.barrier).leader ≡ false }
@@ -121,8 +121,8 @@ fn return_to_post<'a, D: Slots, J: Job, G: Gate, H: Threads + Wait + Sync>(
     match now {
         Whereabouts::In(post) => post,
         Whereabouts::Out(seat) => {
-            <J::Inner as Nest>::serve(rt, alloc, runner.slots, &mut runner.notices);
-            Post::join(rt, tables, seat, thread)
+            <J::Inner as Nest>::serve(rt, alloc, runner.slots, &mut runner.signals);
+            Member::join(rt, tables, seat, thread)
         }
     }
 }

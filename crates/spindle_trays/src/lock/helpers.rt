@@ -6,7 +6,7 @@ use std::thread::{JoinHandle, Threads};
 
 /// Room for the helpers of a lock, of whom none has started. It is made before the first starts, so that no memory is refused then.
 #[derive(Drop)]
-pub struct Room {
+pub struct HelperRoom {
     pub(crate) threads: Vec<JoinHandle<()>>,
     ghost empty: { vec_len threads ≡ 0 },
 }
@@ -16,11 +16,11 @@ pub struct Helpers {
     pub(crate) threads: Vec<JoinHandle<()>>,
 }
 
-impl Room {
+impl HelperRoom {
     /// Room for so many.
-    pub fn new(alloc: Global, helpers: usize) -> Result<Room, AllocError> {
+    pub fn new(alloc: Global, helpers: usize) -> Result<HelperRoom, AllocError> {
         let threads = Vec::with_capacity(alloc, helpers)?;
-        Ok(Room { threads })
+        Ok(HelperRoom { threads })
     }
 }
 

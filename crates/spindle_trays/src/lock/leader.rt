@@ -12,12 +12,12 @@ use crate::job::Job;
 use crate::job::gate::Gate;
 use crate::lock::nested::Leads;
 use crate::lock::workspace::{Opens, Workspace};
-use crate::pieces::runs::Pieces;
-use crate::pieces::spares::Spares;
-use crate::work::ahead::play_ahead;
-use crate::work::alone::play_alone;
-use crate::work::runner::Runner;
-use spindle_threads::leader_post::LeaderPost;
+use crate::pieces::list_runs::ListRuns;
+use crate::pieces::spare_lists::SpareLists;
+use crate::running::ahead::play_ahead;
+use crate::running::alone::play_alone;
+use crate::running::runner::Runner;
+use spindle_threads::leader_member::LeaderMember;
 use spindle_threads::members::Members;
 use spindle_parts::lists::shared::SharedList;
 use spindle_parts::fault::Fault;
@@ -34,7 +34,7 @@ pub const MOST_JOBS: usize = 4294967295;
 pub struct Leader<'a, J: Job, G: Gate, L = Workspace<J>> {
     pub(crate) workspace: &'a L,
     pub(crate) runner: Runner<'a, J, G>,
-    pub(crate) post: LeaderPost<'a, Bare>,
+    pub(crate) post: LeaderMember<'a, Bare>,
 }
 
 impl<'a, J: Opens<L>, G: Gate, L> Leader<'a, J, G, L> {
@@ -42,7 +42,7 @@ impl<'a, J: Opens<L>, G: Gate, L> Leader<'a, J, G, L> {
     pub(crate) fn new(
         workspace: &'a L,
         runner: Runner<'a, J, G>,
-        post: LeaderPost<'a, Bare>,
+        post: LeaderMember<'a, Bare>,
     ) -> Leader<'a, J, G, L>
         ensures threads { threads_of result ≡ (crew_of post.entry).most }
         ensures hands { hands_of result ≡ (crew_of post.entry).threads }
@@ -103,7 +103,7 @@ impl<'a, J: Opens<L>, G: Gate, L> Leader<'a, J, G, L> {
         }
         let jobs = items.len().min(n_jobs.min(MOST_JOBS));
         outputs.reserve(items.len())?;
-        if jobs > 1 && self.post.post.tables.crew.threads() > 1 {
+        if jobs > 1 && self.post.post.tables.counts.threads() > 1 {
             return self.play(rt, alloc, jobs, items, outputs);
         }
         self.play_here(rt, alloc, jobs, items, outputs)
@@ -132,7 +132,7 @@ impl<'a, J: Opens<L>, G: Gate, L> Leader<'a, J, G, L> {
             let inputs = items.as_slice();
             self.runner.run(rt, alloc, 0, None, inputs, outputs);
         } else {
-            let pieces = Pieces::new(SharedList::from_vec(alloc, items)?, jobs);
+            let pieces = ListRuns::new(SharedList::from_vec(alloc, items)?, jobs);
             let (post, runner) = (&mut self.post, &mut self.runner);
             play_alone(rt, alloc, post, runner, &pieces, outputs);
         }
@@ -158,9 +158,9 @@ impl<'a, J: Opens<L>, G: Gate, L> Leader<'a, J, G, L> {
         ensures trail { PlayedAs jobs self.old self.new result }
         ensures lock { IsSameLock self.old self.new }
     {
-        let pieces = Pieces::new(SharedList::from_vec(alloc, items)?, jobs);
+        let pieces = ListRuns::new(SharedList::from_vec(alloc, items)?, jobs);
         let trays = J::trays(self.workspace);
-        trays.hand_out(rt, alloc, &pieces, &mut Spares::none(alloc))?;
+        trays.hand_out(rt, alloc, &pieces, &mut SpareLists::none(alloc))?;
         let (post, runner) = (&mut self.post, &mut self.runner);
         let first = play_ahead(rt, alloc, post, trays, runner, &pieces, outputs);
         match trays.gather_rest(rt, &pieces, first, outputs) {
@@ -191,14 +191,14 @@ impl<'a, J: Opens<L>, G: Gate, L> Leader<'a, J, G, L> {
         ensures most { result ≤ threads_of self.now }
     {
         let tables = self.post.post.tables;
-        Members::Barrier(tables.round.init()).current(tables.crew.most())
+        Members::Barrier(tables.round.init()).current(tables.counts.most())
     }
 
     /// The lock's threads.
     pub fn max_num_threads(&self) -> usize
         ensures { result ≡ threads_of self.now }
     {
-        self.post.post.tables.crew.most()
+        self.post.post.tables.counts.most()
     }
 
     /// None: a leader has no number between rounds.
@@ -215,7 +215,7 @@ impl<'a, J: Opens<L>, G: Gate, L> Leader<'a, J, G, L> {
         ensures quiet { MadeNoStep self.old self.new }
         ensures rest { AnnouncedRest self.old self.new }
     {
-        self.runner.notices.announce_rest();
+        self.runner.signals.announce_rest();
     }
 }
 
@@ -251,12 +251,12 @@ impl<'a, J: Opens<L>, G: Gate, L> Leads for Leader<'a, J, G, L> {
     ghost account = { account_of };
 
     fn dismiss<H: Wait>(&mut self, rt: &H) {
-        self.runner.notices.announce_exit();
+        self.runner.signals.announce_exit();
         self.post.post.tables.wake_for_news(rt);
     }
 
     fn leave<H: Wait>(self, rt: &H) {
-        let LeaderPost { post } = self.post;
+        let LeaderMember { post } = self.post;
         drop(post.leave(rt));
     }
 }

@@ -1,14 +1,14 @@
 //! Nested locks: what a job opens, to which idle helpers of the job's lock move.
 //!
-//! `berth` has the child slots in which they stand and `closing` how they close, whatever the kind of the nested lock; `child`, `opening`
+//! `child_lease` has the child slots in which they stand and `closing` how they close, whatever the kind of the nested lock; `child`, `opening`
 //! and `rounds` those whose pieces stand in trays.
 
-mod berth;
+mod child_lease;
 mod child;
 mod closing;
 mod opening;
 mod rounds;
 
-pub use self::berth::{Berth, ChildSlot, make_slots, serve_slots};
+pub use self::child_lease::{ChildLease, ChildSlot, make_slots, serve_slots};
 pub use self::child::{Child, Nested, TakesHelpers, help_from};
 pub use self::closing::{Leads, close};

@@ -7,19 +7,19 @@ use crate::job::Job;
 use crate::job::gate::Gate;
 use crate::job::nest::Nest;
 use crate::lock::helper::help;
-use crate::lock::helpers::{Helpers, Room};
+use crate::lock::helpers::{Helpers, HelperRoom};
 use crate::lock::leader::Leader;
 use crate::lock::nested::Leads;
 use crate::lock::part::TakesPart;
 use crate::lock::pool::Pool;
 use crate::lock::workspace::Opens;
-use crate::work::runner::Runner;
-use spindle_threads::leader_post::LeaderPost;
-use spindle_threads::notices::Notices;
-use spindle_threads::post::Post;
+use crate::running::runner::Runner;
+use spindle_threads::leader_member::LeaderMember;
+use spindle_threads::signals::Signals;
+use spindle_threads::member::Member;
 use spindle_threads::seats::Seats;
 use spindle_threads::tables::Tables;
-use spindle_rounds::round_table::slots::{Bare, Slots};
+use spindle_rounds::round_table::slots::{Bare, SlotContents};
 use std::alloc::Global;
 use std::sync::Wait;
 use std::thread::{Scope, Threads};
@@ -27,12 +27,12 @@ use std::thread::{Scope, Threads};
 /// What the leader of a lock comes to: the lock's tables, what stands beside them, its pool, the leader's seats, and room for the
 /// helpers.
 #[derive(Drop)]
-pub(crate) struct Entrant<'s, D: Slots, G: Gate, L> {
+pub(crate) struct LeaderStart<'s, D: SlotContents, G: Gate, L> {
     pub(crate) tables: &'s Tables<D>,
     pub(crate) workspace: &'s L,
     pub(crate) pool: &'s Pool<G>,
     pub(crate) seats: Seats<D>,
-    pub(crate) room: Room,
+    pub(crate) room: HelperRoom,
     ghost seated: { AreSeatsAt tables.now seats },
 }
 
@@ -40,7 +40,7 @@ pub(crate) struct Entrant<'s, D: Slots, G: Gate, L> {
 fn start<
     's,
     E,
-    D: Slots + Send + 's,
+    D: SlotContents + Send + 's,
     J: Job + Send + 's,
     G: Gate + Sync,
     L: TakesPart<J, D> + Send + Sync,
@@ -53,7 +53,7 @@ fn start<
     workspace: &'s L,
     gate: &'s G,
     seats: &mut Seats<D>,
-    room: Room,
+    room: HelperRoom,
 ) -> Helpers
 where
     D::Slot: Send,
@@ -61,14 +61,14 @@ where
     J::In: Send + Sync,
     J::Out: Send,
     J::Inner: Send,
-    <J::Inner as Nest>::Slots: Send + Sync,
+    <J::Inner as Nest>::ChildSlots: Send + Sync,
     requires { AreSeatsAt tables.now seats.old }
     ensures { AreSeatsAt tables.now seats.new }
 {
-    let Room { mut threads } = room;
+    let HelperRoom { mut threads } = room;
     for asked in 0..threads.capacity() {
-        let recruit = seats.recruit(tables);
-        let life = move || drop(help::<D, J, L, G, H>(rt, alloc, recruit, workspace, gate));
+        let helper_seats = seats.helper_seats(tables);
+        let life = move || drop(help::<D, J, L, G, H>(rt, alloc, helper_seats, workspace, gate));
         if let Ok(thread) = scope.spawn(life) {
             threads.push_reserved(thread);
         }
@@ -80,7 +80,7 @@ where
 pub fn muster<
     's,
     E,
-    D: Slots + Send + 's,
+    D: SlotContents + Send + 's,
     J: Job + Send + 's,
     G: Gate + Sync,
     L: TakesPart<J, D> + Send + Sync,
@@ -93,18 +93,18 @@ pub fn muster<
     workspace: &'s L,
     pool: &'s Pool<G>,
     mut seats: Seats<D>,
-    room: Room,
-) -> (LeaderPost<'s, D>, Runner<'s, J, G>, Helpers)
+    room: HelperRoom,
+) -> (LeaderMember<'s, D>, Runner<'s, J, G>, Helpers)
 where
     D::Slot: Send,
     D::Note: Send,
     J::In: Send + Sync,
     J::Out: Send,
     J::Inner: Send,
-    <J::Inner as Nest>::Slots: Send + Sync,
+    <J::Inner as Nest>::ChildSlots: Send + Sync,
     requires seats { AreSeatsAt tables.now seats }
     ensures tables { result.0.post.tables.now ≡ tables.now }
-    ensures crew { result.1.site.crew ≡ tables.now.crew }
+    ensures counts { result.1.site.counts ≡ tables.now.counts }
     ensures slots { let seat = result.0.post.barrier.seat in
         (seat.me.1 ≡ []) × (seat.me.0.board ≡ []) }
 {
@@ -117,23 +117,23 @@ where
 }
 
 /// Takes the leader's post of a lock. The leader runs jobs with what comes beside its post.
-pub fn take_post<'s, D: Slots, J: Job, G: Gate, L: TakesPart<J, D>, H: Wait>(
+pub fn take_post<'s, D: SlotContents, J: Job, G: Gate, L: TakesPart<J, D>, H: Wait>(
     rt: &H,
     tables: &'s Tables<D>,
     workspace: &'s L,
     gate: &'s G,
     seats: Seats<D>,
-) -> (LeaderPost<'s, D>, Runner<'s, J, G>)
+) -> (LeaderMember<'s, D>, Runner<'s, J, G>)
     requires seats { AreSeatsAt tables.now seats }
     ensures tables { result.0.post.tables.now ≡ tables.now }
-    ensures crew { result.1.site.crew ≡ tables.now.crew }
+    ensures counts { result.1.site.counts ≡ tables.now.counts }
     ensures slots { let seat = result.0.post.barrier.seat in
         (seat.me.1 ≡ []) × (seat.me.0.board ≡ []) }
 {
-    let notices = Notices::new(&tables.ledger, seats.ledger, tables.child_slots);
-    let post = LeaderPost::new(Post::join(rt, tables, seats.round, 0));
+    let signals = Signals::new(&tables.ledger, seats.ledger, tables.child_slots);
+    let post = LeaderMember::new(Member::join(rt, tables, seats.round, 0));
     let site = tables.site(L::members(tables), 0);
-    let runner = Runner::new(workspace.children(), gate, site, notices);
+    let runner = Runner::new(workspace.children(), gate, site, signals);
     (post, runner)
 }
 
@@ -147,23 +147,23 @@ pub(crate) fn lead<
     F: FnOnce(&mut Leader<J, G, L>) -> R,
     L: Send + Sync,
     H: Threads + Wait + Sync + 's,
->(scope: &Scope<'s, E>, rt: &'s H, alloc: Global, entrant: Entrant<'s, Bare, G, L>, f: F) -> R
+>(scope: &Scope<'s, E>, rt: &'s H, alloc: Global, leader_start: LeaderStart<'s, Bare, G, L>, f: F) -> R
 where
     J::In: Send + Sync,
     J::Out: Send,
     J::Inner: Send,
-    <J::Inner as Nest>::Slots: Send + Sync,
+    <J::Inner as Nest>::ChildSlots: Send + Sync,
     requires callable { F.IsAlwaysCallable f }
-    ensures { let crew = entrant.entry.tables.now.crew in
-        WasLed crew.most crew.threads F.FnOnce f result }
+    ensures { let counts = leader_start.entry.tables.now.counts in
+        WasLed counts.most counts.threads F.FnOnce f result }
 {
-    let Entrant {
+    let LeaderStart {
         tables,
         workspace,
         pool,
         seats,
         room,
-    } = entrant;
+    } = leader_start;
     let (post, runner, helpers) = muster::<_, Bare, J, G, L, H>(
         scope, rt, alloc, tables, workspace, pool, seats, room,
     );

@@ -9,21 +9,21 @@ use crate::job::Job;
 use crate::job::gate::Gate;
 use crate::job::nest::Nest;
 use crate::lock::workspace::Opens;
-use crate::work::in_trays::take_part;
-use crate::work::runner::Runner;
+use crate::running::in_trays::take_part;
+use crate::running::runner::Runner;
 use spindle_threads::members::Members;
-use spindle_threads::post::Post;
+use spindle_threads::member::Member;
 use spindle_threads::tables::Tables;
-use spindle_rounds::round::task::Task;
-use spindle_rounds::round_table::slots::{Bare, Slots};
+use spindle_rounds::round::published_round::PublishedRound;
+use spindle_rounds::round_table::slots::{Bare, SlotContents};
 use std::alloc::Global;
 use std::sync::Wait;
 use std::thread::Threads;
 
 /// What the threads of a lock over jobs of kind J share beside its tables, where its round table has D's slots.
-pub trait TakesPart<J: Job, D: Slots> {
+pub trait TakesPart<J: Job, D: SlotContents> {
     /// The slots for the locks that its jobs open.
-    fn children(&self) -> &<J::Inner as Nest>::Slots;
+    fn children(&self) -> &<J::Inner as Nest>::ChildSlots;
 
     /// Where its jobs read how many threads take part.
     fn members<'a>(tables: &'a Tables<D>) -> Members<'a>;
@@ -33,9 +33,9 @@ pub trait TakesPart<J: Job, D: Slots> {
         &self,
         rt: &H,
         alloc: Global,
-        post: &mut Post<'a, D>,
+        post: &mut Member<'a, D>,
         runner: &mut Runner<'_, J, G>,
-        task: Task,
+        task: PublishedRound,
     )
         requires sync { IsSync H.row }
         requires task { OnTask task.jobs task.may_stop post.old.barrier.seat.me.0 }
@@ -47,7 +47,7 @@ pub trait TakesPart<J: Job, D: Slots> {
 }
 
 impl<J: Opens<L>, L> TakesPart<J, Bare> for L {
-    fn children(&self) -> &<J::Inner as Nest>::Slots {
+    fn children(&self) -> &<J::Inner as Nest>::ChildSlots {
         <J as Opens<L>>::children(self)
     }
 
@@ -59,9 +59,9 @@ impl<J: Opens<L>, L> TakesPart<J, Bare> for L {
         &self,
         rt: &H,
         alloc: Global,
-        post: &mut Post<'a, Bare>,
+        post: &mut Member<'a, Bare>,
         runner: &mut Runner<'_, J, G>,
-        task: Task,
+        task: PublishedRound,
     ) {
         take_part(rt, alloc, post, J::trays(self), runner, task);
     }

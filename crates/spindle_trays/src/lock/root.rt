@@ -2,16 +2,16 @@
 ghost use Rattle.std.specs.Prelude.{◌≡◌, ◌<◌, IfOk, OnErr, IsErrOf};
 ghost use Rattle.std.specs.Fn.{FnOnceReturnsAtMut};
 ghost use Rattle.spindle_trays.specs.Leaders.{threads_of, hands_of, WasLed};
-ghost use Rattle.spindle_threads.specs.Crews.{lock_threads};
+ghost use Rattle.spindle_threads.specs.ThreadCounts.{lock_threads};
 
 use crate::job::gate::Gate;
 use crate::job::nest::Nest;
-use crate::lock::helpers::Room;
+use crate::lock::helpers::HelperRoom;
 use crate::lock::leader::Leader;
-use crate::lock::opening::{Entrant, lead};
+use crate::lock::opening::{LeaderStart, lead};
 use crate::lock::pool::Pool;
 use crate::lock::workspace::Opens;
-use spindle_threads::Crew;
+use spindle_threads::ThreadCounts;
 use spindle_threads::tables::Tables;
 use spindle_parts::fault::Fault;
 use spindle_rounds::round::Round;
@@ -37,7 +37,7 @@ where
     J::In: Send + Sync,
     J::Out: Send,
     J::Inner: Send,
-    <J::Inner as Nest>::Slots: Send + Sync,
+    <J::Inner as Nest>::ChildSlots: Send + Sync,
     requires some { 0 < max_threads }
     requires callable { F.IsAlwaysCallable f }
     ensures promise { IfOk result (λ r. (old : _) × (new : _)
@@ -46,20 +46,20 @@ where
         × FnOnceReturnsAtMut F.FnOnce f old r new) }
     ensures memory { OnErr result (IsErrOf result Fault.Memory) }
 {
-    let crew = Crew::new(pool.max_num_threads(), max_threads);
-    let workspace = J::open(alloc, crew.threads())?;
-    let (round, seat) = Round::new(alloc, crew.threads())?;
-    let child_slots = J::Inner::slot_count(crew.threads());
-    let (tables, seats) = Tables::new(alloc, crew, pool.idling(), child_slots, round, seat)?;
-    let room = Room::new(alloc, pool.helpers(crew.threads()))?;
-    let entrant = Entrant {
+    let counts = ThreadCounts::new(pool.max_num_threads(), max_threads);
+    let workspace = J::open(alloc, counts.threads())?;
+    let (round, seat) = Round::new(alloc, counts.threads())?;
+    let child_slots = J::Inner::slot_count(counts.threads());
+    let (tables, seats) = Tables::new(alloc, counts, pool.idling(), child_slots, round, seat)?;
+    let room = HelperRoom::new(alloc, pool.helpers(counts.threads()))?;
+    let leader_start = LeaderStart {
         tables: &tables,
         workspace: &workspace,
         pool,
         seats,
         room,
     };
-    Ok(scoped(rt, alloc, entrant, f))
+    Ok(scoped(rt, alloc, leader_start, f))
 }
 
 // Opens the scope of the helpers' threads.
@@ -70,23 +70,23 @@ fn scoped<
     F: FnOnce(&mut Leader<J, G, L>) -> R,
     L: Send + Sync,
     H: Threads + Wait + Sync,
->(rt: &H, alloc: Global, entrant: Entrant<'_, Bare, G, L>, f: F) -> R
+>(rt: &H, alloc: Global, leader_start: LeaderStart<'_, Bare, G, L>, f: F) -> R
 where
     J::In: Send + Sync,
     J::Out: Send,
     J::Inner: Send,
-    <J::Inner as Nest>::Slots: Send + Sync,
+    <J::Inner as Nest>::ChildSlots: Send + Sync,
     requires callable { F.IsAlwaysCallable f }
-    ensures { let crew = entrant.entry.tables.now.crew in
-        WasLed crew.most crew.threads F.FnOnce f result }
+    ensures { let counts = leader_start.entry.tables.now.counts in
+        WasLed counts.most counts.threads F.FnOnce f result }
 {
     thread::scope(
         thread::scope_env(),
         rt,
         |scope| -> R
             requires callable { F.IsAlwaysCallable f }
-            ensures { let crew = entrant.entry.tables.now.crew in
-                WasLed crew.most crew.threads F.FnOnce f result }
-        { lead::<_, J, G, R, F, L, H>(scope, rt, alloc, entrant, f) },
+            ensures { let counts = leader_start.entry.tables.now.counts in
+                WasLed counts.most counts.threads F.FnOnce f result }
+        { lead::<_, J, G, R, F, L, H>(scope, rt, alloc, leader_start, f) },
     )
 }

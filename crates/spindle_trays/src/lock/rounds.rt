@@ -1,6 +1,6 @@
 //! What leaders of different locks have in common: rounds into a list that the caller keeps, and rounds over the chunks of one list.
 //!
-//! Code that only runs rounds names `Rounds` and takes either leader.
+//! Code that only runs rounds names `RunsRounds` and takes either leader.
 ghost use denote.Param.Send.{IsSync};
 ghost use Rattle.std.specs.Prelude.{◌≡◌, ◌<◌, [], ℕ, IfOk, IfErr, OnOk, OnErr, length, vec_len};
 ghost use Rattle.std.specs.List.{AllZip};
@@ -22,7 +22,7 @@ use std::sync::Wait;
 use std::thread::Threads;
 
 /// What runs rounds over jobs of kind J: the leader of a lock, whichever kind of lock it is.
-pub trait Rounds<J: Job> {
+pub trait RunsRounds<J: Job> {
     /// The threads of its lock.
     ghost threads: { Self → ℕ };
 
@@ -62,7 +62,7 @@ pub trait Rounds<J: Job> {
     ghost never_of_none: { (leader : Self) → (fault : Fault) → refuses leader 0 fault → ⊥ };
 }
 
-impl<'a, J: Opens<L>, G: Gate, L> Rounds<J> for Leader<'a, J, G, L> {
+impl<'a, J: Opens<L>, G: Gate, L> RunsRounds<J> for Leader<'a, J, G, L> {
     ghost threads = { λ leader. threads_of leader };
 
     ghost refuses = { λ leader jobs. IsRefusal (hands_of leader) jobs };
@@ -70,7 +70,7 @@ impl<'a, J: Opens<L>, G: Gate, L> Rounds<J> for Leader<'a, J, G, L> {
     ghost rests = { λ leader. IsBetweenRounds leader };
 
     fn max_num_threads(&self) -> usize {
-        self.post.post.tables.crew.most()
+        self.post.post.tables.counts.most()
     }
 
     fn for_each_into<H: Threads + Wait + Sync>(
@@ -96,7 +96,7 @@ pub trait ChunkRounds<
     U: Drop,
     E: Drop,
     J: Job<In = ListRun<T>, Out = Result<Vec<U>, E>>,
->: Rounds<J> {
+>: RunsRounds<J> {
     /// Cuts the list into `n_jobs` chunks, or into as many as it has items where these are fewer, runs them in as many jobs, and
     /// answers the lists of all chunks joined in order, or the first failure among them.
     ///
@@ -113,9 +113,9 @@ pub trait ChunkRounds<
         requires jobs { 0 < length list.now → 0 < n_jobs }
         ensures answer { IfOk result (λ all. IsMapped J.meets n_jobs list.now all) }
         ensures refused { IfErr result
-            (Self.Rounds.refuses self.old (job_count (length list.now) n_jobs)) }
-        ensures goes_on { GoesOnAs Self.Rounds.threads Self.Rounds.refuses
-            Self.Rounds.rests self.old self.new }
+            (Self.RunsRounds.refuses self.old (job_count (length list.now) n_jobs)) }
+        ensures goes_on { GoesOnAs Self.RunsRounds.threads Self.RunsRounds.refuses
+            Self.RunsRounds.rests self.old self.new }
     {
         let _threads = self.max_num_threads();
         if list.is_empty() {
@@ -133,5 +133,5 @@ impl<
     U: Drop,
     E: Drop,
     J: Job<In = ListRun<T>, Out = Result<Vec<U>, E>>,
-    R: Rounds<J>,
+    R: RunsRounds<J>,
 > ChunkRounds<T, U, E, J> for R {}

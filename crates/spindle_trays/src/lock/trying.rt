@@ -10,11 +10,11 @@ use crate::job::gate::Gate;
 use crate::lock::leader::{Leader, MOST_JOBS};
 use crate::lock::report::Report;
 use crate::lock::workspace::Opens;
-use crate::pieces::runs::Pieces;
-use crate::pieces::spares::Spares;
-use crate::work::in_trays::play_in_trays;
-use crate::work::rooms::{make_rooms, play_rooms};
-use crate::work::tally::Tally;
+use crate::pieces::list_runs::ListRuns;
+use crate::pieces::spare_lists::SpareLists;
+use crate::running::in_trays::play_in_trays;
+use crate::running::sequential::{make_rooms, play_rooms};
+use crate::running::tally::Tally;
 use spindle_parts::lists::shared::SharedList;
 use spindle_parts::fault::Fault;
 use std::alloc::Global;
@@ -82,8 +82,8 @@ impl<'a, J: Opens<L>, G: Gate, L> Leader<'a, J, G, L> {
             return Ok(());
         }
         let jobs = items.len().min(n_jobs.min(MOST_JOBS));
-        let pieces = Pieces::new(SharedList::from_vec(alloc, items)?, jobs);
-        *report = self.try_pieces(rt, alloc, &pieces, Spares::new(ran), skipped)?;
+        let pieces = ListRuns::new(SharedList::from_vec(alloc, items)?, jobs);
+        *report = self.try_pieces(rt, alloc, &pieces, SpareLists::new(ran), skipped)?;
         Ok(())
     }
 
@@ -92,8 +92,8 @@ impl<'a, J: Opens<L>, G: Gate, L> Leader<'a, J, G, L> {
         &mut self,
         rt: &H,
         alloc: Global,
-        pieces: &Pieces<J::In>,
-        mut spares: Spares<J::Out>,
+        pieces: &ListRuns<J::In>,
+        mut spares: SpareLists<J::Out>,
         skipped: Vec<usize>,
     ) -> Result<Report<J::Out>, Fault>
         requires most { pieces.now.count ≤ 4294967295 }
@@ -119,8 +119,8 @@ impl<'a, J: Opens<L>, G: Gate, L> Leader<'a, J, G, L> {
         &mut self,
         rt: &H,
         alloc: Global,
-        pieces: &Pieces<J::In>,
-        spares: &mut Spares<J::Out>,
+        pieces: &ListRuns<J::In>,
+        spares: &mut SpareLists<J::Out>,
         left: &mut Vec<bool>,
         tally: &mut Tally<J::Out>,
     ) -> Result<(), Fault>
@@ -142,7 +142,7 @@ impl<'a, J: Opens<L>, G: Gate, L> Leader<'a, J, G, L> {
         ensures memory { OnErr result (IsErrOf result Fault.Memory × MadeNoStep self.old self.new) }
         ensures lock { IsSameLock self.old self.new }
     {
-        if pieces.count() > 1 && self.post.post.tables.crew.threads() > 1 {
+        if pieces.count() > 1 && self.post.post.tables.counts.threads() > 1 {
             return self.try_in_trays(rt, alloc, pieces, spares, left, tally);
         }
         self.try_in_rooms(rt, alloc, pieces, spares, left, tally)
@@ -153,8 +153,8 @@ impl<'a, J: Opens<L>, G: Gate, L> Leader<'a, J, G, L> {
         &mut self,
         rt: &H,
         alloc: Global,
-        pieces: &Pieces<J::In>,
-        spares: &mut Spares<J::Out>,
+        pieces: &ListRuns<J::In>,
+        spares: &mut SpareLists<J::Out>,
         left: &mut Vec<bool>,
         tally: &mut Tally<J::Out>,
     ) -> Result<(), Fault>
@@ -184,8 +184,8 @@ impl<'a, J: Opens<L>, G: Gate, L> Leader<'a, J, G, L> {
         &mut self,
         rt: &H,
         alloc: Global,
-        pieces: &Pieces<J::In>,
-        spares: &mut Spares<J::Out>,
+        pieces: &ListRuns<J::In>,
+        spares: &mut SpareLists<J::Out>,
         left: &mut Vec<bool>,
         tally: &mut Tally<J::Out>,
     ) -> Result<(), Fault>

@@ -15,7 +15,7 @@ use std::alloc::Global;
 /// What the threads of a lock over jobs of kind J share, beside the tables that every lock has.
 #[derive(Drop)]
 pub struct Workspace<J: Job> {
-    children: <J::Inner as Nest>::Slots,
+    children: <J::Inner as Nest>::ChildSlots,
     trays: Trays<J>,
 }
 
@@ -28,7 +28,7 @@ pub trait Opens<L>: Job + HasWorkspace<L> {
         ensures { OnErr result (IsErrOf result Fault.Memory) };
 
     /// The slots for the locks that its jobs open.
-    fn children(workspace: &L) -> &<Self::Inner as Nest>::Slots;
+    fn children(workspace: &L) -> &<Self::Inner as Nest>::ChildSlots;
 
     /// The trays of its pieces.
     fn trays(workspace: &L) -> &Trays<Self>;
@@ -46,7 +46,7 @@ impl<J: Job> Opens<Workspace<J>> for J {
         Ok(Workspace { children, trays })
     }
 
-    fn children(workspace: &Workspace<J>) -> &<J::Inner as Nest>::Slots {
+    fn children(workspace: &Workspace<J>) -> &<J::Inner as Nest>::ChildSlots {
         &workspace.children
     }
 

@@ -8,7 +8,7 @@ ghost use Rattle.spindle_trays.specs.Trays.{Awaits};
 use crate::job::Job;
 use crate::pieces::finished::Finished;
 use crate::pieces::ready::Ready;
-use crate::pieces::spares::Spares;
+use crate::pieces::spare_lists::SpareLists;
 use spindle_parts::lists::run::ListRun;
 use std::alloc::{AllocError, Global};
 use std::marker::Model;
@@ -53,7 +53,7 @@ impl<J: Job> Place<J> {
         alloc: Global,
         number: usize,
         inputs: ListRun<J::In>,
-        spares: &mut Spares<J::Out>,
+        spares: &mut SpareLists<J::Out>,
     ) -> Result<(), AllocError>
         ensures { OnOk result (Awaits inputs number self.new) }
     {
@@ -64,7 +64,7 @@ impl<J: Job> Place<J> {
     }
 
     // The room of what stands here, or a spare one.
-    fn take_room(&mut self, alloc: Global, spares: &mut Spares<J::Out>) -> Vec<J::Out>
+    fn take_room(&mut self, alloc: Global, spares: &mut SpareLists<J::Out>) -> Vec<J::Out>
         ensures { (self.new.ready ≡ None) × (self.new.finished ≡ None) }
     {
         if let Some(finished) = self.finished.take() {

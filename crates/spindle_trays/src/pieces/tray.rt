@@ -16,9 +16,9 @@ use crate::pieces::address::{Address, hand_length};
 use crate::pieces::finished::Finished;
 use crate::pieces::place::Place;
 use crate::pieces::ready::Ready;
-use crate::pieces::runs::Pieces;
-use crate::pieces::spares::Spares;
-use crate::work::tally::Tally;
+use crate::pieces::list_runs::ListRuns;
+use crate::pieces::spare_lists::SpareLists;
+use crate::running::tally::Tally;
 use std::alloc::{AllocError, Global};
 use std::mem;
 
@@ -52,8 +52,8 @@ impl<J: Job> Tray<J> {
     pub(crate) fn refill(
         &mut self,
         alloc: Global,
-        pieces: &Pieces<J::In>,
-        spares: &mut Spares<J::Out>,
+        pieces: &ListRuns<J::In>,
+        spares: &mut SpareLists<J::Out>,
     ) -> Result<(), AllocError>
         ensures waits { OnOk result (AwaitsHand pieces.now.items pieces.now.count
             self.old.threads self.old.thread self.new.places.items) }
@@ -134,7 +134,7 @@ impl<J: Job> Tray<J> {
     pub(crate) fn gather(
         &mut self,
         from: usize,
-        pieces: &Pieces<J::In>,
+        pieces: &ListRuns<J::In>,
         number: usize,
         count: usize,
         outputs: &mut Vec<J::Out>,
@@ -178,7 +178,7 @@ impl<J: Job> Tray<J> {
     pub(crate) fn tally(
         &mut self,
         at: usize,
-        pieces: &Pieces<J::In>,
+        pieces: &ListRuns<J::In>,
         left: &[bool],
         number: usize,
         tally: &mut Tally<J::Out>,

@@ -9,10 +9,10 @@ use crate::job::Job;
 use crate::pieces::address::Address;
 use crate::pieces::finished::Finished;
 use crate::pieces::ready::Ready;
-use crate::pieces::runs::Pieces;
-use crate::pieces::spares::Spares;
+use crate::pieces::list_runs::ListRuns;
+use crate::pieces::spare_lists::SpareLists;
 use crate::pieces::tray::Tray;
-use crate::work::tally::Tally;
+use crate::running::tally::Tally;
 use crossbeam_utils::CachePadded;
 use spindle_parts::fault::Fault;
 use std::alloc::Global;
@@ -48,8 +48,8 @@ impl<J: Job> Trays<J> {
         &self,
         rt: &H,
         alloc: Global,
-        pieces: &Pieces<J::In>,
-        spares: &mut Spares<J::Out>,
+        pieces: &ListRuns<J::In>,
+        spares: &mut SpareLists<J::Out>,
     ) -> Result<(), Fault>
         ensures { OnErr result (IsErrOf result Fault.Memory) }
     {
@@ -65,8 +65,8 @@ impl<J: Job> Trays<J> {
         &self,
         rt: &H,
         alloc: Global,
-        pieces: &Pieces<J::In>,
-        spares: &mut Spares<J::Out>,
+        pieces: &ListRuns<J::In>,
+        spares: &mut SpareLists<J::Out>,
     ) -> Result<(), Fault>
         ensures { OnErr result (IsErrOf result Fault.Memory) }
     {
@@ -148,7 +148,7 @@ impl<J: Job> Trays<J> {
     pub fn gather<H: Wait>(
         &self,
         rt: &H,
-        pieces: &Pieces<J::In>,
+        pieces: &ListRuns<J::In>,
         outputs: &mut Vec<J::Out>,
     ) -> Result<(), usize>
         requires empty { outputs.old.items ≡ [] }
@@ -163,7 +163,7 @@ impl<J: Job> Trays<J> {
     pub(crate) fn gather_rest<H: Wait>(
         &self,
         rt: &H,
-        pieces: &Pieces<J::In>,
+        pieces: &ListRuns<J::In>,
         first: usize,
         outputs: &mut Vec<J::Out>,
     ) -> Result<(), usize>
@@ -185,7 +185,7 @@ impl<J: Job> Trays<J> {
     fn move_outputs<H: Wait>(
         &self,
         rt: &H,
-        pieces: &Pieces<J::In>,
+        pieces: &ListRuns<J::In>,
         first: usize,
         outputs: &mut Vec<J::Out>,
     ) -> Result<(), usize>
@@ -227,7 +227,7 @@ impl<J: Job> Trays<J> {
     pub fn tally<H: Wait>(
         &self,
         rt: &H,
-        pieces: &Pieces<J::In>,
+        pieces: &ListRuns<J::In>,
         left: &[bool],
         tally: &mut Tally<J::Out>,
     )

@@ -72,7 +72,7 @@ fn play<K: Job<In = Ask, Out = Answer> + Send, H: Threads + Wait + Abort + Sync>
 ) -> Result<(), Fault>
 where
     K::Inner: Send,
-    <K::Inner as Nest>::Slots: Send + Sync,
+    <K::Inner as Nest>::ChildSlots: Send + Sync,
 {
     for row in rows {
         let (threads, most, jobs, rounds, asked, asks, wanted) = *row;
@@ -124,7 +124,7 @@ fn play_above<K: Job<In = Ask, Out = Answer> + Send, H: Threads + Wait + Abort +
 ) -> Result<(), Fault>
 where
     K::Inner: Send,
-    <K::Inner as Nest>::Slots: Send + Sync,
+    <K::Inner as Nest>::ChildSlots: Send + Sync,
 {
     play::<Above<K>, H>(rt, alloc, rows)
 }
@@ -142,7 +142,7 @@ fn play_two_above<K: Job<In = Ask, Out = Answer> + Send, H: Threads + Wait + Abo
 ) -> Result<(), Fault>
 where
     K::Inner: Send,
-    <K::Inner as Nest>::Slots: Send + Sync,
+    <K::Inner as Nest>::ChildSlots: Send + Sync,
 {
     play_above::<Above<K>, H>(rt, alloc, rows)
 }

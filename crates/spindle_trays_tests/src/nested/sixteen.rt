@@ -148,7 +148,7 @@ fn all_become<
 ) -> Result<(), Fault>
 where
     K::Inner: Send,
-    <K::Inner as Nest>::Slots: Send + Sync,
+    <K::Inner as Nest>::ChildSlots: Send + Sync,
     requires { 0 < jobs }
 {
     let threads = pool.max_num_threads();

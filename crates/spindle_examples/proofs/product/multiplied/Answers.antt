@@ -16,7 +16,7 @@ returns g c =
     let unfilled : List Block = c.in_ok-unfilled.unfilled.items in
     let all = subst (λ r. IsGathered c.in_ok-lists.lists.items r) c.in_ok-branch.was c.in_ok-gathered.ensures.answers in
     let each = subst (AllZip (λ block answer. IfOk answer (λ (list : Vec ℕ Global). list.items ≡ made block)) unfilled)
-    (sym c.in_ok-lists.ensures) (filled_entries unfilled c.in_ok-filled.filled.items c.in_ok-filled.ensures.remade) in
+    (sym c.in_ok-lists.ensures) (filled_entries unfilled c.in_ok-filled.filled.items c.in_ok-filled.ensures.updated) in
     gathered_values {E = Fault} made unfilled c.in_ok-lists.lists.items c.in_ok-branch.field-0 each all
     ∙ product_parts rows_and_columns unfilled c.in_ok-runs.runs.items c.in_ok-columns.columns c.in_ok-unfilled.ensures
     ∙ ap (λ rows. product rows c.in_ok-columns.columns) (c.in_ok-runs.ensures.joined ∙ c.in_ok-rows.ensures.items ∙ c.in_ok-shared.ensures)

@@ -11,15 +11,15 @@ use crate::job::nest::Nest;
 use crate::lock::helper::help;
 use crate::lock::part::TakesPart;
 use crate::lock::workspace::{Opens, Workspace};
-use spindle_threads::Crew;
-use spindle_threads::bench::Bench;
+use spindle_threads::ThreadCounts;
+use spindle_threads::spare_seats::SpareSeats;
 use spindle_threads::limits::Idling;
 use spindle_threads::seats::Seats;
 use spindle_threads::tables::Tables;
 use spindle_parts::aarc_imp::Fits;
 use spindle_parts::fault::Fault;
 use spindle_rounds::round::Round;
-use spindle_rounds::round_table::slots::{Bare, Slots};
+use spindle_rounds::round_table::slots::{Bare, SlotContents};
 use std::alloc::Global;
 use std::sync::{Arc, Wait};
 use std::thread::Threads;
@@ -29,8 +29,8 @@ use std::thread::Threads;
 pub struct Nested<K: Job> {
     pub(crate) tables: Tables<Bare>,
     workspace: Workspace<K>,
-    benches: Vec<Bench<Bare>>,
-    ghost seated: { All (IsBenchAt tables) benches.items },
+    spare_seats: Vec<SpareSeats<Bare>>,
+    ghost seated: { All (IsBenchAt tables) spare_seats.items },
 }
 
 /// A lock that stands in a child slot, whatever its kind: idle helpers of the outer lock may live in it.
@@ -41,21 +41,21 @@ pub trait TakesHelpers {
 }
 
 /// Lives as a helper of a nested lock, with seats that rest on one of its benches; where none do, that life ends at once.
-pub fn help_from<D: Slots, J: Job, L: TakesPart<J, D>, H: Threads + Wait + Sync>(
+pub fn help_from<D: SlotContents, J: Job, L: TakesPart<J, D>, H: Threads + Wait + Sync>(
     rt: &H,
     alloc: Global,
     tables: &Tables<D>,
     workspace: &L,
-    benches: &[Bench<D>],
+    spare_seats: &[SpareSeats<D>],
 )
     requires sync { IsSync H.row }
-    requires benches { All (IsBenchAt tables.now) benches.now }
+    requires spare_seats { All (IsBenchAt tables.now) spare_seats.now }
 {
     let gate = NoGate;
-    for bench in benches {
-        if let Some(recruit) = bench.take(tables) {
-            let seats = help::<D, J, L, NoGate, H>(rt, alloc, recruit, workspace, &gate);
-            bench.give(tables, seats);
+    for spare in spare_seats {
+        if let Some(helper_seats) = spare.take(tables) {
+            let seats = help::<D, J, L, NoGate, H>(rt, alloc, helper_seats, workspace, &gate);
+            spare.give(tables, seats);
             return;
         }
     }
@@ -91,25 +91,25 @@ impl<K: Job> Child<Nested<K>> {
     /// A nested lock, with its leader's seats.
     pub(crate) fn open(
         alloc: Global,
-        crew: Crew,
+        counts: ThreadCounts,
         idling: Idling,
     ) -> Result<(Child<Nested<K>>, Seats<Bare>), Fault>
         ensures seats { IfOk result (λ t. AreSeatsAt (arc_value t.0.shared).tables t.1) }
-        ensures crew { IfOk result (λ t. (arc_value t.0.shared).tables.crew ≡ crew) }
+        ensures counts { IfOk result (λ t. (arc_value t.0.shared).tables.counts ≡ counts) }
         ensures idling { IfOk result (λ t. (arc_value t.0.shared).tables.sleep.idling ≡ idling) }
         ensures memory { OnErr result (IsErrOf result Fault.Memory) }
     {
-        let workspace = <K as Opens<Workspace<K>>>::open(alloc, crew.threads())?;
-        let (round, seat) = Round::new(alloc, crew.threads())?;
-        let slots = K::Inner::slot_count(crew.threads());
-        let (tables, mut seats) = Tables::new(alloc, crew, idling, slots, round, seat)?;
-        let benches = tables.benches(alloc, &mut seats)?;
+        let workspace = <K as Opens<Workspace<K>>>::open(alloc, counts.threads())?;
+        let (round, seat) = Round::new(alloc, counts.threads())?;
+        let slots = K::Inner::slot_count(counts.threads());
+        let (tables, mut seats) = Tables::new(alloc, counts, idling, slots, round, seat)?;
+        let spare_seats = tables.spare_seats(alloc, &mut seats)?;
         let shared = Arc::new(
             alloc,
             Nested {
                 tables,
                 workspace,
-                benches,
+                spare_seats,
             },
         )?;
         Ok((Child { shared }, seats))
@@ -128,7 +128,7 @@ impl<K: Job> Child<Nested<K>> {
 
 impl<K: Job> TakesHelpers for Nested<K> {
     fn help<H: Threads + Wait + Sync>(&self, rt: &H, alloc: Global) {
-        let benches = self.benches.as_slice();
-        help_from::<_, K, Workspace<K>, H>(rt, alloc, &self.tables, &self.workspace, benches);
+        let spare_seats = self.spare_seats.as_slice();
+        help_from::<_, K, Workspace<K>, H>(rt, alloc, &self.tables, &self.workspace, spare_seats);
     }
 }

@@ -4,11 +4,11 @@
 //! Types force this order. Each step takes what the step before it has made, which nothing else makes and which can't be dropped:
 //! `Dismissed`, `Closed`, `Left`.
 ghost use Rattle.spindle_parts.specs.declared.requests.plays.Account.{Account};
-ghost use Rattle.spindle_threads.specs.Notices.{AnnouncedExit};
+ghost use Rattle.spindle_threads.specs.Signals.{AnnouncedExit};
 
-use crate::lock::nested::berth::Berth;
+use crate::lock::nested::child_lease::ChildLease;
 use crate::lock::nested::child::Child;
-use spindle_threads::asking::Offered;
+use spindle_threads::helper_requests::OpenPlaces;
 use spindle_parts::aarc_imp::AtomicArc;
 use std::sync::Wait;
 
@@ -51,7 +51,7 @@ impl<T: Leads> Dismissed<T> {
     /// Closes the places at the slot in which the lock stands.
     pub(crate) fn close<'a, N>(
         self,
-        offered: Offered<'a>,
+        offered: OpenPlaces<'a>,
         slot: &'a AtomicArc<Child<N>>,
     ) -> Closed<'a, T, N> {
         let Dismissed { leader } = self;
@@ -78,6 +78,6 @@ impl<'a, N: Drop> Left<'a, N> {
 }
 
 /// Closes a lock that stands in a child slot.
-pub fn close<T: Leads, N: Drop, H: Wait>(rt: &H, leader: T, berth: Berth<'_, N>) {
-    berth.close(Dismissed::new(rt, leader)).leave(rt).clear(rt);
+pub fn close<T: Leads, N: Drop, H: Wait>(rt: &H, leader: T, child_lease: ChildLease<'_, N>) {
+    child_lease.close(Dismissed::new(rt, leader)).leave(rt).clear(rt);
 }

@@ -4,7 +4,7 @@ ghost use Rattle.std.specs.Fn.{FnOnceReturnsAtMut};
 ghost use Rattle.std.specs.Arc.{arc_value};
 ghost use Rattle.spindle_trays.specs.Leaders.{threads_of, hands_of};
 ghost use Rattle.spindle_trays.specs.Locks.{nested_hands};
-ghost use Rattle.spindle_threads.specs.Crews.{lock_threads};
+ghost use Rattle.spindle_threads.specs.ThreadCounts.{lock_threads};
 ghost use Rattle.spindle_threads.specs.Opening.{AreSeatsAt};
 
 use crate::job::Job;
@@ -12,7 +12,7 @@ use crate::job::context::JobCx;
 use crate::job::gate::NoGate;
 use crate::job::nest::Under;
 use crate::lock::leader::Leader;
-use crate::lock::nested::berth::Berth;
+use crate::lock::nested::child_lease::ChildLease;
 use crate::lock::nested::child::{Child, Nested};
 use crate::lock::nested::closing::close;
 use crate::lock::opening::take_post;
@@ -47,23 +47,23 @@ impl<'a, K: Job> JobCx<'a, Under<K>> {
         ensures memory { OnErr result (IsErrOf result Fault.Memory) }
         ensures same { self.new ≡ self.old }
     {
-        let crew = self.crew_for(max_threads);
+        let counts = self.counts_for(max_threads);
         let idling = self.site.sleep.idling();
         if let Some(slots) = self.slots
-            && crew.threads() > 1
+            && counts.threads() > 1
         {
-            let (child, seats) = Child::open(alloc, crew, idling)?;
+            let (child, seats) = Child::open(alloc, counts, idling)?;
             let asked = self.asks.ask(child.tables());
-            let berth = Berth::take(rt, slots, &child, asked, self.site.sleep);
-            if let Some(berth) = berth {
+            let child_lease = ChildLease::take(rt, slots, &child, asked, self.site.sleep);
+            if let Some(child_lease) = child_lease {
                 let gate = NoGate;
                 let mut leader = take_lead(rt, &child, &gate, seats);
                 let answer = f(&mut leader);
-                close(rt, leader, berth);
+                close(rt, leader, child_lease);
                 return Ok(answer);
             }
         }
-        let (child, seats) = Child::open(alloc, crew.alone(), idling)?;
+        let (child, seats) = Child::open(alloc, counts.alone(), idling)?;
         let gate = NoGate;
         let mut leader = take_lead(rt, &child, &gate, seats);
         Ok(f(&mut leader))
@@ -78,8 +78,8 @@ fn take_lead<'b, K: Opens<L>, L, H: Wait>(
     seats: Seats<Bare>,
 ) -> Leader<'b, K, NoGate, L>
     requires { AreSeatsAt (arc_value child.now.shared).tables seats }
-    ensures threads { threads_of result ≡ (arc_value child.now.shared).tables.crew.most }
-    ensures hands { hands_of result ≡ (arc_value child.now.shared).tables.crew.threads }
+    ensures threads { threads_of result ≡ (arc_value child.now.shared).tables.counts.most }
+    ensures hands { hands_of result ≡ (arc_value child.now.shared).tables.counts.threads }
 {
     let workspace = K::inner(child);
     let (post, runner) = take_post::<Bare, K, NoGate, L, H>(

@@ -10,7 +10,7 @@ use crate::job::Job;
 use crate::job::context::JobCx;
 use crate::job::nest::Under;
 use crate::lock::leader::MOST_JOBS;
-use crate::work::runner::run_each;
+use crate::running::runner::run_each;
 use spindle_parts::fault::Fault;
 use std::alloc::Global;
 use std::sync::Wait;
@@ -66,7 +66,7 @@ impl<'a, K: Job> JobCx<'a, Under<K>> {
         ensures same { self.new ≡ self.old }
     {
         let mut outputs = Vec::with_capacity(alloc, items.len())?;
-        let mut context = JobCx::<K::Inner>::within(self.asks.notices.another(), &self.site);
+        let mut context = JobCx::<K::Inner>::within(self.asks.signals.another(), &self.site);
         run_each::<K, H>(rt, alloc, items.as_slice(), &mut context, &mut outputs);
         Ok(outputs)
     }

@@ -4,7 +4,7 @@ use Rattle.std.specs.List.{AllZip}
 use Rattle.std.proofs.lemmas.Simd.{map-map}
 use Rattle.spindle_parts.specs.Pieces.{joined}
 use Rattle.spindle.specs.declared.kernels.maps.Run.{Run}
-use Rattle.spindle.specs.declared.kernels.tasks.Task.{Task}
+use Rattle.spindle.specs.declared.kernels.tasks.PublishedRound.{PublishedRound}
 use Rattle.spindle.proofs.KernelLists.{joined_tasks}
 use Rattle.spindle.proofs.kernels.maps.map_once.Goals as goal
 
@@ -18,7 +18,7 @@ returns-clause-answer g c =
     ap joined (sym (map-map items (λ task. task.part.source) old) ∙ ap (map items) c.in_ok-tasks.ensures.parts) ∙ c.in_ok-parts_of.ensures.joined in
     let mapped : AllZip (R c.args.kernel.now) (joined (map (λ task. items task.part.source) old)) (joined (map (λ task. task.part.outputs.items) new)) =
     joined_tasks (λ kernel. R kernel.now) c.args.kernel (λ task. task.kernel) (λ task. items task.part.source)
-    (λ task. task.part.outputs.items) old new c.in_ok-tasks.ensures.kernel c.in_ok-tasks-2.ensures.remade in
+    (λ task. task.part.outputs.items) old new c.in_ok-tasks.ensures.kernel c.in_ok-tasks-2.ensures.updated in
     let outputs : c.append_outputs.new.all.items ≡ joined (map (λ task. task.part.outputs.items) new) = search rules in
     subst (λ t. AllZip (R c.args.kernel.now) (items c.args.source.now) t) (sym outputs)
     (subst (λ t. AllZip (R c.args.kernel.now) t (joined (map (λ task. task.part.outputs.items) new))) whole mapped)

@@ -16,7 +16,7 @@ returns-clause-answer g c =
     ∙ c.in_ok-cut.ensures.joined in
     let changed : AllZip (R c.args.kernel.now) (joined (map (λ task. task.part.items.items) old)) (joined (map (λ task. task.part.items.items) new)) =
     joined_tasks (λ kernel. R kernel.now) c.args.kernel (λ task. task.kernel) (λ task. task.part.items.items)
-    (λ task. task.part.items.items) old new c.in_ok-tasks.ensures.kernel c.in_ok-tasks-2.ensures.remade in
+    (λ task. task.part.items.items) old new c.in_ok-tasks.ensures.kernel c.in_ok-tasks-2.ensures.updated in
     let items : c.append_items.new.list.items ≡ joined (map (λ task. task.part.items.items) new) = search rules in
     subst (λ t. AllZip (R c.args.kernel.now) c.args.list.items t) (sym items)
     (subst (λ t. AllZip (R c.args.kernel.now) t (joined (map (λ task. task.part.items.items) new))) whole changed)

@@ -19,7 +19,7 @@ returns-clause-answer g c =
     let whole : joined (map (λ part. items part.source) old) ≡ items c.args.source.now =
     ap joined (sym (map-map items (λ (part : P). part.source) old) ∙ ap (map items) c.in_ok-parts.ensures) ∙ c.in_ok-parts_of.ensures.joined in
     let totals = all_zip_map (λ chunk total. total ≡ total_of C.combine C.neutral C.of chunk) (λ (part : P). items part.source) (λ (part : P). part.total) old new
-    c.in_ok-parts-2.ensures.remade in
+    c.in_ok-parts-2.ensures.updated in
     c.combined.ensures
     ∙ total_of_chunks C.combine C.neutral C.of laws.associative laws.is_neutral (map (λ (part : P). items part.source) old) (map (λ (part : P). part.total) new)
     totals

@@ -1,6 +1,6 @@
 -- The closure was called with a leader of a lock of these threads, with so many slots.
 use Rattle.std.proofs.Common.{ap, sym, refl, ◌∙◌}
-use Rattle.spindle_threads.specs.declared.Crew.{Crew}
+use Rattle.spindle_threads.specs.declared.ThreadCounts.{ThreadCounts}
 use Rattle.spindle.proofs.lock.nested.lead_alone.Goals as goal
 
 pub returns-clause-promise : goal.returns-clause-promise
@@ -10,8 +10,8 @@ returns-clause-promise g c =
       _,
       (
         leads.0
-            ∙ (ap (λ n. n.tables.value.crew.most) c.deref.ensures
-            ∙ (sym (ap (λ t. t.crew.most) made.share) ∙ (ap (λ (k : Crew). k.most) made.crew ∙ c.alone.ensures.most))),
+            ∙ (ap (λ n. n.tables.value.counts.most) c.deref.ensures
+            ∙ (sym (ap (λ t. t.counts.most) made.share) ∙ (ap (λ (k : ThreadCounts). k.most) made.counts ∙ c.alone.ensures.most))),
         leads.1 ∙ made.slots,
       ),
       record { shown = _; shows = refl; left = _; met = c.f.ensures; leaves = refl },

@@ -9,5 +9,5 @@ fetch_sub-found-requires g c = let f = c.requires.free in (
   search rules,
   omega arith,
   kept
-      (arrives g.D.Slots.discipline g.met.D.Slots.lawful _ _ _ _ _ f.1 f.2 f.3 c.requires.done),
+      (arrives g.D.SlotContents.discipline g.met.D.SlotContents.lawful _ _ _ _ _ f.1 f.2 f.3 c.requires.done),
 )

@@ -8,7 +8,7 @@ use Rattle.spindle_rounds.proofs.barrier.joining.join.Goals.{else-word-eq0-via-t
 use Rattle.spindle_rounds.specs.Words.{field_size, one_member}
 
 pub load-word-requires : goal.load-word-requires
-load-word-requires g c = (search rules, search rules, kept (loads g.D.Slots.discipline g.met.D.Slots.lawful _ _ _ _))
+load-word-requires g c = (search rules, search rules, kept (loads g.D.SlotContents.discipline g.met.D.SlotContents.lawful _ _ _ _))
 
 pub compare_exchange-requires : goal.compare_exchange-requires
 compare_exchange-requires g c = let n = c.load-word.result in
@@ -20,6 +20,6 @@ compare_exchange-requires g c = let n = c.load-word.result in
     ] in (
       search rules,
       search rules,
-      kept (joins g.D.Slots.discipline g.met.D.Slots.lawful _ _ _ _ _
+      kept (joins g.D.SlotContents.discipline g.met.D.SlotContents.lawful _ _ _ _ _
           (ap (λ m. m.standing) c.load-word.ensures.2.1 ∙ c.requires.away) fine (omega arith)),
     )

@@ -10,7 +10,7 @@ use Rattle.spindle_rounds.proofs.barrier.leaving.exit_once.Goals as goal
 use Rattle.spindle_rounds.proofs.barrier.leaving.exit_once.Goals.{then-most-eq1, else-most-eq1}
 
 pub load-word-requires : goal.load-word-requires
-load-word-requires g c = (search rules, search rules, kept (loads g.D.Slots.discipline g.met.D.Slots.lawful _ _ _ _))
+load-word-requires g c = (search rules, search rules, kept (loads g.D.SlotContents.discipline g.met.D.SlotContents.lawful _ _ _ _))
 
 pub compare_exchange-requires : goal.compare_exchange-requires
 compare_exchange-requires g c = let n = c.load-word.result in let is : c.if-most-eq1.less ≡ exit_word n = elim c.if-most-eq1.branch [
@@ -20,6 +20,6 @@ compare_exchange-requires g c = let n = c.load-word.result in let is : c.if-most
 ] in (
   search rules,
   search rules,
-  kept (exits_to g.D.Slots.discipline g.met.D.Slots.lawful _ _ _ _ _ _
+  kept (exits_to g.D.SlotContents.discipline g.met.D.SlotContents.lawful _ _ _ _ _ _
       (subst MayExit (sym c.load-word.ensures.2.1) c.requires.free) is),
 )

@@ -15,16 +15,16 @@ store-requires g c = let l = c.requires.leads in (
   search rules,
   omega arith,
   kept
-      (fills g.D.Slots.discipline g.met.D.Slots.lawful _ _ _ _ _ 0 _ (omega arith) l.0.1 l.1),
+      (fills g.D.SlotContents.discipline g.met.D.SlotContents.lawful _ _ _ _ _ 0 _ (omega arith) l.0.1 l.1),
 )
 
 pub store-requires-2 : goal.store-requires-2
 store-requires-2 g c = let l = subst MayFill (sym c.store.ensures.2.1) c.requires.leads in
-    (search rules, omega arith, kept (fills g.D.Slots.discipline g.met.D.Slots.lawful _ _ _ _ _ 1 _ (omega arith) l.0.1 l.1))
+    (search rules, omega arith, kept (fills g.D.SlotContents.discipline g.met.D.SlotContents.lawful _ _ _ _ _ 1 _ (omega arith) l.0.1 l.1))
 
 pub store-requires-3 : goal.store-requires-3
 store-requires-3 g c = let l = subst MayFill (sym c.store-2.ensures.2.1) (subst MayFill (sym c.store.ensures.2.1) c.requires.leads) in
-    (search rules, omega arith, kept (fills g.D.Slots.discipline g.met.D.Slots.lawful _ _ _ _ _ 2 _ (omega arith) l.0.1 l.1))
+    (search rules, omega arith, kept (fills g.D.SlotContents.discipline g.met.D.SlotContents.lawful _ _ _ _ _ 2 _ (omega arith) l.0.1 l.1))
 
 pub loop-i-init : goal.loop-i-init
 loop-i-init g c = let t = c.args.self.now.init.threads in let n = c.args.jobs in let v = c.args.seat.now.me.0 in let e = c.store-3.ensures.2.1 in (
@@ -36,7 +36,7 @@ loop-i-init g c = let t = c.args.self.now.init.threads in let n = c.args.jobs in
 
 pub store-requires-in-loop-i : goal.store-requires-in-loop-i
 store-requires-in-loop-i g c = let i = c.loop-i.i in let l = subst MayFill (sym c.loop-i.invariant.3) c.requires.leads in
-    (search rules, omega arith, kept (fills_range g.D.Slots.discipline g.met.D.Slots.lawful _ _ _ _ _ i _ (omega arith) l.0.1 l.1))
+    (search rules, omega arith, kept (fills_range g.D.SlotContents.discipline g.met.D.SlotContents.lawful _ _ _ _ _ i _ (omega arith) l.0.1 l.1))
 
 pub loop-i-preserved : goal.loop-i-preserved
 loop-i-preserved g c = let i = c.loop-i.i in let t = c.args.self.now.init.threads in let n = c.args.jobs in let v = c.args.seat.now.me.0 in

@@ -5,4 +5,4 @@ use Rattle.spindle_rounds.proofs.KeptSlots.{gives_back}
 use Rattle.spindle_rounds.proofs.round.Round.give_slots.Goals as goal
 
 pub load-requires : goal.load-requires
-load-requires g c = (search rules, omega arith, kept (gives_back g.D.Slots.discipline g.met.D.Slots.lawful _ _ _ _ c.requires.leads))
+load-requires g c = (search rules, omega arith, kept (gives_back g.D.SlotContents.discipline g.met.D.SlotContents.lawful _ _ _ _ c.requires.leads))

@@ -9,7 +9,7 @@ use Rattle.spindle_rounds.proofs.round.Round.longest.Goals as goal
 use Rattle.spindle_rounds.proofs.round.Round.longest.Goals.{then-length, else-length}
 
 pub load-found-requires : goal.load-found-requires
-load-found-requires g c = (search rules, omega arith, kept (searches g.D.Slots.discipline g.met.D.Slots.lawful _ _ _ _ _ (omega arith)))
+load-found-requires g c = (search rules, omega arith, kept (searches g.D.SlotContents.discipline g.met.D.SlotContents.lawful _ _ _ _ _ (omega arith)))
 
 pub loop-i-init : goal.loop-i-init
 loop-i-init g c = (refl, refl, ([], refl, refl, ((λ some. absurd (omega arith)), (λ z j lt. absurd (omega arith)))))

@@ -90,7 +90,7 @@ returns-clause-unbegun g c = λ q may_stop laid shown t s rule at k. let i = c.l
     let deeds : deeds_of w.trail ≡ deeds_of c.args.seat.now.me.0.trail = ap (λ z. deeds_of z.0.trail) e ∙ i.deeds in
     let sized : w.threads ≡ c.args.self.now.init.threads = all.threads ∙ c.requires.sized in let found = at_last g c in
     let length_is : ℕ = length c.args.marks.now.items in
-    let tells = every_leftover g.D.Slots.discipline w q length_is may_stop ((old.0.0, all.standing ∙ old.0.1), all.unpublished ∙ old.1) (all.laid ∙ laid)
+    let tells = every_leftover g.D.SlotContents.discipline w q length_is may_stop ((old.0.0, all.standing ∙ old.0.1), all.unpublished ∙ old.1) (all.laid ∙ laid)
     (subst (IsDeed (Showed q length_is may_stop)) (sym deeds) shown) (subst (AreKnown (stored_at w.known.stored)) (sym sized) found.0) t s rule at k in
     let marked = subst (λ (z : ℕ × ℕ). IsMarked c.mark-2.new.marks.items k ↔ IsLeftBy (stored_at w.known.stored) z.0 z.1 k) (λ j. (sym sized j, n j))
     (found.1 k) in

@@ -5,4 +5,4 @@ use Rattle.spindle_rounds.proofs.KeptLoads.{learns}
 use Rattle.spindle_rounds.proofs.round.Round.published.Goals as goal
 
 pub load-requires : goal.load-requires
-load-requires g c = (search rules, omega arith, kept (learns g.D.Slots.discipline g.met.D.Slots.lawful _ _ _ _))
+load-requires g c = (search rules, omega arith, kept (learns g.D.SlotContents.discipline g.met.D.SlotContents.lawful _ _ _ _))

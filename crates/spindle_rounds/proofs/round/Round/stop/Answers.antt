@@ -5,4 +5,4 @@ use Rattle.spindle_rounds.proofs.KeptStops.{halts}
 use Rattle.spindle_rounds.proofs.round.Round.stop.Goals as goal
 
 pub store-requires : goal.store-requires
-store-requires g c = (search rules, omega arith, kept (halts g.D.Slots.discipline g.met.D.Slots.lawful _ _ _ _ _ c.requires.own))
+store-requires g c = (search rules, omega arith, kept (halts g.D.SlotContents.discipline g.met.D.SlotContents.lawful _ _ _ _ _ c.requires.own))

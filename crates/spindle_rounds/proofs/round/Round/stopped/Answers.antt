@@ -5,4 +5,4 @@ use Rattle.spindle_rounds.proofs.KeptStops.{sees}
 use Rattle.spindle_rounds.proofs.round.Round.stopped.Goals as goal
 
 pub load-requires : goal.load-requires
-load-requires g c = (search rules, omega arith, kept (sees g.D.Slots.discipline g.met.D.Slots.lawful _ _ _ _ c.requires.inside))
+load-requires g c = (search rules, omega arith, kept (sees g.D.SlotContents.discipline g.met.D.SlotContents.lawful _ _ _ _ c.requires.inside))

@@ -10,16 +10,16 @@ use Rattle.spindle_rounds.proofs.RoundSearch.{took_at, recalled_view}
 use Rattle.spindle_rounds.proofs.round.Round.try_claim_rest.Goals as goal
 
 pub load-rest-requires : goal.load-rest-requires
-load-rest-requires g c = (search rules, omega arith, kept (remainder_reads g.D.Slots.discipline g.met.D.Slots.lawful _ _ _ _))
+load-rest-requires g c = (search rules, omega arith, kept (remainder_reads g.D.SlotContents.discipline g.met.D.SlotContents.lawful _ _ _ _))
 
 pub load-jobs-requires : goal.load-jobs-requires
-load-jobs-requires g c = (search rules, omega arith, kept (recalls g.D.Slots.discipline g.met.D.Slots.lawful _ _ _ _))
+load-jobs-requires g c = (search rules, omega arith, kept (recalls g.D.SlotContents.discipline g.met.D.SlotContents.lawful _ _ _ _))
 
 pub compare_exchange-found-requires : goal.compare_exchange-found-requires
 compare_exchange-found-requires g c = let r = recalled_view _ _ _ _ _ c.requires.free c.load-rest.ensures.2.1 c.load-jobs.ensures.2.1 in (
   search rules,
   omega arith,
-  kept (remainder_claims g.D.Slots.discipline g.met.D.Slots.lawful _ _ _ _ _ (subst MayClaim (sym r.0) c.requires.free)
+  kept (remainder_claims g.D.SlotContents.discipline g.met.D.SlotContents.lawful _ _ _ _ _ (subst MayClaim (sym r.0) c.requires.free)
       (omega arith)),
 )
 
@@ -36,7 +36,7 @@ returns-then-found-rest-clause-step g c = let n : ℕ = number_or c.args.seat.no
       v,
       b.0,
       b.1 ∙ (λ i. claiming_remainder (same i) (hit i) b.0 (r.0 i)),
-      took_at g.D.Slots.discipline _ _ _ _ _ b.0 ((λ i. same i - hit i) ∙ sym is) (c.load-jobs.ensures.2.0 ∙ c.load-rest.ensures.2.0) b.2,
+      took_at g.D.SlotContents.discipline _ _ _ _ _ b.0 ((λ i. same i - hit i) ∙ sym is) (c.load-jobs.ensures.2.0 ∙ c.load-rest.ensures.2.0) b.2,
       is,
       omega arith,
     )

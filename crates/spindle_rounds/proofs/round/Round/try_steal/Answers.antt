@@ -11,7 +11,7 @@ compare_exchange-requires g c = let r = c.longest-thread.ensures.read in let b =
     let w = ap (λ m. m.0) r.2 in (
       search rules,
       omega arith,
-      kept (steals g.D.Slots.discipline g.met.D.Slots.lawful _ _ _ _ _ _ _ (omega arith)
+      kept (steals g.D.SlotContents.discipline g.met.D.SlotContents.lawful _ _ _ _ _ _ _ (omega arith)
           (subst MayClaim (sym w) (may_still 0 r.0 c.args.seat.now.me.0 c.requires.free)) (omega arith) (omega arith) c.last_half-first.ensures),
     )
 

@@ -3,4 +3,4 @@ use Rattle.spindle_rounds.proofs.Leftovers.{every_leftover}
 use Rattle.spindle_rounds.proofs.round.leftovers.every_leftover.Goals as goal
 
 pub returns : goal.returns
-returns g c = λ v q n may_stop. every_leftover g.D.Slots.discipline v q n may_stop
+returns g c = λ v q n may_stop. every_leftover g.D.SlotContents.discipline v q n may_stop

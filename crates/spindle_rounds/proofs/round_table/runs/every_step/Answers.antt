@@ -17,7 +17,7 @@ use Rattle.spindle_rounds.proofs.KeptEnding.{exits_to, clears_round, ends_round}
 use Rattle.spindle_rounds.proofs.round_table.runs.every_step.Goals as goal
 
 pub returns : goal.returns
-returns g c = let D = g.D.Slots.discipline in let law : Lawful D = g.met.D.Slots.lawful in (
+returns g c = let D = g.D.SlotContents.discipline in let law : Lawful D = g.met.D.SlotContents.lawful in (
   opens D law,
   λ t slots id me. record {
     fill = λ j x low l. fills D law t slots id me l.0.0 j x low l.0.1 l.1;

@@ -8,7 +8,7 @@ unfolding WasLed
 returns g c = let e = c.new-leader.ensures in let t = c.muster-post.ensures.tables in (
   c.new-leader.result,
   _,
-  e.threads ∙ ap (λ t. t.crew.most) t,
-  e.hands ∙ ap (λ t. t.crew.threads) t,
+  e.threads ∙ ap (λ t. t.counts.most) t,
+  e.hands ∙ ap (λ t. t.counts.threads) t,
   record { shown = _; shows = refl; left = _; met = c.f-answer.ensures; leaves = refl },
 )

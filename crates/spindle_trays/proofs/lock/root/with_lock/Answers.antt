@@ -1,19 +1,19 @@
 -- The closure was called with a leader of this lock.
 use Rattle.std.proofs.Common.{◌≡◌, ap, sym, ◌∙◌, rules}
-use Rattle.spindle_threads.specs.declared.Crew.{Crew}
+use Rattle.spindle_threads.specs.declared.ThreadCounts.{ThreadCounts}
 use Rattle.spindle_trays.specs.Leaders.{WasLed}
-use Rattle.spindle_threads.specs.Crews.{lock_threads}
+use Rattle.spindle_threads.specs.ThreadCounts.{lock_threads}
 use Rattle.spindle_trays.proofs.lock.root.with_lock.Goals as goal
 
 pub returns-clause-promise : goal.returns-clause-promise
 unfolding WasLed
 returns-clause-promise g c =
-    let crew = c.in_ok-tables.ensures.crew in let new = c.new-crew.ensures in
-    let size : c.new-crew.result.most ≡ lock_threads c.args.pool.now.threads c.args.max_threads =
+    let counts = c.in_ok-tables.ensures.counts in let new = c.new-counts.ensures in
+    let size : c.new-counts.result.most ≡ lock_threads c.args.pool.now.threads c.args.max_threads =
     new.most ∙ ap (λ n. lock_threads n c.args.max_threads) c.max_num_threads.ensures.number in
     let p = c.scoped.ensures in
-    let most = p.2 ∙ ap (λ (k : Crew). k.most) crew in
-    (p.0, p.1, most ∙ size, p.3 ∙ (ap (λ (k : Crew). k.threads) crew ∙ new.all ∙ sym most), p.4)
+    let most = p.2 ∙ ap (λ (k : ThreadCounts). k.most) counts in
+    (p.0, p.1, most ∙ size, p.3 ∙ (ap (λ (k : ThreadCounts). k.threads) counts ∙ new.all ∙ sym most), p.4)
 
 pub returns-in_err-workspace-clause-memory : goal.returns-in_err-workspace-clause-memory
 returns-in_err-workspace-clause-memory g c = search rules

@@ -19,12 +19,12 @@ new-requires g c = let opened = c.in_ok-round.ensures.opened in record {
 
 pub invariant_of-new : goal.invariant_of-new
 invariant_of-new g c = record {
-  seated = subst (λ t. All (IsBenchAt t) c.in_ok-benches.benches.items) (sym c.in_ok-tables-2.ensures.ok) c.in_ok-benches.ensures.benches;
+  seated = subst (λ t. All (IsBenchAt t) c.in_ok-spare_seats.spare_seats.items) (sym c.in_ok-tables-2.ensures.ok) c.in_ok-spare_seats.ensures.spare_seats;
 }
 
 pub invariant_of-entry : goal.invariant_of-entry
 invariant_of-entry g c = let shared = c.in_ok-share.ensures ∙ c.in_ok-tables-2.ensures.ok in record {
-  seated = subst (λ t. AreSeatsAt t c.benches.new.seats) (sym shared) c.benches.ensures.seats;
+  seated = subst (λ t. AreSeatsAt t c.spare_seats.new.seats) (sym shared) c.spare_seats.ensures.seats;
   many = ap (λ t. slots_of t.round.init) shared ∙ (ap (λ r. slots_of r.init) c.in_ok-tables.ensures.round ∙ c.in_ok-round.ensures.opened.3);
   few = c.requires.slots;
 }
@@ -32,8 +32,8 @@ invariant_of-entry g c = let shared = c.in_ok-share.ensures ∙ c.in_ok-tables-2
 pub returns-clause-share : goal.returns-clause-share
 returns-clause-share g c = c.in_ok-share.ensures ∙ ap (λ n. arc_value n.tables) (sym c.in_ok-shared.ensures.ok)
 
-pub returns-clause-crew : goal.returns-clause-crew
-returns-clause-crew g c = ap (λ t. t.crew) (c.in_ok-share.ensures ∙ c.in_ok-tables-2.ensures.ok) ∙ c.in_ok-tables.ensures.crew
+pub returns-clause-counts : goal.returns-clause-counts
+returns-clause-counts g c = ap (λ t. t.counts) (c.in_ok-share.ensures ∙ c.in_ok-tables-2.ensures.ok) ∙ c.in_ok-tables.ensures.counts
 
 pub returns-clause-idling : goal.returns-clause-idling
 returns-clause-idling g c = ap (λ t. t.sleep.idling) (c.in_ok-share.ensures ∙ c.in_ok-tables-2.ensures.ok) ∙ c.in_ok-tables.ensures.idling

@@ -22,4 +22,4 @@ steal_taken D m w t steal.Again may sized a = let b = stolen D m w may t steal.A
 
 pub returns-in-Longest-clause-taken : goal.returns-in-Longest-clause-taken
 returns-in-Longest-clause-taken g c = rw (c.in-Longest.is, c.of_steal.ensures)
-    (steal_taken g.D.Slots.discipline _ c.try_steal.new.seat.me _ c.try_steal.result c.requires.free c.requires.sized c.try_steal.ensures.step)
+    (steal_taken g.D.SlotContents.discipline _ c.try_steal.new.seat.me _ c.try_steal.result c.requires.free c.requires.sized c.try_steal.ensures.step)

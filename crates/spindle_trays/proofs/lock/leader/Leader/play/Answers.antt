@@ -21,7 +21,7 @@ returns-in-Ok g c = let p = c.new-pieces.ensures in let own = c.in_ok-from_vec.e
       given_up = tt;
       refused = tt;
       trail = played_two c.args.jobs c.requires.jobs.0 (rw same at a.played);
-      lock = (ap (λ t. t.now.crew.most) a.tables, ap (λ t. t.now.crew.threads) a.tables);
+      lock = (ap (λ t. t.now.counts.most) a.tables, ap (λ t. t.now.counts.threads) a.tables);
     }
 
 pub returns : goal.returns
@@ -32,5 +32,5 @@ returns g c = let p = c.new-pieces.ensures in let own = c.in_ok-from_vec.ensures
       given_up = c.clear.ensures.items;
       refused = (rw same at c.in-Err.ensures.lost, c.requires.jobs.0, c.requires.threads);
       trail = rw same at a.played;
-      lock = (ap (λ t. t.now.crew.most) a.tables, ap (λ t. t.now.crew.threads) a.tables);
+      lock = (ap (λ t. t.now.counts.most) a.tables, ap (λ t. t.now.counts.threads) a.tables);
     }

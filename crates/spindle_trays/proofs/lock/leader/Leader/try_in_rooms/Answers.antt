@@ -43,7 +43,7 @@ returns g c = let p = c.play_rooms.ensures in let m = c.mark_left.ensures in let
       noted = rw (← c.as_slice-2.ensures.value) e.noted;
       whole = e.whole;
       memory = tt;
-      lock = (ap (λ t. t.now.crew.most) (m.tables ∙ p.tables), ap (λ t. t.now.crew.threads) (m.tables ∙ p.tables));
+      lock = (ap (λ t. t.now.counts.most) (m.tables ∙ p.tables), ap (λ t. t.now.counts.threads) (m.tables ∙ p.tables));
     }
 
 pub returns-then-count-eq1 : goal.returns-then-count-eq1

@@ -31,5 +31,5 @@ returns g c = let p = c.play_in_trays.ensures in let m = c.mark_left.ensures in 
       marks = m.count ∙ c.requires.marks;
       noted = rw (← c.as_slice.ensures.value) c.tally.ensures.noted;
       memory = tt;
-      lock = (ap (λ t. t.now.crew.most) (m.tables ∙ p.tables), ap (λ t. t.now.crew.threads) (m.tables ∙ p.tables));
+      lock = (ap (λ t. t.now.counts.most) (m.tables ∙ p.tables), ap (λ t. t.now.counts.threads) (m.tables ∙ p.tables));
     }

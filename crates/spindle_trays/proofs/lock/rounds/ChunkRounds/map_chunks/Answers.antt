@@ -14,7 +14,7 @@ pub returns-in_err-for_each_into-clause-refused : goal.returns-in_err-for_each_i
 returns-in_err-for_each_into-clause-refused g c =
     let some = some_items c.args.list.now c.is_empty.result c.is_empty.ensures c.if-is_empty.false in
     let same = jobs_of_chunks c.in_ok-chunks.chunks _ c.args.n_jobs some (c.requires.jobs some) c.in_ok-chunks.ensures.lengths in
-    subst (λ (jobs : ℕ). IfErr c.from_residual-in_err-for_each_into.result (g.Self.Rounds.refuses c.args.self.now jobs)) same (search rules)
+    subst (λ (jobs : ℕ). IfErr c.from_residual-in_err-for_each_into.result (g.Self.RunsRounds.refuses c.args.self.now jobs)) same (search rules)
 
 pub returns-in_err-chunks : goal.returns-in_err-chunks
 returns-in_err-chunks g c = let some = some_items c.args.list.now c.is_empty.result c.is_empty.ensures c.if-is_empty.false in

@@ -1,0 +1,82 @@
+-- The numbers of a share, one after another, or back into a range.
+use Rattle.std.proofs.Common.{arith, ◌∙◌, sym, subst, ap, inl, inr}
+use Rattle.spindle_rounds.specs.RoundConditions.{HasEmptiedAll}
+use Rattle.spindle_rounds.specs.Working.{IsIdle}
+use Rattle.spindle_rounds.proofs.RoundClients.{share_next}
+use Rattle.spindle_rounds.proofs.PartyWork.{went_first, went_then, went_more, went_still, share_taken, over_at, over_on, done_over}
+use Rattle.spindle_rounds.proofs.round.claimer.Claimer.run_share.Goals as goal
+
+pub loop-init : goal.loop-init
+loop-init g c = record {
+  went = went_first _ _ c.args.seat.now c.requires.at;
+  idle = c.requires.idle;
+  own = c.requires.share;
+  over = c.requires.over;
+  holds = c.requires.holds;
+  keeps = g.met.W.Work.keeps_same _;
+}
+
+pub put_back-requires-clause-free : goal.put_back-requires-clause-free
+put_back-requires-clause-free g c = let e = c.sees_stop.ensures in
+    (e.went.at.on.0.inside, e.same.1 ∙ c.loop.invariant.idle, e.seen ∙ c.if-sees_stop.true)
+
+pub next_of_share-requires-clause-free : goal.next_of_share-requires-clause-free
+next_of_share-requires-clause-free g c = let e = c.sees_stop.ensures in
+    (e.went.at.on.0.inside, e.same.1 ∙ c.loop.invariant.idle, e.seen ∙ c.if-sees_stop.false)
+
+pub returns-then-sees_stop-clause-went : goal.returns-then-sees_stop-clause-went
+returns-then-sees_stop-clause-went g c = went_then _ _ _ _ _ (went_then _ _ _ _ _ c.loop.invariant.went c.sees_stop.ensures.went) c.put_back.ensures.went
+
+pub returns-then-sees_stop-clause-over : goal.returns-then-sees_stop-clause-over
+returns-then-sees_stop-clause-over g c = λ _. inr (inl c.put_back.ensures.seen)
+
+pub returns-then-sees_stop-clause-holds : goal.returns-then-sees_stop-clause-holds
+returns-then-sees_stop-clause-holds g c = rw (c.put_back.ensures.hands, c.sees_stop.ensures.hands) c.loop.invariant.holds
+
+pub run-requires-clause-at : goal.run-requires-clause-at
+run-requires-clause-at g c = let i = c.loop.invariant in let e = c.sees_stop.ensures in let a = c.sees_stop.new.seat in let b = c.next_of_share.new.seat in
+    let n = share_next g.D.SlotContents.discipline a.me b.me _ _ c.loop.share c.next_of_share.new.share
+    (e.went.at.on.0.inside, e.same.1 ∙ i.idle, e.seen ∙ c.if-sees_stop.false)
+    (i.own.0 ∙ sym e.same.0.0, i.own.1 ∙ sym e.same.0.1) c.in-Some-next_of_share.ensures.step in
+    (went_more _ _ _ a b (went_then _ _ _ _ _ i.went e.went) c.next_of_share.ensures.seat n.0 (λ _. n.1)).at
+
+pub run-requires-clause-taken : goal.run-requires-clause-taken
+run-requires-clause-taken g c =
+    share_taken g.D.SlotContents.discipline (λ h.
+    g.W.Work.holds c.loop.work h) c.sees_stop.new.seat.me c.next_of_share.new.seat.me _ _ c.loop.share c.next_of_share.new.share
+    c.in-Some-next_of_share.ensures.step (rw c.sees_stop.ensures.hands c.loop.invariant.holds)
+
+pub loop-preserved : goal.loop-preserved
+loop-preserved g c = let i = c.loop.invariant in let e = c.sees_stop.ensures in let f = c.run.ensures in let a = c.sees_stop.new.seat in
+    let b = c.next_of_share.new.seat in
+    let n = share_next g.D.SlotContents.discipline a.me b.me _ _ c.loop.share c.next_of_share.new.share
+    (e.went.at.on.0.inside, e.same.1 ∙ i.idle, e.seen ∙ c.if-sees_stop.false)
+    (i.own.0 ∙ sym e.same.0.0, i.own.1 ∙ sym e.same.0.1) c.in-Some-next_of_share.ensures.step in
+    let claimed = went_more _ _ _ a b (went_then _ _ _ _ _ i.went e.went) c.next_of_share.ensures.seat n.0 (λ _. n.1) in record {
+      went = went_more _ _ _ b c.run.new.seat claimed f.seat f.finished.0 f.finished.1;
+      idle = f.finished.3;
+      own = (n.3.0 ∙ sym f.finished.2.0, n.3.1 ∙ sym f.finished.2.1);
+      over = λ e. over_at _ _ b c.run.new.seat c.run.result claimed.at f.finished (c.is_last-is_over.ensures e);
+      holds = f.holds;
+      keeps = g.met.W.Work.keeps_then _ _ _ i.keeps f.keeps;
+    }
+
+pub returns-in-None-next_of_share-clause-went : goal.returns-in-None-next_of_share-clause-went
+returns-in-None-next_of_share-clause-went g c = went_still _ _ _ c.sees_stop.new.seat c.next_of_share.new.seat
+    (went_then _ _ _ _ _ c.loop.invariant.went c.sees_stop.ensures.went) c.next_of_share.ensures.seat c.in-None-next_of_share.ensures.step.0
+
+pub returns-in-None-next_of_share-clause-idle : goal.returns-in-None-next_of_share-clause-idle
+returns-in-None-next_of_share-clause-idle g c = let i = c.loop.invariant in let e = c.sees_stop.ensures in let step = c.in-None-next_of_share.ensures.step in
+    let own = i.own in let same = e.same.0 in let empty = step.2 in
+    let idle : IsIdle c.sees_stop.new.seat.me.0 = (e.same.1 ∙ i.idle, (let x = own.0 in let y = own.1 in let p = same.0 in let q = same.1 in omega arith)) in
+    subst (λ m. IsIdle m.0) (sym step.0) idle
+
+pub returns-in-None-next_of_share-clause-over : goal.returns-in-None-next_of_share-clause-over
+returns-in-None-next_of_share-clause-over g c = let i = c.loop.invariant in let e = c.sees_stop.ensures in let step = c.in-None-next_of_share.ensures.step in
+    let went = went_still _ _ _ c.sees_stop.new.seat c.next_of_share.new.seat (went_then _ _ _ _ _ i.went e.went) c.next_of_share.ensures.seat step.0 in
+    λ over. done_over _ _ c.next_of_share.new.seat went.at
+    (subst (λ m. HasEmptiedAll m.0) (sym step.0) (over_on c.loop.seat.me.0 c.sees_stop.new.seat.me.0 e.went.on (i.over over)))
+
+pub returns-in-None-next_of_share-clause-holds : goal.returns-in-None-next_of_share-clause-holds
+returns-in-None-next_of_share-clause-holds g c = subst (λ h. g.W.Work.holds c.loop.work h)
+    (sym (ap (λ m. m.1) c.in-None-next_of_share.ensures.step.0 ∙ c.sees_stop.ensures.hands)) c.loop.invariant.holds

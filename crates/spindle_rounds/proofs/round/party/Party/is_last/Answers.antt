@@ -1,5 +1,0 @@
-use Rattle.std.proofs.Common.{rules}
-use Rattle.spindle_rounds.proofs.round.party.Party.is_last.Goals as goal
-
-pub returns : goal.returns
-returns g c = search rules

@@ -1,5 +1,0 @@
-use Rattle.std.proofs.Common.{rules}
-use Rattle.spindle_rounds.proofs.round.pieces.Round+Pieces+A.take_piece.Goals as goal
-
-pub exchange-requires : goal.exchange-requires
-exchange-requires g c = search rules

@@ -1,4 +1,0 @@
-use Rattle.spindle_rounds.proofs.round.pieces.Round+Pieces+A.with_slots.Goals as goal
-
-pub returns-clause-opened : goal.returns-clause-opened
-returns-clause-opened g c = c.in_ok-init.ensures.opened

@@ -1,0 +1,60 @@
+//! A party at a barrier, without the way to the barrier: what it keeps while it borrows nothing.
+ghost use Rattle.std.specs.Prelude.{◌≡◌};
+ghost use Rattle.spindle_rounds.specs.Stances.{IsStanceOf};
+
+use crate::barrier::{Barrier, BarrierInit};
+use crate::round_table::Seat;
+use crate::round_table::slots::SlotContents;
+
+/// What a party holds of its own. At its barrier it is that party again.
+#[derive(Drop)]
+pub struct DetachedParty<D: SlotContents> {
+    /// What the party steps with.
+    pub seat: Seat<D>,
+    sense: u64,
+    is_member: bool,
+    thread_id: usize,
+}
+
+impl<'a, D: SlotContents> Barrier<'a, D> {
+    /// The party without its barrier.
+    pub fn part(self) -> DetachedParty<D>
+        ensures { IsStanceOf self.entry result }
+    {
+        let Barrier {
+            init: _,
+            seat,
+            sense,
+            is_member,
+            thread_id,
+        } = self;
+        DetachedParty {
+            seat,
+            sense,
+            is_member,
+            thread_id,
+        }
+    }
+}
+
+impl<D: SlotContents> BarrierInit<D> {
+    /// The party at this barrier.
+    pub fn resume(&self, stance: DetachedParty<D>) -> Barrier<'_, D>
+        ensures party { IsStanceOf result stance }
+        ensures barrier { result.init.now ≡ self.now }
+    {
+        let DetachedParty {
+            seat,
+            sense,
+            is_member,
+            thread_id,
+        } = stance;
+        Barrier {
+            init: self,
+            seat,
+            sense,
+            is_member,
+            thread_id,
+        }
+    }
+}

@@ -1,0 +1,110 @@
+//! What the threads of a lock with slots share beside its tables, and what its leader is known by.
+//!
+//! A closure's bound can name neither a table nor a party at one, nor a type that keeps a fact about a kind of job. So the leader
+//! knows its post as a type P of which only the calls of `OpensSlots<P>` are known.
+ghost use Rattle.std.specs.Prelude.{◌≡◌, ℕ, ◌≤◌, [], true, IfOk, OnErr, IsErrOf, IsSome};
+ghost use Rattle.std.specs.Option.{ForSome};
+ghost use Rattle.spindle_rounds.specs.declared.round_table.view.View.{View};
+ghost use Rattle.spindle_rounds.specs.RoundConditions.{MayFill};
+ghost use Rattle.spindle_rounds.specs.Seating.{HasSlots, IsSeatAt};
+ghost use Rattle.spindle_rounds.specs.RoundSteps.{outsider};
+
+use crate::threads::slot_member::LeaderSeats;
+use crate::leader_states::sealed::HasLeaderState;
+use crate::running::in_slots::{RunsPieces, take_part_in_slots};
+use spindle_threads::members::Members;
+use spindle_threads::member::Member;
+use spindle_threads::tables::Tables;
+use spindle_parts::fault::Fault;
+use spindle_rounds::round::Round;
+use spindle_rounds::round::published_round::PublishedRound;
+use spindle_rounds::round_table::Seat;
+use spindle_rounds::round_table::pieces::PieceSlots;
+use spindle_rounds::round_table::slots::SlotContents;
+use spindle_trays::job::Job;
+use spindle_trays::job::gate::Gate;
+use spindle_trays::job::nest::Nest;
+use spindle_trays::lock::part::TakesPart;
+use spindle_trays::running::runner::Runner;
+use std::alloc::Global;
+use std::sync::Wait;
+use std::thread::Threads;
+
+/// What the threads of a lock with slots over jobs of kind J share beside its tables.
+#[derive(Drop)]
+pub struct SlotWorkspace<J: Job> {
+    children: <J::Inner as Nest>::ChildSlots,
+}
+
+impl<J: Job> SlotWorkspace<J> {
+    /// These child slots.
+    pub fn new(children: <J::Inner as Nest>::ChildSlots) -> SlotWorkspace<J> {
+        SlotWorkspace { children }
+    }
+}
+
+impl<J: Job, A: RunsPieces<J>> TakesPart<J, PieceSlots<A>> for SlotWorkspace<J> {
+    fn children(&self) -> &<J::Inner as Nest>::ChildSlots {
+        &self.children
+    }
+
+    fn members<'a>(tables: &'a Tables<PieceSlots<A>>) -> Members<'a> {
+        Members::Present(&tables.present)
+    }
+
+    fn take_part<'a, G: Gate, H: Threads + Wait + Sync>(
+        &self,
+        rt: &H,
+        alloc: Global,
+        post: &mut Member<'a, PieceSlots<A>>,
+        runner: &mut Runner<'_, J, G>,
+        task: PublishedRound,
+    ) {
+        take_part_in_slots::<J, A, G, H>(rt, alloc, post, runner, task);
+    }
+}
+
+/// The kinds of jobs whose locks with slots have a leader's post of type P. Each kind of job has one, `SlotLeaderState<J>`,
+/// which a caller leaves to the compiler; the trait's calls are the library's own, and nobody else can implement it.
+pub trait OpensSlots<P>: Job + HasLeaderState<P> {
+    /// What a party notes of the piece that it has begun.
+    type Note;
+
+    /// What the leader's seat at the round table knows, with the trail of its own steps.
+    ghost view: { P → View Self.Note };
+
+    /// How many slots there are.
+    ghost slot_count: { P → ℕ };
+
+    /// How many slots there are.
+    fn slots(post: &P) -> usize
+        ensures number { result ≡ Self.OpensSlots.slot_count post.now }
+        ensures range { (1 ≤ result) × (result ≤ 4294967295) }
+        ensures between { MayFill (Self.OpensSlots.view post.now) };
+
+    /// Wakes those who sleep until news comes: exit is announced.
+    fn wake<H: Wait>(rt: &H, post: &P);
+
+    /// Leaves the lock's barrier.
+    fn leave<H: Wait>(rt: &H, post: P);
+}
+
+/// How such a lock is made, where its round table has D's slots. Each kind of job has one D, `PieceSlots<PieceOf<J>>`.
+pub trait MakesSlots<P, D: SlotContents, L>: OpensSlots<P> {
+    /// The workspace of a lock of so many threads.
+    fn workspace(alloc: Global, threads: usize) -> Result<L, Fault>
+        ensures { OnErr result (IsErrOf result Fault.Memory) };
+
+    /// The rounds of so many threads with so many slots, and the leader's seat.
+    fn rounds(alloc: Global, threads: usize, slots: usize) -> Result<(Round<D>, Seat<D>), Fault>
+        requires threads { (1 ≤ threads) × (threads ≤ 32767) }
+        ensures opened { IfOk result (λ t. (t.0.init.threads ≡ threads)
+            × IsSeatAt t.0.init t.1 × HasSlots t.0.init slots
+            × (t.1.me ≡ (outsider threads true, []))) }
+        ensures memory { OnErr result (IsErrOf result Fault.Memory) };
+
+    /// The post of a leader that has joined its barrier, and has done nothing with the slots.
+    fn settle(leader_seats: &mut Option<LeaderSeats<D>>) -> P
+        requires { IsSome leader_seats.old }
+        ensures { ForSome leader_seats.old (λ n. Self.OpensSlots.slot_count result ≡ n.slots) };
+}

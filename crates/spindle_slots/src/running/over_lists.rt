@@ -1,0 +1,91 @@
+//! Rounds over lists: a thread runs the items of its piece, and puts their outputs into the piece's slot.
+ghost use Rattle.std.specs.Prelude.{◌≡◌, ◌≤◌, [], true, length, vec_capacity, OnOk, OnErr, IsErrOf};
+ghost use Rattle.std.specs.List.{AllZip};
+ghost use Rattle.spindle_rounds.specs.Holding.{Keeps};
+ghost use Rattle.spindle_rounds.specs.Working.{PlayedRound};
+ghost use Rattle.spindle_slots.specs.SlotRounds.{LeadsIn};
+
+use crate::threads::slot_tables::SlotTables;
+use crate::pieces::items::FillsSlots;
+use crate::pieces::of_kind::PieceOf;
+use crate::pieces::output_buffers::OutputBuffers;
+use crate::pieces::slot_piece::{Batch, OneOr, Outputs};
+use crate::running::in_slots::{RunsPieces, SlotWork};
+use spindle_parts::fault::Fault;
+use spindle_rounds::barrier::Barrier;
+use spindle_rounds::round_table::pieces::PieceSlots;
+use spindle_trays::job::Job;
+use spindle_trays::job::gate::Gate;
+use spindle_trays::running::runner::Runner;
+use std::alloc::Global;
+use std::sync::Wait;
+use std::thread::Threads;
+
+impl<'t, J: Job> SlotTables<'t, PieceSlots<PieceOf<J>>> {
+    /// A leader's round: the pieces of the items go into the slots, are played, and their outputs come out of the slots, in order.
+    /// Memory is refused before the publish alone.
+    pub(crate) fn play<S: FillsSlots<J>, G: Gate, H: Threads + Wait + Sync>(
+        &self,
+        rt: &H,
+        alloc: Global,
+        barrier: &mut Barrier<'_, PieceSlots<PieceOf<J>>>,
+        runner: &mut Runner<'_, J, G>,
+        items: &mut S,
+        rooms: &mut OutputBuffers<J::In, J::Out>,
+        outputs: &mut Vec<J::Out>,
+    ) -> Result<(), Fault>
+        requires leads { LeadsIn self.now.tables.now barrier.old }
+        requires counted { (2 ≤ S.pieces items.old) × (S.pieces items.old ≤ 4294967295) }
+        requires few { S.pieces items.old ≤ self.now.slots }
+        requires empty { outputs.old.items ≡ [] }
+        requires room { length (S.items items.old) ≤ vec_capacity outputs.old }
+        ensures leads { LeadsIn self.now.tables.now barrier.new }
+        ensures same { Keeps barrier.old barrier.new }
+        ensures answered { OnOk result (AllZip J.meets (S.items items.old) outputs.new.items) }
+        ensures played { OnOk result
+            (PlayedRound (S.pieces items.old) barrier.old.seat.me.0 barrier.new.seat.me.0) }
+        ensures left { OnErr result (barrier.new.seat.me.0 ≡ barrier.old.seat.me.0) }
+        ensures memory { OnErr result (IsErrOf result Fault.Memory) }
+    {
+        let pieces = items.pieces();
+        items.fill(alloc, self, &mut barrier.seat, rooms)?;
+        let mut signals = runner.signals.another();
+        let work = SlotWork {
+            runner,
+            alloc,
+            leads: true,
+        };
+        self.play_held(rt, barrier, &mut signals, pieces as u64, work);
+        let round = &self.tables.round;
+        for slot in 0..pieces {
+            let answer = round.take_answer(&mut barrier.seat, slot);
+            rooms.keep(slot, answer.unload(outputs));
+        }
+        round.turn_slots(&mut barrier.seat, pieces, self.slots);
+        Ok(())
+    }
+}
+
+impl<J: Job> RunsPieces<J> for PieceOf<J> {
+    fn run_piece<G: Gate, H: Threads + Wait + Sync>(
+        rt: &H,
+        alloc: Global,
+        runner: &mut Runner<'_, J, G>,
+        number: usize,
+        piece: &mut Option<OneOr<J::In, Batch<J::In, J::Out>>>,
+    ) -> OneOr<J::Out, Outputs<J::In, J::Out>> {
+        let index = runner.site.index;
+        let Some(piece) = piece.take() else {
+            unreachable!()
+        };
+        match piece {
+            OneOr::One(item) => OneOr::One(runner.run_one(rt, alloc, number, index, &item)),
+            OneOr::Many(batch) => {
+                let (inputs, mut parts) = batch.into_parts();
+                let items = inputs.as_slice();
+                runner.run(rt, alloc, number, index, items, &mut parts.outputs);
+                OneOr::Many(Outputs::new(parts))
+            }
+        }
+    }
+}

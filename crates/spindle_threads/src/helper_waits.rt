@@ -1,0 +1,106 @@
+//! What a helper does between the rounds in which it takes part, whatever the kind of job: it comes to a thread number, waits for
+//! news, and ends its part of a round.
+ghost use Rattle.std.specs.Prelude.{◌≡◌, ◌<◌, false};
+ghost use Rattle.spindle_parts.specs.ThreadNumbers.{IsSeatOf, IsSameSeat as IsSameNumberSeat};
+ghost use Rattle.spindle_parts.specs.declared.numbers.plays.Holding.TheVariants.{Nothing, Has};
+ghost use Rattle.spindle_threads.specs.Posts.{party_view};
+ghost use Rattle.spindle_threads.specs.Accounts.{account_of};
+ghost use Rattle.spindle_threads.specs.Helpers.{IsHelperAt, IsNews, seat_of};
+ghost use Rattle.spindle_threads.specs.Waits.{WaitedForNews, patience_of};
+ghost use Rattle.spindle_rounds.specs.RoundConditions.{IsDone};
+ghost use Rattle.spindle_rounds.specs.Seating.{IsSameSeat};
+
+use crate::signals::Signals;
+use crate::publish_and_end::end_or_leave;
+use crate::member::{Member, Whereabouts};
+use spindle_parts::numbers;
+use spindle_parts::numbers::{Numbers, Take};
+use spindle_rounds::barrier::ExitStatus;
+use spindle_rounds::round::published_round::PublishedRound;
+use spindle_rounds::round_table::slots::SlotContents;
+use std::sync::Wait;
+use std::thread;
+
+/// Takes a thread number, and tries again until it has one.
+pub fn take_number<H: Wait>(rt: &H, numbers: &Numbers, seat: &mut numbers::Seat) -> usize
+    requires seated { IsSeatOf numbers.now seat.old }
+    requires no_number { seat.old.me.0.holding ≡ Nothing }
+    ensures seat { IsSeatOf numbers.now seat.new }
+    ensures same { IsSameNumberSeat seat.old seat.new }
+    ensures own { seat.new.me.0.holding ≡ Has result }
+    ensures number { result < numbers.now.threads }
+{
+    for _ in rt.forever() {
+        if let Take::Taken(number) = numbers.try_take(seat) {
+            return number;
+        }
+        thread::yield_now();
+    }
+    unreachable!()
+}
+
+/// What a helper has waited for.
+#[derive(Drop)]
+pub enum News {
+    /// Exit is announced.
+    Exit,
+    /// A round is published.
+    Round(PublishedRound),
+    /// Nested locks ask for helpers.
+    Requests,
+}
+
+/// Waits for a round, for requests, or for the announcement of exit.
+pub fn await_news<'a, D: SlotContents, H: Wait>(
+    rt: &H,
+    post: &mut Member<'a, D>,
+    signals: &mut Signals<'a>,
+) -> News
+    ensures news { IsNews (party_view post.new.barrier) result }
+    ensures turns { WaitedForNews (patience_of post.old.tables.now) result
+        (account_of signals.old) (account_of signals.new)
+        (party_view post.old.barrier) (party_view post.new.barrier) }
+    ensures post { (post.new.tables ≡ post.old.tables) × (post.new.thread ≡ post.old.thread) }
+    ensures leader { (party_view post.new.barrier).leader ≡ (party_view post.old.barrier).leader }
+    ensures seat { IsSameSeat post.old.barrier.seat post.new.barrier.seat }
+{
+    let mut idle = post.tables.sleep.idle_until_news();
+    for _ in rt.forever() {
+        if signals.is_exit_announced() {
+            return News::Exit;
+        }
+        if let Some(task) = post.task() {
+            return News::Round(task);
+        }
+        if signals.requests_if(idle.looks_at_requests()) > 0 {
+            return News::Requests;
+        }
+        idle.pass(rt, signals.is_rest_announced());
+    }
+    unreachable!()
+}
+
+/// Waits until the round has ended, or leaves where nested locks ask for helpers.
+pub fn end_part<'a, D: SlotContents, H: Wait>(
+    rt: &H,
+    post: Member<'a, D>,
+    signals: &mut Signals<'_>,
+) -> Whereabouts<'a, D>
+    requires helper { (party_view post.barrier).leader ≡ false }
+    requires done { IsDone (party_view post.barrier) }
+    ensures at { IsHelperAt post.entry.tables.now post.entry.thread result }
+    ensures seat { IsSameSeat post.entry.barrier.seat (seat_of result) }
+{
+    let Member {
+        tables,
+        barrier,
+        thread,
+    } = post;
+    match end_or_leave(rt, tables, barrier, signals) {
+        ExitStatus::Exit(seat) => {
+            tables.present.go();
+            Whereabouts::Out(seat)
+        }
+        ExitStatus::Remain(barrier) => Whereabouts::In(Member::new(tables, barrier, thread)),
+    }
+}

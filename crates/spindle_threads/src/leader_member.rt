@@ -1,0 +1,68 @@
+//! The leader's post: it publishes rounds, and works in them.
+ghost use Rattle.std.specs.Prelude.{◌≡◌, ◌↔◌, ℕ, Bool, true, length};
+ghost use Rattle.spindle_threads.specs.Posts.{LastPublished, party_view};
+ghost use Rattle.spindle_threads.specs.SlotMembers.{StandsAt};
+ghost use Rattle.spindle_rounds.specs.Leftovers.{AreUnbegun, IsMarked, IsFoundLeft};
+ghost use Rattle.spindle_rounds.specs.RoundSlots.{bare};
+ghost use Rattle.spindle_rounds.specs.RoundViews.{published_of};
+
+use crate::member::Member;
+use spindle_rounds::barrier::detached_party::DetachedParty;
+use spindle_rounds::round_table::slots::{Bare, SlotContents};
+
+/// The post of a lock's leader, whose thread number is 0.
+#[derive(Drop)]
+pub struct LeaderMember<'a, D: SlotContents> {
+    /// Its post as a thread of the lock.
+    pub post: Member<'a, D>,
+    ghost leads: { (party_view post.barrier).leader ≡ true },
+    ghost first: { post.thread ≡ 0 },
+}
+
+impl<'a, D: SlotContents> LeaderMember<'a, D> {
+    /// The post of a party whose seat is the leader's.
+    pub fn new(post: Member<'a, D>) -> LeaderMember<'a, D>
+        requires leader { (party_view post.barrier).leader ≡ true }
+        requires thread { post.thread ≡ 0 }
+        ensures { result.post ≡ post.entry }
+    {
+        LeaderMember { post }
+    }
+
+    /// What the leader keeps of its own, to come back to its barrier with.
+    pub fn part(self) -> DetachedParty<D>
+        ensures stands { StandsAt self.entry.post.tables.now result }
+        ensures seat { result.seat ≡ self.entry.post.barrier.seat }
+    {
+        let LeaderMember { post } = self;
+        let Member {
+            tables: _,
+            barrier,
+            thread: _,
+        } = post;
+        barrier.part()
+    }
+}
+
+impl<'a> LeaderMember<'a, Bare> {
+    /// After a round marks the numbers that it has left, of as many as there are marks: where the leader has published so many jobs
+    /// last, those that nobody has begun.
+    pub fn mark_left(&mut self, marks: &mut Vec<bool>)
+        requires unmarked { (k : ℕ) → IsMarked marks.old.items k → ⊥ }
+        ensures count { length marks.new.items ≡ length marks.old.items }
+        ensures left { let tables = self.old.post.tables.now in (k : ℕ) → IsMarked marks.new.items k
+            ↔ IsFoundLeft (party_view self.new.post.barrier) tables.counts.threads
+            (length marks.old.items) k }
+        ensures unbegun { let n = length marks.old.items in (q : ℕ) (may_stop : Bool)
+            → LastPublished q n may_stop (party_view self.old.post.barrier)
+            → AreUnbegun bare q n (party_view self.new.post.barrier) (IsMarked marks.new.items) }
+        ensures standing { (party_view self.new.post.barrier).standing
+            ≡ (party_view self.old.post.barrier).standing }
+        ensures published { published_of (party_view self.new.post.barrier).trail
+            ≡ published_of (party_view self.old.post.barrier).trail }
+        ensures tables { self.new.post.tables ≡ self.old.post.tables }
+    {
+        let post = &mut self.post;
+        post.tables.round.mark_left(&mut post.barrier.seat, marks);
+    }
+}

@@ -1,0 +1,141 @@
+//! What a lock's threads announce to each other: that all rest until the next round, that the helpers end, and how many
+//! helpers nested locks ask for.
+ghost use Rattle.std.specs.Prelude.{◌≡◌, ◌<◌, ◌+◌, [], true, false};
+ghost use Rattle.spindle_parts.specs.LedgerSeats.{IsSeatOf, slot_count};
+ghost use Rattle.spindle_parts.specs.LedgerSteps.{blank};
+ghost use Rattle.spindle_parts.specs.declared.words.TheConstants.{REQUESTS};
+ghost use Rattle.spindle_threads.specs.Signals.{Read, ReadExit, ReadRest, AnnouncedExit, AnnouncedRest, EndedRest, TookPlace};
+
+use crate::helper_requests::HelperRequest;
+use crate::tables::Tables;
+use spindle_parts::requests::{Requests, Seat, TakePlace};
+use spindle_rounds::round_table::slots::SlotContents;
+
+/// A thread's access to the notices of its lock. It answers for no request between two calls.
+#[derive(Drop)]
+pub struct Signals<'a> {
+    ledger: &'a Requests,
+    seat: Seat,
+    slots: usize,
+    ghost seated: { IsSeatOf ledger.now seat },
+    ghost counted: { slot_count ledger.now ≡ slots },
+    ghost no_credit: { seat.me.0.credit ≡ 0 },
+}
+
+impl<'a> Signals<'a> {
+    ghost use Rattle.spindle_threads.specs.Accounts.{account_of, IsSameThread};
+
+    /// The notices, by a seat of their ledger, which has so many child slots.
+    pub fn new(ledger: &'a Requests, seat: Seat, slots: usize) -> Signals<'a>
+        requires seated { IsSeatOf ledger.now seat }
+        requires counted { slot_count ledger.now ≡ slots }
+        requires no_credit { seat.me.0.credit ≡ 0 }
+        ensures { result.seat ≡ seat }
+    {
+        Signals {
+            ledger,
+            seat,
+            slots,
+        }
+    }
+
+    /// The same for another thread.
+    pub fn another(&mut self) -> Signals<'a>
+        ensures old { self.new.seat.me ≡ self.old.seat.me }
+        ensures new { result.seat.me ≡ (blank, []) }
+    {
+        let seat = self.ledger.new_seat(&mut self.seat);
+        Signals {
+            ledger: self.ledger,
+            seat,
+            slots: self.slots,
+        }
+    }
+
+    /// How many child slots there are.
+    pub fn slots(&self) -> usize
+        ensures { result ≡ self.now.slots }
+    {
+        self.slots
+    }
+
+    /// How many helpers nested locks ask for.
+    pub fn requests(&mut self) -> u64
+        ensures read { Read REQUESTS result (account_of self.old) (account_of self.new) }
+        ensures same { IsSameThread self.old self.new }
+    {
+        self.ledger.requests(&mut self.seat)
+    }
+
+    /// The same where the thread looks at all; where it doesn't, it sees none.
+    pub fn requests_if(&mut self, looks: bool) -> u64
+        ensures read { looks ≡ true → Read REQUESTS result (account_of self.old) (account_of self.new) }
+        ensures unread { looks ≡ false → (result ≡ 0) × (account_of self.new ≡ account_of self.old) }
+        ensures same { IsSameThread self.old self.new }
+    {
+        if looks { self.requests() } else { 0 }
+    }
+
+    /// Tries once to take a place of the slot, and lowers requests by it.
+    pub fn takes_place(&mut self, slot: usize) -> bool
+        requires slot { slot < self.old.slots }
+        ensures took { TookPlace slot result (account_of self.old) (account_of self.new) }
+        ensures same { IsSameThread self.old self.new }
+    {
+        match self.ledger.try_take_place(&mut self.seat, slot) {
+            TakePlace::Taken => {
+                self.ledger.subtract(&mut self.seat, 1);
+                true
+            }
+            _ => false,
+        }
+    }
+
+    /// Asks for a helper for each thread but the leader of the lock with these tables, by a seat that answers for them.
+    pub fn ask<D: SlotContents>(&mut self, tables: &Tables<D>) -> HelperRequest<'a>
+        ensures old { self.new.seat.me ≡ self.old.seat.me }
+        ensures same { IsSameThread self.old self.new }
+        ensures slots { result.slots ≡ self.old.slots }
+        ensures helpers { 1 + result.helpers ≡ tables.now.counts.threads }
+    {
+        let seat = self.ledger.new_seat(&mut self.seat);
+        HelperRequest::new(self.ledger, seat, self.slots, tables.counts.threads() - 1)
+    }
+
+    /// Whether the helpers are to end.
+    pub fn is_exit_announced(&mut self) -> bool
+        ensures read { ReadExit result (account_of self.old) (account_of self.new) }
+    {
+        self.ledger.exit_announced(&mut self.seat)
+    }
+
+    /// Tells the helpers to end.
+    pub fn announce_exit(&mut self)
+        ensures told { AnnouncedExit (account_of self.old) (account_of self.new) }
+    {
+        self.ledger.announce_exit(&mut self.seat, true);
+    }
+
+    /// Whether idle threads are to sleep at once.
+    pub fn is_rest_announced(&mut self) -> bool
+        ensures read { ReadRest result (account_of self.old) (account_of self.new) }
+    {
+        self.ledger.rest_announced(&mut self.seat)
+    }
+
+    /// Tells idle threads to sleep at once until the next round.
+    pub fn announce_rest(&mut self)
+        ensures told { AnnouncedRest (account_of self.old) (account_of self.new) }
+    {
+        self.ledger.announce_rest(&mut self.seat, true);
+    }
+
+    /// A round is about to come: idle threads make their turns again.
+    pub fn end_rest(&mut self)
+        ensures ended { EndedRest (account_of self.old) (account_of self.new) }
+    {
+        if self.ledger.rest_announced(&mut self.seat) {
+            self.ledger.announce_rest(&mut self.seat, false);
+        }
+    }
+}

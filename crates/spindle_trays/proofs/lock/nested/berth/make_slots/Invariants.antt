@@ -1,6 +1,0 @@
--- There is room for the slots that are left.
-use Rattle.std.proofs.Common.{◌≡◌, vec_len, vec_capacity, ◌≤◌}
-use Rattle.spindle_trays.proofs.lock.nested.berth.make_slots.Given as goal
-
-abbrev pub invariant-loop : goal.invariant-loop
-invariant-loop g l = (vec_len l.slots ≡ l.counter) × (l.threads ≤ vec_capacity l.slots)

@@ -1,0 +1,108 @@
+//! The pieces of a round's items, as `cut` cuts them: runs of one list, which no piece moves or clones.
+ghost use Rattle.std.specs.Prelude.{◌≡◌, ◌+◌, ◌/◌, ◌%◌, ◌^◌, ◌<◌, ◌≤◌, IfOk, get_or, length, min};
+ghost use Rattle.spindle_parts.specs.Pieces.{cut_lengths};
+ghost use Rattle.spindle_trays.specs.PieceRuns.{piece_start, piece_at};
+
+use spindle_parts::lists::run::ListRun;
+use spindle_parts::lists::shared::SharedList;
+use spindle_rounds::round::published_round::PublishedRound;
+use std::alloc::AllocError;
+
+/// A list of items, and how many pieces it is cut into.
+#[derive(Drop)]
+pub struct ListRuns<T> {
+    items: SharedList<T>,
+    count: usize,
+    short: usize,
+    longer: usize,
+    ghost some: { 0 < count },
+    ghost most: { count ≤ length items },
+    ghost small: { length items < 2 ^ 64 },
+    ghost divided: { short ≡ length items / count },
+    ghost left: { longer ≡ length items % count },
+}
+
+impl<T> ListRuns<T> {
+    /// The pieces for so many jobs: as many as jobs, but no empty one.
+    pub fn new(items: SharedList<T>, n_jobs: usize) -> ListRuns<T>
+        requires items { 0 < length items }
+        requires jobs { 0 < n_jobs }
+        ensures items { result.items ≡ items }
+        ensures count { result.count ≡ min (length items) n_jobs }
+    {
+        let len = items.len();
+        let count = len.min(n_jobs);
+        ListRuns {
+            items,
+            count,
+            short: len / count,
+            longer: len % count,
+        }
+    }
+
+    /// How many pieces there are.
+    pub fn count(&self) -> usize
+        ensures number { result ≡ self.now.count }
+        ensures some { 0 < result }
+    {
+        self.count
+    }
+
+    /// The task of their round, a job for each piece.
+    pub fn task(&self, may_stop: bool) -> PublishedRound
+        ensures jobs { result.jobs ≡ self.now.count }
+        ensures may_stop { result.may_stop ≡ may_stop }
+    {
+        PublishedRound {
+            jobs: self.count as u64,
+            may_stop,
+        }
+    }
+
+    /// The piece of a number. The longer ones, by one item, come first.
+    pub fn piece(&self, number: usize) -> &[T]
+        requires { number < self.now.count }
+        ensures run { result.now ≡ piece_at self.now.items self.now.count number }
+        ensures length { length result.now
+            ≡ get_or (cut_lengths (length self.now.items) self.now.count) number 0 }
+    {
+        let start = self.start(number);
+        &self.items.as_slice()[start..start + self.length(number)]
+    }
+
+    // Where the piece of a number begins.
+    fn start(&self, number: usize) -> usize
+        requires { number < self.now.count }
+        ensures { result ≡ piece_start (length self.now.items) self.now.count number }
+    {
+        self.short * number + self.longer.min(number)
+    }
+
+    // How many items the piece of a number has.
+    fn length(&self, number: usize) -> usize
+        requires { number < self.now.count }
+        ensures next { piece_start (length self.now.items) self.now.count (number + 1)
+            ≡ piece_start (length self.now.items) self.now.count number + result }
+        ensures within { piece_start (length self.now.items) self.now.count (number + 1)
+            ≤ length self.now.items }
+        ensures length { result
+            ≡ get_or (cut_lengths (length self.now.items) self.now.count) number 0 }
+    {
+        if number < self.longer {
+            self.short + 1
+        } else {
+            self.short
+        }
+    }
+}
+
+impl<T: Drop> ListRuns<T> {
+    /// The piece of a number, as a run of the items.
+    pub fn run(&self, number: usize) -> Result<ListRun<T>, AllocError>
+        requires { number < self.now.count }
+        ensures { IfOk result (λ run. run ≡ piece_at self.now.items self.now.count number) }
+    {
+        let start = self.start(number);
+        self.items.run(start, start + self.length(number))
+    }
+}

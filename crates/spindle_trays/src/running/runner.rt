@@ -1,0 +1,107 @@
+//! Runs the items of one job, between its two calls of the gate.
+ghost use Rattle.std.specs.Prelude.{◌≡◌, ◌+◌, ◌<◌, ◌≤◌, ◌++◌, List, length, vec_len, vec_capacity};
+ghost use Rattle.std.specs.Option.{ForSome};
+ghost use Rattle.spindle_trays.specs.Rounds.{AddsAnswers};
+
+use crate::job::Job;
+use crate::job::context::JobCx;
+use crate::job::gate::Gate;
+use crate::job::nest::Nest;
+use spindle_threads::signals::Signals;
+use spindle_threads::job_site::JobSite;
+use std::alloc::Global;
+use std::sync::Wait;
+use std::thread::Threads;
+
+/// What a thread of a lock runs jobs with.
+#[derive(Drop)]
+pub struct Runner<'a, J: Job, G: Gate> {
+    pub slots: &'a <J::Inner as Nest>::ChildSlots,
+    pub gate: &'a G,
+    pub site: JobSite<'a>,
+    pub signals: Signals<'a>,
+}
+
+impl<'a, J: Job, G: Gate> Runner<'a, J, G> {
+    /// What this thread runs jobs with.
+    pub fn new(
+        slots: &'a <J::Inner as Nest>::ChildSlots,
+        gate: &'a G,
+        site: JobSite<'a>,
+        signals: Signals<'a>,
+    ) -> Runner<'a, J, G>
+        ensures { result.site ≡ site.entry }
+    {
+        Runner {
+            slots,
+            gate,
+            site,
+            signals,
+        }
+    }
+
+    /// Runs the items, and puts their outputs at the end of the list.
+    pub fn run<H: Threads + Wait + Sync>(
+        &mut self,
+        rt: &H,
+        alloc: Global,
+        number: usize,
+        index: Option<usize>,
+        items: &[J::In],
+        outputs: &mut Vec<J::Out>,
+    )
+        requires index { ForSome index (λ i. i < self.old.site.counts.most) }
+        requires room { vec_len outputs.old + length items.now ≤ vec_capacity outputs.old }
+        ensures answered { AddsAnswers J.meets items.now outputs.old.items outputs.new.items }
+        ensures room { vec_capacity outputs.new ≡ vec_capacity outputs.old }
+        ensures len { vec_len outputs.new ≡ vec_len outputs.old + length items.now }
+        ensures site { self.new.site ≡ self.old.site }
+    {
+        let site = self.site.under(index);
+        let signals = self.signals.another();
+        let mut context = JobCx::new(Some(self.slots), signals, site);
+        self.gate.begun(number);
+        run_each::<J, H>(rt, alloc, items, &mut context, outputs);
+        self.gate.done(number);
+    }
+
+    /// Runs a job of one item, and answers its output.
+    pub fn run_one<H: Threads + Wait + Sync>(
+        &mut self,
+        rt: &H,
+        alloc: Global,
+        number: usize,
+        index: Option<usize>,
+        item: &J::In,
+    ) -> J::Out
+        requires index { ForSome index (λ i. i < self.old.site.counts.most) }
+        ensures answered { J.meets item.now result }
+        ensures site { self.new.site ≡ self.old.site }
+    {
+        let site = self.site.under(index);
+        let signals = self.signals.another();
+        let mut context = JobCx::new(Some(self.slots), signals, site);
+        self.gate.begun(number);
+        let output = J::run(rt, alloc, item, &mut context);
+        self.gate.done(number);
+        output
+    }
+}
+
+/// Runs the items one after the other, and puts their outputs at the end of the list.
+pub fn run_each<J: Job, H: Threads + Wait + Sync>(
+    rt: &H,
+    alloc: Global,
+    items: &[J::In],
+    context: &mut JobCx<'_, J::Inner>,
+    outputs: &mut Vec<J::Out>,
+)
+    requires room { vec_len outputs.old + length items.now ≤ vec_capacity outputs.old }
+    ensures answered { AddsAnswers J.meets items.now outputs.old.items outputs.new.items }
+    ensures room { vec_capacity outputs.new ≡ vec_capacity outputs.old }
+    ensures len { vec_len outputs.new ≡ vec_len outputs.old + length items.now }
+{
+    for item in items {
+        outputs.push_reserved(J::run(rt, alloc, item, context));
+    }
+}

@@ -1,0 +1,231 @@
+//! The pieces of a round that may stop where the leader alone runs them. Each has a room, a list for its outputs that is empty until the
+//! piece has run. The rooms stay with the leader and no tray is asked, so nothing can be lost there.
+ghost use Rattle.std.specs.Prelude.{◌≡◌, ◌↔◌, ◌<◌, ◌≤◌, None, true, IfOk, IfSome, IsNone, IsTrue, OnErr, IsErrOf, length};
+ghost use Rattle.std.specs.List.{AllZip};
+ghost use Rattle.std.specs.Option.{ForSome};
+ghost use Rattle.std.proofs.Common.{refl, ◌∙◌};
+ghost use Rattle.spindle_trays.specs.PieceRuns.{piece_at};
+ghost use Rattle.spindle_trays.specs.Reports.{AreRooms, IsNoted, IsRoomFor};
+ghost use Rattle.spindle_threads.specs.Posts.{LastPublished, party_view};
+ghost use Rattle.spindle_rounds.specs.RoundSteps.{round_of};
+ghost use Rattle.spindle_rounds.specs.Working.{PlayedRoundOf};
+
+use crate::job::Job;
+use crate::job::gate::Gate;
+use crate::pieces::finished::Finished;
+use crate::pieces::list_runs::ListRuns;
+use crate::pieces::spare_lists::SpareLists;
+use crate::running::finishing::finish;
+use crate::running::runner::Runner;
+use crate::running::tally::{Tally, has_failure};
+use spindle_threads::leader_member::LeaderMember;
+use spindle_threads::publish_and_end::{end_round, publish};
+use spindle_parts::fault::Fault;
+use spindle_rounds::round::claim::Claimed;
+use spindle_rounds::round::claimer::{Claimer, Work};
+use spindle_rounds::round_table::Seat;
+use spindle_rounds::round_table::slots::Bare;
+use std::alloc::Global;
+use std::mem;
+use std::sync::Wait;
+use std::thread::Threads;
+
+/// What runs the pieces of the numbers that the leader claims, each in its room.
+#[derive(Drop)]
+struct SequentialWork<'p, 'r, 'a, J: Job, G: Gate> {
+    pieces: &'p ListRuns<J::In>,
+    runner: &'r mut Runner<'a, J, G>,
+    alloc: Global,
+    rooms: Vec<Vec<J::Out>>,
+}
+
+/// Publishes the pieces for a round that may stop, runs those that it claims in their rooms, and ends the round.
+pub(crate) fn play_rooms<'a, J: Job, G: Gate, H: Threads + Wait + Sync>(
+    rt: &H,
+    alloc: Global,
+    leader: &mut LeaderMember<'a, Bare>,
+    runner: &mut Runner<'a, J, G>,
+    pieces: &ListRuns<J::In>,
+    rooms: &mut Vec<Vec<J::Out>>,
+)
+    requires counted { (2 ≤ pieces.now.count) × (pieces.now.count ≤ 4294967295) }
+    requires fit { AreRooms J.meets pieces.now.items pieces.now.count 0 rooms.old.items }
+    ensures fit { AreRooms J.meets pieces.now.items pieces.now.count 0 rooms.new.items }
+    ensures played { PlayedRoundOf pieces.now.count true
+        leader.old.post.barrier.seat.me.0 leader.new.post.barrier.seat.me.0 }
+    ensures last { LastPublished (round_of (party_view leader.old.post.barrier).standing)
+        pieces.now.count true (party_view leader.new.post.barrier) }
+    ensures tables { leader.new.post.tables ≡ leader.old.post.tables }
+{
+    let post = &mut leader.post;
+    let tables = post.tables;
+    let task = pieces.task(true);
+    publish(rt, tables, &mut post.barrier, &mut runner.signals, task);
+    let party = Claimer {
+        round: &tables.round,
+        thread: 0,
+        task,
+    };
+    let work = SequentialWork {
+        pieces,
+        runner,
+        alloc,
+        rooms: mem::replace(rooms, Vec::new(alloc)),
+    };
+    let work = party.work(rt, &mut post.barrier.seat, work);
+    *rooms = work.rooms;
+    end_round(rt, tables, &mut post.barrier);
+}
+
+impl<'p, 'r, 'a, J: Job, G: Gate> Work<Bare> for SequentialWork<'p, 'r, 'a, J, G> {
+    ghost holds = { λ w hands. AreRooms J.meets w.pieces.now.items w.pieces.now.count 0 w.rooms.items };
+
+    ghost keeps = { λ v w. w.pieces ≡ v.pieces };
+
+    // The piece of the number runs, and a failure stops the round.
+    fn run<H: Threads + Wait + Sync>(
+        &mut self,
+        rt: &H,
+        party: &Claimer<'_, Bare>,
+        seat: &mut Seat<Bare>,
+        claimed: Claimed,
+    ) -> u64 {
+        let number = claimed.number() as usize;
+        let failed = self.run_piece(rt, number);
+        let finished: Finished<J> = Finished::empty(self.alloc, number);
+        finish(party, seat, claimed, &finished, failed)
+    }
+
+    ghost keeps_same = { λ w. refl };
+
+    ghost keeps_then = { λ u v w a b. b ∙ a };
+}
+
+impl<'p, 'r, 'a, J: Job, G: Gate> SequentialWork<'p, 'r, 'a, J, G> {
+    // Runs the piece of a number, and says whether it failed. A number of no piece runs nothing.
+    fn run_piece<H: Threads + Wait + Sync>(&mut self, rt: &H, number: usize) -> bool
+        requires { AreRooms J.meets
+            self.old.pieces.now.items self.old.pieces.now.count 0 self.old.rooms.items }
+        ensures fit { AreRooms J.meets
+            self.new.pieces.now.items self.new.pieces.now.count 0 self.new.rooms.items }
+        ensures pieces { self.new.pieces ≡ self.old.pieces }
+    {
+        if number >= self.pieces.count() {
+            return false;
+        }
+        let items = self.pieces.piece(number);
+        let room = &mut self.rooms[number];
+        run_in_room(rt, self.alloc, self.runner, Some(0), number, items, room);
+        has_failure::<J>(room.as_slice())
+    }
+}
+
+/// A room for each of the pieces, a spare list where there is one.
+pub(crate) fn make_rooms<J: Job>(
+    alloc: Global,
+    pieces: &ListRuns<J::In>,
+    spares: &mut SpareLists<J::Out>,
+) -> Result<Vec<Vec<J::Out>>, Fault>
+    ensures fit { IfOk result (λ rooms. AreRooms J.meets
+        pieces.now.items pieces.now.count 0 rooms.items) }
+    ensures memory { OnErr result (IsErrOf result Fault.Memory) }
+{
+    let mut rooms = Vec::with_capacity(alloc, pieces.count())?;
+    for number in 0..pieces.count() {
+        let mut room = spares.take(alloc);
+        room.clear();
+        room.reserve(pieces.piece(number).len())?;
+        rooms.push_reserved(room);
+    }
+    Ok(rooms)
+}
+
+impl<'a, J: Job, G: Gate> Runner<'a, J, G> {
+    /// Notes what came of the pieces in their rooms, of which some are marked as left. One that isn't, and that hasn't run,
+    /// runs now.
+    pub(crate) fn tally_rooms<H: Threads + Wait + Sync>(
+        &mut self,
+        rt: &H,
+        alloc: Global,
+        pieces: &ListRuns<J::In>,
+        mut rooms: Vec<Vec<J::Out>>,
+        left: &[bool],
+        tally: &mut Tally<J::Out>,
+    )
+        requires fit { AreRooms J.meets pieces.now.items pieces.now.count 0 rooms.items }
+        requires marks { length left.now ≡ pieces.now.count }
+        requires fresh { IsNoted J.meets J.fails
+            pieces.now.items pieces.now.count left.now 0 tally.old }
+        requires whole { tally.old.lost ≡ None }
+        ensures noted { IsNoted J.meets J.fails
+            pieces.now.items pieces.now.count left.now pieces.now.count tally.new }
+        ensures whole { tally.new.lost ≡ None }
+        ensures site { self.new.site ≡ self.old.site }
+    {
+        for number in 0..pieces.count() {
+            let room = &mut rooms[number];
+            let outputs = self.take_room(rt, alloc, left[number], pieces, number, room);
+            tally.note::<J>(pieces, left, number, outputs);
+        }
+    }
+
+    // Takes the outputs of a piece that isn't left out of its room. Where it hasn't run, it runs now.
+    fn take_room<H: Threads + Wait + Sync>(
+        &mut self,
+        rt: &H,
+        alloc: Global,
+        is_left: bool,
+        pieces: &ListRuns<J::In>,
+        number: usize,
+        room: &mut Vec<J::Out>,
+    ) -> Option<Vec<J::Out>>
+        requires number { number < pieces.now.count }
+        requires fits { IsRoomFor J.meets
+            (piece_at pieces.now.items pieces.now.count number) room.old }
+        ensures answers { IfSome result (λ outputs. AllZip J.meets
+            (piece_at pieces.now.items pieces.now.count number) outputs.items) }
+        ensures ran { IsNone result ↔ IsTrue is_left }
+        ensures site { self.new.site ≡ self.old.site }
+    {
+        if is_left {
+            return None;
+        }
+        let mut outputs = mem::replace(room, Vec::new(alloc));
+        let index = self.own_index(pieces);
+        let items = pieces.piece(number);
+        run_in_room(rt, alloc, self, index, number, items, &mut outputs);
+        Some(outputs)
+    }
+
+    // The number with which a leader runs pieces: none, where there is only one.
+    fn own_index(&self, pieces: &ListRuns<J::In>) -> Option<usize>
+        ensures { ForSome result (λ i. i < self.now.site.counts.most) }
+    {
+        if pieces.count() == 1 {
+            return None;
+        }
+        Some(0)
+    }
+}
+
+// Runs a piece in its room, unless it has run there.
+#[tactic(auto, using(crate::proofs::Rooms::room_answers, crate::proofs::Rooms::room_done))]
+fn run_in_room<J: Job, G: Gate, H: Threads + Wait + Sync>(
+    rt: &H,
+    alloc: Global,
+    runner: &mut Runner<'_, J, G>,
+    index: Option<usize>,
+    number: usize,
+    items: &[J::In],
+    room: &mut Vec<J::Out>,
+)
+    requires index { ForSome index (λ i. i < runner.old.site.counts.most) }
+    requires fits { IsRoomFor J.meets items.now room.old }
+    ensures answered { AllZip J.meets items.now room.new.items }
+    ensures site { runner.new.site ≡ runner.old.site }
+{
+    if !room.is_empty() {
+        return;
+    }
+    runner.run(rt, alloc, number, index, items, room);
+}
