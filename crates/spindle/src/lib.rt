@@ -13,12 +13,12 @@ pub mod prelude;
 pub use free::{for_each, for_each_raw};
 pub use kernels::{Change, Kernel, map, map_pairs, reduce_pairs, update};
 pub use lock::{
-    nested, play_in_place, reduce, update_one, run_one, with_lock, with_slots, with_slots_in_place,
+    nested, play_in_place, reduce, run_one, update_one, with_lock, with_slots, with_slots_in_place,
 };
-pub use spindle_threads::{DEFAULT_PAUSE_LIMIT, DEFAULT_SPIN_LIMIT};
+pub use spindle_parts::fault::Fault;
 pub use spindle_parts::lists::{
     Chunk, EqualIsSame, ListRun, SharedList, Strip, gathered, joined_strips, tell_neighbours,
 };
-pub use spindle_parts::fault::Fault;
 pub use spindle_parts::{aarc_imp, cut, numbers, requests, steps};
 pub use spindle_rounds::{barrier, round, round_table};
+pub use spindle_threads::{DEFAULT_PAUSE_LIMIT, DEFAULT_SPIN_LIMIT};

@@ -3,13 +3,13 @@
 pub use crate::kernels::{Change, Kernel, map, map_pairs, reduce_pairs, update};
 pub use crate::lock::{
     ChunkRounds, End, Gate, InPlace, Job, JobCx, Leader, Limits, LockOf, NoGate, PlaceLeader, Pool,
-    Update, Report, RunsRounds, SlotLeader, TellsFailures, Under, UnderInPlace, UnderSlots, reduce,
-    update_one, run_one,
+    Report, RunsRounds, SlotLeader, TellsFailures, Under, UnderInPlace, UnderSlots, Update, reduce,
+    run_one, update_one,
 };
+pub use spindle_parts::fault::Fault;
 pub use spindle_parts::lists::{
     Chunk, ListRun, SharedList, Strip, gathered, joined_strips, tell_neighbours,
 };
-pub use spindle_parts::fault::Fault;
 pub use std::alloc::{AllocError, Global};
 pub use std::sync::Wait;
 pub use std::thread::Threads;

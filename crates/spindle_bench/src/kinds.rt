@@ -3,13 +3,13 @@ ghost use Rattle.std.specs.Prelude.{◌≡◌, IfOk};
 ghost use Rattle.std.proofs.Common.{rules};
 ghost use Rattle.spindle_bench.specs.Kernels.{one_more_of, squares_of};
 
-use crate::series::{Listed, Placed};
-use spindle::lock::{End, InPlace, Job, JobCx, Update};
-use spindle::{Fault, SharedList};
 use crate::kernels::{
     are_all, are_squares, each_and_one, each_squared, one_more_by_lines, square_each, stirred,
 };
+use crate::series::{Listed, Placed};
 use crate::stop::Stop;
+use spindle::lock::{End, InPlace, Job, JobCx, Update};
+use spindle::{Fault, SharedList};
 use std::alloc::Global;
 use std::sync::Wait;
 use std::thread::Threads;

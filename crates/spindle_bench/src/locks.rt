@@ -2,14 +2,14 @@
 ghost use Rattle.std.specs.Prelude.{◌≡◌, ◌*◌, ◌<◌, ◌≤◌};
 ghost use denote.Param.Send.{IsSync};
 
-use crate::series::{ListSeries, Listed, PlaceSeries, Placed, Plays, Series, TrySeries};
-use spindle::lock::{End, Nest, NoGate, Pool, Updates};
-use spindle::{with_lock, with_slots, with_slots_in_place};
 use crate::line::Line;
+use crate::series::{ListSeries, Listed, PlaceSeries, Placed, Plays, Series, TrySeries};
 use crate::settings::Settings;
 use crate::shape::Shape;
 use crate::stop::Stop;
 use crate::timing::{run, wait_until};
+use spindle::lock::{End, Nest, NoGate, Pool, Updates};
+use spindle::{with_lock, with_slots, with_slots_in_place};
 use std::alloc::Global;
 use std::rt::Clock;
 use std::sync::Wait;

@@ -3,12 +3,12 @@ ghost use Rattle.std.specs.Prelude.{◌≡◌};
 ghost use denote.Param.Send.{IsSync};
 ghost use Rattle.spindle_bench.specs.Kernels.{one_more_of};
 
-use crate::series::{PlaceSeries, Placed, Plays, Series};
-use spindle::lock::{ChunkOf, End, InPlace, JobCx, Update, UnderPieces};
-use spindle::nested::with_slots_in_place;
 use crate::kernels::{are_all, one_more_each};
+use crate::series::{PlaceSeries, Placed, Plays, Series};
 use crate::shape::{NESTED_PARTS, NESTED_ROUNDS, PART_LEN, Shape};
 use crate::stop::Stop;
+use spindle::lock::{ChunkOf, End, InPlace, JobCx, UnderPieces, Update};
+use spindle::nested::with_slots_in_place;
 use std::alloc::Global;
 use std::marker::PhantomData;
 use std::sync::Wait;

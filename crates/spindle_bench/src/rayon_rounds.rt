@@ -1,13 +1,13 @@
 //! Rounds of the kit's `rayon` over borrowed slices, in one piece a thread, of `map` four. `try8` and `nested` have none.
 ghost use Rattle.std.specs.Prelude.{◌≡◌, ◌<◌};
 
-use rayon::prelude::*;
 use crate::kernels::{are_all, are_squares, one_more_each, stirred};
 use crate::line::Line;
 use crate::settings::Settings;
 use crate::shape::Shape;
 use crate::stop::Stop;
 use crate::timing::run;
+use rayon::prelude::*;
 use std::alloc::Global;
 use std::rt::Clock;
 use std::thread::Threads;

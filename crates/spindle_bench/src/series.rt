@@ -2,11 +2,12 @@
 ghost use Rattle.std.specs.Prelude.{◌≡◌, ◌<◌};
 ghost use denote.Param.Send.{IsSync};
 
-use spindle::lock::{
-    End, Gate, Job, Leader, Opens, OpensSlots, PlaysInPlace, Updates, Report, RunsRounds, SlotLeader,
-};
 use crate::shape::Shape;
 use crate::stop::Stop;
+use spindle::lock::{
+    End, Gate, Job, Leader, Opens, OpensSlots, PlaysInPlace, Report, RunsRounds, SlotLeader,
+    Updates,
+};
 use std::alloc::Global;
 use std::mem;
 use std::sync::Wait;

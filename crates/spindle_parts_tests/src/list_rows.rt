@@ -5,8 +5,8 @@
 //! no run of it is left, and that memory is refused only where it was; and each call once with its answer.
 
 use crate::checks::{are, holds, is};
-use spindle_parts::lists::{Chunk, ListRun, SharedList, gathered};
 use spindle_parts::fault::Fault;
+use spindle_parts::lists::{Chunk, ListRun, SharedList, gathered};
 use std::alloc::Global;
 use std::process::Abort;
 

@@ -5,8 +5,8 @@
 ghost use Rattle.std.specs.Prelude.{◌<◌};
 
 use crate::checks::{are, holds, is};
-use spindle_parts::lists::{SharedList, Strip, joined_strips, tell_neighbours};
 use spindle_parts::fault::Fault;
+use spindle_parts::lists::{SharedList, Strip, joined_strips, tell_neighbours};
 use std::alloc::Global;
 use std::process::Abort;
 

@@ -5,11 +5,11 @@ ghost use Rattle.spindle_rounds.specs.Words.{words_of};
 use crate::round_table::slots::SlotContents;
 use crate::round_table::{RoundTable, Seat};
 
+pub mod detached_party;
 pub mod ending;
 pub mod joining;
 pub mod leaving;
 pub mod opening;
-pub mod detached_party;
 pub mod steps;
 pub mod waiting;
 pub mod word;

@@ -10,19 +10,19 @@ use spindle_parts::fault::Fault;
 use std::alloc::Global;
 
 pub mod claim;
+pub mod claimer;
 pub mod claiming;
 pub mod collecting;
 pub mod finishing;
 pub mod holding;
 pub mod leftovers;
-pub mod claimer;
 pub mod pieces;
+pub mod published_round;
 pub mod publishing;
 pub mod slots;
 pub mod source;
 pub mod stealing;
 pub mod stopping;
-pub mod published_round;
 
 /// The rounds of a table with a range for each thread, and the barrier that ends them.
 #[derive(Drop)]

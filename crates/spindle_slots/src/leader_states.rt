@@ -2,7 +2,7 @@
 //! `slot_leader_state` and `place_leader_state` how a round over lists and one in place is played from it.
 
 pub mod leader_state;
-pub mod slot_leader_state;
 pub mod place_leader_state;
 pub(crate) mod sealed;
+pub mod slot_leader_state;
 pub mod slot_workspace;

@@ -4,8 +4,8 @@
 //! Users stand on `spindle`, which opens locks with slots over this, and gives out what they name of it.
 #![tactic(auto)]
 
-pub mod threads;
 pub mod job;
-pub mod pieces;
 pub mod leader_states;
+pub mod pieces;
 pub mod running;
+pub mod threads;

@@ -2,10 +2,10 @@
 //! and the room that a leader keeps: lists for outputs, and, for rounds in place, what chunks of items move through.
 
 pub mod chunk;
+pub mod chunk_buffers;
 pub mod in_place;
 pub mod in_slots;
 pub mod items;
 pub mod of_kind;
 pub mod output_buffers;
 pub mod slot_piece;
-pub mod chunk_buffers;

@@ -12,8 +12,8 @@ use crate::jobs::Seen;
 use crate::staying::{Staying, all_ran, stay, turns_of, until_all_run};
 use spindle::Fault;
 use spindle::lock::{
-    End, InPlace, Job, JobCx, Limits, LockOf, Nest, NoGate, PlaceLeader, Pool, Update, SlotLeader,
-    UnderInPlace, UnderSlots,
+    End, InPlace, Job, JobCx, Limits, LockOf, Nest, NoGate, PlaceLeader, Pool, SlotLeader,
+    UnderInPlace, UnderSlots, Update,
 };
 use spindle_trays_tests::rounds::rounds_of;
 use std::alloc::Global;

@@ -9,7 +9,7 @@ use crate::gates::Meetings;
 use crate::jobs::{Calls, Counting};
 use crate::sevens::seven_items;
 use spindle::lock::{
-    End, Gate, InPlace, JobCx, Limits, NoGate, PlaceLeader, Pool, Update, RoundsInPlace,
+    End, Gate, InPlace, JobCx, Limits, NoGate, PlaceLeader, Pool, RoundsInPlace, Update,
 };
 use spindle::{Fault, play_in_place, update_one, with_slots_in_place};
 use std::alloc::Global;

@@ -106,7 +106,13 @@ fn an_updated_list_has_its_items_in_their_places(rt: HostRuntime) -> Result<(), 
     let alloc = rt.alloc();
     for threads in [1, 2, 4] {
         let pool = Pool::new(threads, Limits::new(), NoGate);
-        let list = update(&rt, alloc, &pool, &Bound { most: 5 }, eleven_numbers(alloc)?)?;
+        let list = update(
+            &rt,
+            alloc,
+            &pool,
+            &Bound { most: 5 },
+            eleven_numbers(alloc)?,
+        )?;
         are(&rt, &list, &BOUNDED);
     }
     Ok(())

@@ -32,7 +32,12 @@ pub struct OpenPlaces<'a> {
 
 impl<'a> HelperRequest<'a> {
     /// Asks for so many helpers.
-    pub fn new(ledger: &'a Requests, mut seat: Seat, slots: usize, helpers: usize) -> HelperRequest<'a>
+    pub fn new(
+        ledger: &'a Requests,
+        mut seat: Seat,
+        slots: usize,
+        helpers: usize,
+    ) -> HelperRequest<'a>
         requires seated { IsSeatOf ledger.now seat }
         requires counted { slot_count ledger.now ≡ slots }
         requires no_credit { seat.me.0.credit ≡ 0 }

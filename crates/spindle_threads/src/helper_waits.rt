@@ -10,9 +10,9 @@ ghost use Rattle.spindle_threads.specs.Waits.{WaitedForNews, patience_of};
 ghost use Rattle.spindle_rounds.specs.RoundConditions.{IsDone};
 ghost use Rattle.spindle_rounds.specs.Seating.{IsSameSeat};
 
-use crate::signals::Signals;
-use crate::publish_and_end::end_or_leave;
 use crate::member::{Member, Whereabouts};
+use crate::publish_and_end::end_or_leave;
+use crate::signals::Signals;
 use spindle_parts::numbers;
 use spindle_parts::numbers::{Numbers, Take};
 use spindle_rounds::barrier::ExitStatus;

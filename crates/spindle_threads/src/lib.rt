@@ -7,18 +7,18 @@
 ghost use Rattle.std.specs.Prelude.{◌≡◌, ◌<◌, ◌≤◌};
 
 pub mod helper_requests;
-pub mod spare_seats;
 pub mod helper_waits;
+pub mod job_site;
 pub mod leader_member;
 pub mod limits;
-pub mod members;
-pub mod signals;
-pub mod publish_and_end;
 pub mod member;
+pub mod members;
 pub mod present;
+pub mod publish_and_end;
 pub mod seats;
-pub mod job_site;
+pub mod signals;
 pub mod sleep;
+pub mod spare_seats;
 pub mod tables;
 
 /// How many pauses an idle party makes before it sleeps, where a user has no wish of his own.

@@ -101,7 +101,11 @@ pub fn publish_held<A: PieceKind, H: Wait>(
 }
 
 /// Arrives, and waits until the round has ended. The closer ends it, and wakes the others.
-pub fn end_round<'a, D: SlotContents, H: Wait>(rt: &H, tables: &Tables<D>, barrier: &mut Barrier<'a, D>)
+pub fn end_round<'a, D: SlotContents, H: Wait>(
+    rt: &H,
+    tables: &Tables<D>,
+    barrier: &mut Barrier<'a, D>,
+)
     requires held { IsHeld barrier.old }
     requires free { IsFreeInside (party_view barrier.old) }
     requires done { IsDone (party_view barrier.old) }

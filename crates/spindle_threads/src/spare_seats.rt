@@ -91,7 +91,11 @@ impl<D: SlotContents> SpareSeats<D> {
 
 impl<D: SlotContents> Tables<D> {
     /// A bench for each helper, with seats that are split from the leader's.
-    pub fn spare_seats(&self, alloc: Global, seats: &mut Seats<D>) -> Result<Vec<SpareSeats<D>>, AllocError>
+    pub fn spare_seats(
+        &self,
+        alloc: Global,
+        seats: &mut Seats<D>,
+    ) -> Result<Vec<SpareSeats<D>>, AllocError>
         requires { AreSeatsAt self.now seats.old }
         ensures seats { AreSeatsAt self.now seats.new }
         ensures spare_seats { IfOk result (λ spare_seats. All (IsBenchAt self.now) spare_seats.items) }

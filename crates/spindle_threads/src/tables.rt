@@ -4,9 +4,9 @@ ghost use Rattle.std.specs.Prelude.{◌≡◌, ◌<◌, Some};
 ghost use Rattle.spindle_parts.specs.LedgerSeats.{slot_count};
 
 use crate::ThreadCounts;
+use crate::job_site::JobSite;
 use crate::members::Members;
 use crate::present::Present;
-use crate::job_site::JobSite;
 use crate::sleep::Sleep;
 use spindle_parts::numbers::Numbers;
 use spindle_parts::requests::Requests;

@@ -4,9 +4,9 @@
 pub mod address;
 pub mod finished;
 pub mod gathering;
+pub mod list_runs;
 pub mod place;
 pub mod ready;
-pub mod list_runs;
 pub mod spare_lists;
 pub mod tray;
 pub mod trays;

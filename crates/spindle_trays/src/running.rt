@@ -6,6 +6,6 @@ pub mod ahead;
 pub mod alone;
 mod finishing;
 pub mod in_trays;
-pub mod sequential;
 pub mod runner;
+pub mod sequential;
 pub mod tally;

@@ -7,8 +7,8 @@ ghost use Rattle.spindle_trays.specs.Rounds.{items_of};
 
 use crate::checks::{are, holds, is};
 use crate::jobs::Square;
-use spindle_parts::lists::SharedList;
 use spindle_parts::cut::Piece;
+use spindle_parts::lists::SharedList;
 use spindle_trays::pieces::finished::Finished;
 use spindle_trays::pieces::gathering::gather;
 use spindle_trays::pieces::list_runs::ListRuns;

@@ -5,8 +5,8 @@
 use crate::checks::{are, is};
 use crate::marks::{Marks, Noting, ROWS, Taking, noted_items};
 use crate::rounds::rounds_of;
-use spindle_threads::limits::Limits;
 use spindle_parts::fault::Fault;
+use spindle_threads::limits::Limits;
 use spindle_trays::lock::pool::Pool;
 use std::sync::Arc;
 

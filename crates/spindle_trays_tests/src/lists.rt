@@ -3,8 +3,8 @@
 ghost use Rattle.std.specs.Prelude.{◌≡◌};
 ghost use Rattle.std.proofs.Common.{rules};
 
-use spindle_parts::lists::SharedList;
 use spindle_parts::fault::Fault;
+use spindle_parts::lists::SharedList;
 use spindle_trays::job::context::JobCx;
 use spindle_trays::job::nest::End;
 use spindle_trays::job::{Job, TellsFailures};

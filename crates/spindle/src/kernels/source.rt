@@ -6,9 +6,9 @@ ghost use Rattle.spindle.specs.Folds.{total_of};
 
 use crate::kernels::Kernel;
 use crate::lock::Combine;
-use spindle_parts::lists::ListRun;
 use spindle_parts::cut::piece_lengths;
 use spindle_parts::fault::Fault;
+use spindle_parts::lists::ListRun;
 use std::alloc::{AllocError, Global};
 
 /// Items in an order, which may be cut, and are computed one by one.

@@ -4,8 +4,8 @@ ghost use Rattle.spindle.specs.Folds.{IsAssociative, IsNeutral, total_of};
 
 use crate::kernels::{Source, parts_of};
 use crate::lock::place_once::update_one;
-use spindle_parts::lists::SharedList;
 use spindle_parts::fault::Fault;
+use spindle_parts::lists::SharedList;
 use spindle_slots::job::update::{InPlace, Update};
 use spindle_trays::job::context::JobCx;
 use spindle_trays::job::gate::Gate;

@@ -10,15 +10,15 @@ ghost use Rattle.spindle.specs.SlotLeaders.{TakesLeaders, IsLeaderOf};
 
 use crate::lock::slot_leader::SlotLeader;
 use crate::lock::slot_nest::{NestedLeaderStart, NestedSlots, UnderPieces};
-use spindle_threads::ThreadCounts;
-use spindle_threads::limits::Idling;
 use spindle_parts::fault::Fault;
 use spindle_rounds::round_table::pieces::PieceSlots;
-use spindle_slots::threads::slot_member::LeaderSeats;
 use spindle_slots::job::update::Updates;
-use spindle_slots::pieces::of_kind::{ChunkOf, PieceOf};
 use spindle_slots::leader_states::slot_workspace::{MakesSlots, SlotWorkspace};
+use spindle_slots::pieces::of_kind::{ChunkOf, PieceOf};
 use spindle_slots::running::in_slots::RunsPieces;
+use spindle_slots::threads::slot_member::LeaderSeats;
+use spindle_threads::ThreadCounts;
+use spindle_threads::limits::Idling;
 use spindle_trays::job::Job;
 use spindle_trays::job::context::{JobCx, child_slots_of, site_of};
 use spindle_trays::job::gate::NoGate;
@@ -138,7 +138,14 @@ fn lead_alone<
     F: FnOnce(&mut SlotLeader<J, NoGate, P>) -> R,
     P: Drop,
     H: Threads + Wait + Sync,
->(rt: &H, alloc: Global, counts: ThreadCounts, idling: Idling, slots: usize, f: F) -> Result<R, Fault>
+>(
+    rt: &H,
+    alloc: Global,
+    counts: ThreadCounts,
+    idling: Idling,
+    slots: usize,
+    f: F,
+) -> Result<R, Fault>
     requires slots { (1 ≤ slots) × (slots ≤ 4294967295) }
     requires callable { TakesLeaders J.OpensSlots.slot_count slots F.FnOnce f }
     ensures promise { IfOk result (λ r. (old : _) × (new : _)

@@ -5,9 +5,9 @@
 ghost use Rattle.std.specs.Prelude.{◌≡◌, ◌<◌, ◌≤◌, IsNone};
 ghost use Rattle.spindle.specs.SlotLeaders.{threads_of, AnnouncedRest, IsAsBefore};
 
-use spindle_threads::ThreadCounts;
 use spindle_slots::leader_states::slot_leader_state::SlotLeaderState;
 use spindle_slots::leader_states::slot_workspace::OpensSlots;
+use spindle_threads::ThreadCounts;
 use spindle_trays::job::Job;
 use spindle_trays::job::gate::Gate;
 use spindle_trays::lock::nested::Leads;

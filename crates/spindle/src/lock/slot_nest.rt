@@ -6,19 +6,19 @@ ghost use Rattle.spindle_rounds.specs.Seating.{HasSlots};
 ghost use Rattle.spindle_threads.specs.Benches.{IsBenchAt};
 ghost use Rattle.spindle_threads.specs.Opening.{AreSeatsAt};
 
-use spindle_threads::ThreadCounts;
-use spindle_threads::spare_seats::SpareSeats;
-use spindle_threads::limits::Idling;
-use spindle_threads::signals::Signals;
-use spindle_threads::seats::Seats;
-use spindle_threads::tables::Tables;
 use spindle_parts::fault::Fault;
 use spindle_rounds::round::Round;
 use spindle_rounds::round_table::pieces::{PieceKind, PieceSlots};
 use spindle_slots::job::update::InPlace;
-use spindle_slots::pieces::of_kind::{ChunkOf, PieceOf};
 use spindle_slots::leader_states::slot_workspace::SlotWorkspace;
+use spindle_slots::pieces::of_kind::{ChunkOf, PieceOf};
 use spindle_slots::running::in_slots::RunsPieces;
+use spindle_threads::ThreadCounts;
+use spindle_threads::limits::Idling;
+use spindle_threads::seats::Seats;
+use spindle_threads::signals::Signals;
+use spindle_threads::spare_seats::SpareSeats;
+use spindle_threads::tables::Tables;
 use spindle_trays::job::Job;
 use spindle_trays::job::is_nest::IsNest;
 use spindle_trays::job::nest::Nest;
@@ -69,7 +69,13 @@ impl<J: Job, A: RunsPieces<J>> NestedSlots<SlotWorkspace<J>, A> {
         counts: ThreadCounts,
         idling: Idling,
         slots: usize,
-    ) -> Result<(Child<NestedSlots<SlotWorkspace<J>, A>>, NestedLeaderStart<A>), Fault>
+    ) -> Result<
+        (
+            Child<NestedSlots<SlotWorkspace<J>, A>>,
+            NestedLeaderStart<A>,
+        ),
+        Fault,
+    >
         requires slots { (1 ≤ slots) × (slots ≤ 4294967295) }
         ensures share { IfOk result (λ t. arc_value t.1.share ≡ arc_value (arc_value t.0.shared).tables) }
         ensures counts { IfOk result (λ t. (arc_value t.1.share).counts ≡ counts) }

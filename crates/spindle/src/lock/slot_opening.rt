@@ -9,19 +9,19 @@ ghost use Rattle.spindle.specs.SlotLeaders.{TakesLeaders, WasLed, threads_of};
 ghost use Rattle.spindle_rounds.specs.Seating.{HasSlots};
 
 use crate::lock::slot_leader::SlotLeader;
+use spindle_parts::fault::Fault;
+use spindle_rounds::round_table::pieces::{PieceKind, PieceSlots};
+use spindle_rounds::round_table::slots::SlotContents;
+use spindle_slots::leader_states::slot_workspace::MakesSlots;
+use spindle_slots::threads::slot_member::LeaderSeats;
 use spindle_threads::ThreadCounts;
 use spindle_threads::limits::Idling;
 use spindle_threads::seats::Seats;
 use spindle_threads::tables::Tables;
-use spindle_parts::fault::Fault;
-use spindle_rounds::round_table::pieces::{PieceKind, PieceSlots};
-use spindle_rounds::round_table::slots::SlotContents;
-use spindle_slots::threads::slot_member::LeaderSeats;
-use spindle_slots::leader_states::slot_workspace::MakesSlots;
 use spindle_trays::job::Job;
 use spindle_trays::job::gate::Gate;
 use spindle_trays::job::nest::Nest;
-use spindle_trays::lock::helpers::{Helpers, HelperRoom};
+use spindle_trays::lock::helpers::{HelperRoom, Helpers};
 use spindle_trays::lock::nested::Leads;
 use spindle_trays::lock::opening::muster;
 use spindle_trays::lock::part::TakesPart;
@@ -189,7 +189,13 @@ fn lead<
     F: FnOnce(&mut SlotLeader<J, G, P>) -> R,
     P: Drop,
     H: Threads + Wait + Sync + 's,
->(scope: &Scope<'s, E>, rt: &'s H, alloc: Global, leader_start: SlotLeaderStart<'s, PieceSlots<A>, G, L>, f: F) -> R
+>(
+    scope: &Scope<'s, E>,
+    rt: &'s H,
+    alloc: Global,
+    leader_start: SlotLeaderStart<'s, PieceSlots<A>, G, L>,
+    f: F,
+) -> R
 where
     A::Piece: Send,
     A::Answer: Send,

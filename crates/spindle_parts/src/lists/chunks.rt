@@ -4,11 +4,11 @@ ghost use Rattle.std.specs.Prelude.{◌≡◌, ◌*◌, ◌<◌, ◌≤◌, IfOk
 ghost use Rattle.spindle_parts.specs.Pieces.{joined, cut_lengths};
 ghost use Rattle.spindle_parts.specs.Chunks.{own_items, chunk_from, chunks_around};
 
+use crate::cut::piece_lengths;
+use crate::fault::Fault;
 use crate::lists::run::ListRun;
 use crate::lists::same::EqualIsSame;
 use crate::lists::shared::SharedList;
-use crate::cut::piece_lengths;
-use crate::fault::Fault;
 use std::alloc::{AllocError, Global};
 use std::marker::Model;
 

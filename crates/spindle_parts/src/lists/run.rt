@@ -4,9 +4,9 @@ ghost use Rattle.std.specs.Cmp.Lexicographic.{pointwise, lists_equiv, lists_per}
 ghost use Rattle.spindle_parts.specs.Pieces.{joined, total};
 ghost use Rattle.spindle_parts.specs.Same.{equal_lists_are_same};
 
+use crate::fault::Fault;
 use crate::lists::same::EqualIsSame;
 use crate::lists::shared::{SharedList, are_equal};
-use crate::fault::Fault;
 use std::alloc::{AllocError, Global};
 use std::marker::Model;
 

@@ -4,8 +4,8 @@ ghost use Rattle.std.specs.Prelude.{◌≡◌, ◌<◌, All, IfOk, OnErr, IsErrO
 ghost use Rattle.spindle_parts.specs.Pieces.{cut_lengths};
 ghost use Rattle.spindle_parts.specs.Strips.{items_of, first_of, last_of, told};
 
-use crate::lists::shared::SharedList;
 use crate::fault::Fault;
+use crate::lists::shared::SharedList;
 use std::alloc::{AllocError, Global};
 
 /// A run of a list's items, with the item that stands before it and the one behind it.

@@ -49,7 +49,12 @@ impl<A: PieceKind> Round<PieceSlots<A>> {
             ≡ (seat.old.me.0, (claimed.now, Empty) ∷ rest seat.old.me.1) }
     {
         let slot = claimed.number() as usize;
-        match self.init.table.shared.exchange(seat, slot, SlotState::Empty) {
+        match self
+            .init
+            .table
+            .shared
+            .exchange(seat, slot, SlotState::Empty)
+        {
             SlotState::Waits(piece) => piece,
             SlotState::Empty => unreachable!(),
             SlotState::Done(_) => unreachable!(),

@@ -43,7 +43,10 @@ impl<A: PieceKind> SlotContents for PieceSlots<A> {
 
     ghost discipline = { pieces A.answers };
 
-    fn vacant(alloc: Global, slots: usize) -> Result<Vec<SlotState<A::Piece, A::Answer>>, AllocError> {
+    fn vacant(
+        alloc: Global,
+        slots: usize,
+    ) -> Result<Vec<SlotState<A::Piece, A::Answer>>, AllocError> {
         let mut all = Vec::with_capacity(alloc, slots)?;
         for _ in 0..slots {
             all.push_reserved(SlotState::Empty);

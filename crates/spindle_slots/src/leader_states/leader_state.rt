@@ -2,11 +2,11 @@
 ghost use Rattle.std.specs.Prelude.{◌≡◌};
 ghost use Rattle.spindle_threads.specs.SlotMembers.{view_in};
 
-use crate::threads::slot_member::{LeaderSeats, SlotMember};
-use crate::pieces::of_kind::Reuses;
 use crate::leader_states::sealed::HasLeaderState;
 use crate::leader_states::slot_workspace::{MakesSlots, OpensSlots, SlotWorkspace};
+use crate::pieces::of_kind::Reuses;
 use crate::running::in_slots::RunsPieces;
+use crate::threads::slot_member::{LeaderSeats, SlotMember};
 use spindle_parts::fault::Fault;
 use spindle_rounds::round::Round;
 use spindle_rounds::round_table::Seat;

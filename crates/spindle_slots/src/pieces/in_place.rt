@@ -6,11 +6,11 @@ ghost use Rattle.spindle_rounds.specs.SlotLoops.{HoldsEach, IsEmpty, Turning};
 ghost use Rattle.spindle_slots.specs.InPlace.{IsReady};
 ghost use Rattle.spindle_slots.specs.SlotPieces.{IsPieceOf};
 
-use crate::threads::slot_tables::SlotTables;
 use crate::job::update::Updates;
+use crate::pieces::chunk_buffers::ChunkBuffers;
 use crate::pieces::of_kind::ChunkOf;
 use crate::pieces::slot_piece::OneOr;
-use crate::pieces::chunk_buffers::ChunkBuffers;
+use crate::threads::slot_tables::SlotTables;
 use spindle_rounds::round_table::Seat;
 use spindle_rounds::round_table::pieces::PieceSlots;
 

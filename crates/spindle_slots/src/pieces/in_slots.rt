@@ -6,10 +6,10 @@ ghost use Rattle.spindle_rounds.specs.SlotLoops.{HoldsEach, IsEmpty, Turning};
 ghost use Rattle.spindle_parts.specs.Pieces.{counted};
 ghost use Rattle.spindle_slots.specs.SlotPieces.{IsItemOf, IsPieceOf};
 
-use crate::threads::slot_tables::SlotTables;
 use crate::pieces::of_kind::PieceOf;
 use crate::pieces::output_buffers::OutputBuffers;
 use crate::pieces::slot_piece::{Batch, OneOr, Parts};
+use crate::threads::slot_tables::SlotTables;
 use spindle_parts::fault::Fault;
 use spindle_rounds::round_table::Seat;
 use spindle_rounds::round_table::pieces::{PieceKind, PieceSlots};

@@ -7,11 +7,11 @@ ghost use Rattle.spindle_rounds.specs.SlotHands.{WaitsAs};
 ghost use Rattle.spindle_rounds.specs.SlotLoops.{HoldsEach, IsEmpty, Turning};
 ghost use Rattle.spindle_slots.specs.SlotPieces.{IsPieceOf, all_items, pieces_of};
 
-use crate::threads::slot_tables::SlotTables;
 use crate::pieces::of_kind::PieceOf;
 use crate::pieces::output_buffers::OutputBuffers;
-use spindle_parts::lists::shared::SharedList;
+use crate::threads::slot_tables::SlotTables;
 use spindle_parts::fault::Fault;
+use spindle_parts::lists::shared::SharedList;
 use spindle_rounds::round_table::{Seat, pieces};
 use spindle_trays::job::Job;
 use spindle_trays::pieces::list_runs::ListRuns;

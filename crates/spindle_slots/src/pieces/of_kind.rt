@@ -3,9 +3,9 @@ ghost use Rattle.spindle_slots.specs.SlotPieces.{IsAnswerTo};
 
 use crate::job::update::Updates;
 use crate::pieces::chunk::{Chunk, Updated};
+use crate::pieces::chunk_buffers::ChunkBuffers;
 use crate::pieces::output_buffers::OutputBuffers;
 use crate::pieces::slot_piece::{Batch, OneOr, Outputs};
-use crate::pieces::chunk_buffers::ChunkBuffers;
 use spindle_rounds::round_table::pieces::PieceKind;
 use spindle_trays::job::Job;
 use std::marker::PhantomData;

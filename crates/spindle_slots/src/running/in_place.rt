@@ -7,13 +7,13 @@ ghost use Rattle.spindle_rounds.specs.Working.{PlayedRound};
 ghost use Rattle.spindle_slots.specs.InPlace.{IsReady};
 ghost use Rattle.spindle_slots.specs.SlotRounds.{LeadsIn};
 
-use crate::threads::slot_tables::SlotTables;
 use crate::job::update::Updates;
 use crate::pieces::chunk::{Chunk, Lists, Updated};
+use crate::pieces::chunk_buffers::ChunkBuffers;
 use crate::pieces::of_kind::ChunkOf;
 use crate::pieces::slot_piece::OneOr;
-use crate::pieces::chunk_buffers::ChunkBuffers;
 use crate::running::in_slots::{RunsPieces, SlotWork};
+use crate::threads::slot_tables::SlotTables;
 use spindle_rounds::barrier::Barrier;
 use spindle_rounds::round_table::pieces::PieceSlots;
 use spindle_trays::job::context::JobCx;

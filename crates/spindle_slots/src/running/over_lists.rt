@@ -5,12 +5,12 @@ ghost use Rattle.spindle_rounds.specs.Holding.{Keeps};
 ghost use Rattle.spindle_rounds.specs.Working.{PlayedRound};
 ghost use Rattle.spindle_slots.specs.SlotRounds.{LeadsIn};
 
-use crate::threads::slot_tables::SlotTables;
 use crate::pieces::items::FillsSlots;
 use crate::pieces::of_kind::PieceOf;
 use crate::pieces::output_buffers::OutputBuffers;
 use crate::pieces::slot_piece::{Batch, OneOr, Outputs};
 use crate::running::in_slots::{RunsPieces, SlotWork};
+use crate::threads::slot_tables::SlotTables;
 use spindle_parts::fault::Fault;
 use spindle_rounds::barrier::Barrier;
 use spindle_rounds::round_table::pieces::PieceSlots;

@@ -6,12 +6,12 @@ ghost use Rattle.spindle_threads.specs.SlotMembers.{HoldsEmpty, StandsAt, view_i
 ghost use Rattle.spindle_rounds.specs.RoundConditions.{MayFill};
 ghost use Rattle.spindle_rounds.specs.Seating.{HasSlots};
 
-use spindle_threads::leader_member::LeaderMember;
-use spindle_threads::member::Member;
-use spindle_threads::tables::Tables;
 use spindle_rounds::barrier::detached_party::DetachedParty;
 use spindle_rounds::round_table::pieces::{PieceKind, PieceSlots};
 use spindle_rounds::round_table::slots::SlotContents;
+use spindle_threads::leader_member::LeaderMember;
+use spindle_threads::member::Member;
+use spindle_threads::tables::Tables;
 use std::sync::{Arc, Wait};
 
 /// A leader that stands at its barrier, and has done nothing with the slots: its share of the tables, and what it keeps.

@@ -2,8 +2,8 @@
 ghost use Rattle.std.specs.Prelude.{◌≡◌};
 ghost use Rattle.spindle_rounds.specs.Seating.{HasSlots};
 
-use spindle_threads::tables::Tables;
 use spindle_rounds::round_table::slots::SlotContents;
+use spindle_threads::tables::Tables;
 
 /// A lock's tables, with the number of its round table's slots.
 #[derive(Drop)]

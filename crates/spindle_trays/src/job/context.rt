@@ -5,12 +5,12 @@
 ghost use Rattle.std.specs.Prelude.{◌≡◌, ◌+◌, ◌<◌, ◌≤◌, IfSome, is_some};
 
 use crate::job::nest::Nest;
+use spindle_rounds::round_table::slots::SlotContents;
 use spindle_threads::ThreadCounts;
 use spindle_threads::helper_requests::HelperRequest;
-use spindle_threads::signals::Signals;
 use spindle_threads::job_site::JobSite;
+use spindle_threads::signals::Signals;
 use spindle_threads::tables::Tables;
-use spindle_rounds::round_table::slots::SlotContents;
 use std::marker::Model;
 
 /// The context of a job whose kind has the inner nest N.
@@ -59,7 +59,11 @@ impl<'a, N: Nest> JobCx<'a, N> {
     ghost use Rattle.spindle_trays.specs.Locks.{RunsDirectly, context_at, knowing, nested_hands};
 
     /// The context of a job that runs at this site.
-    pub fn new(slots: Option<&'a N::ChildSlots>, signals: Signals<'a>, site: JobSite<'a>) -> JobCx<'a, N>
+    pub fn new(
+        slots: Option<&'a N::ChildSlots>,
+        signals: Signals<'a>,
+        site: JobSite<'a>,
+    ) -> JobCx<'a, N>
         ensures { result ≡ context_at (is_some slots.entry) site.entry (account_of signals.entry) }
     {
         JobCx {

@@ -9,13 +9,13 @@ use crate::job::gate::Gate;
 use crate::job::nest::Nest;
 use crate::lock::part::TakesPart;
 use crate::running::runner::Runner;
-use spindle_threads::helper_waits::{News, await_news, end_part, take_number};
-use spindle_threads::signals::Signals;
-use spindle_threads::member::{Member, Whereabouts};
-use spindle_threads::seats::{HelperSeats, Seats};
-use spindle_threads::tables::Tables;
 use spindle_rounds::round_table;
 use spindle_rounds::round_table::slots::SlotContents;
+use spindle_threads::helper_waits::{News, await_news, end_part, take_number};
+use spindle_threads::member::{Member, Whereabouts};
+use spindle_threads::seats::{HelperSeats, Seats};
+use spindle_threads::signals::Signals;
+use spindle_threads::tables::Tables;
 use std::alloc::Global;
 use std::sync::Wait;
 use std::thread::Threads;
@@ -28,7 +28,13 @@ pub(crate) fn help<
     L: TakesPart<J, D>,
     G: Gate,
     H: Threads + Wait + Sync,
->(rt: &H, alloc: Global, helper_seats: HelperSeats<'a, D>, workspace: &'a L, gate: &'a G) -> Seats<D>
+>(
+    rt: &H,
+    alloc: Global,
+    helper_seats: HelperSeats<'a, D>,
+    workspace: &'a L,
+    gate: &'a G,
+) -> Seats<D>
     ensures out { AreOut helper_seats.entry.tables.now result }
     ensures own { AreSameSeats helper_seats.entry.seats result }
 {

@@ -3,12 +3,12 @@
 //! `child_lease` has the child slots in which they stand and `closing` how they close, whatever the kind of the nested lock; `child`, `opening`
 //! and `rounds` those whose pieces stand in trays.
 
-mod child_lease;
 mod child;
+mod child_lease;
 mod closing;
 mod opening;
 mod rounds;
 
-pub use self::child_lease::{ChildLease, ChildSlot, make_slots, serve_slots};
 pub use self::child::{Child, Nested, TakesHelpers, help_from};
+pub use self::child_lease::{ChildLease, ChildSlot, make_slots, serve_slots};
 pub use self::closing::{Leads, close};

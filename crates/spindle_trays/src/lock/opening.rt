@@ -7,19 +7,19 @@ use crate::job::Job;
 use crate::job::gate::Gate;
 use crate::job::nest::Nest;
 use crate::lock::helper::help;
-use crate::lock::helpers::{Helpers, HelperRoom};
+use crate::lock::helpers::{HelperRoom, Helpers};
 use crate::lock::leader::Leader;
 use crate::lock::nested::Leads;
 use crate::lock::part::TakesPart;
 use crate::lock::pool::Pool;
 use crate::lock::workspace::Opens;
 use crate::running::runner::Runner;
+use spindle_rounds::round_table::slots::{Bare, SlotContents};
 use spindle_threads::leader_member::LeaderMember;
-use spindle_threads::signals::Signals;
 use spindle_threads::member::Member;
 use spindle_threads::seats::Seats;
+use spindle_threads::signals::Signals;
 use spindle_threads::tables::Tables;
-use spindle_rounds::round_table::slots::{Bare, SlotContents};
 use std::alloc::Global;
 use std::sync::Wait;
 use std::thread::{Scope, Threads};
@@ -147,7 +147,13 @@ pub(crate) fn lead<
     F: FnOnce(&mut Leader<J, G, L>) -> R,
     L: Send + Sync,
     H: Threads + Wait + Sync + 's,
->(scope: &Scope<'s, E>, rt: &'s H, alloc: Global, leader_start: LeaderStart<'s, Bare, G, L>, f: F) -> R
+>(
+    scope: &Scope<'s, E>,
+    rt: &'s H,
+    alloc: Global,
+    leader_start: LeaderStart<'s, Bare, G, L>,
+    f: F,
+) -> R
 where
     J::In: Send + Sync,
     J::Out: Send,

@@ -14,9 +14,9 @@ ghost use Rattle.spindle_trays.specs.Trays.{ready_at, finished_at, number_at, Aw
 use crate::job::Job;
 use crate::pieces::address::{Address, hand_length};
 use crate::pieces::finished::Finished;
+use crate::pieces::list_runs::ListRuns;
 use crate::pieces::place::Place;
 use crate::pieces::ready::Ready;
-use crate::pieces::list_runs::ListRuns;
 use crate::pieces::spare_lists::SpareLists;
 use crate::running::tally::Tally;
 use std::alloc::{AllocError, Global};

@@ -5,8 +5,8 @@ ghost use Rattle.spindle_rounds.specs.RoundConditions.{MayFinish};
 ghost use Rattle.spindle_rounds.specs.Seating.{IsSameSeat};
 
 use spindle_rounds::round::claim::Claimed;
-use spindle_rounds::round::finishing::Numbered;
 use spindle_rounds::round::claimer::Claimer;
+use spindle_rounds::round::finishing::Numbered;
 use spindle_rounds::round_table::Seat;
 use spindle_rounds::round_table::slots::Bare;
 

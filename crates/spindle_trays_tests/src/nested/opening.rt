@@ -2,6 +2,7 @@
 ghost use Rattle.std.proofs.Common.{rules};
 ghost use denote.Param.Send.{IsSync};
 
+use crate::jobs::Idle;
 use spindle_parts::fault::Fault;
 use spindle_trays::job::Job;
 use spindle_trays::job::context::JobCx;
@@ -9,7 +10,6 @@ use spindle_trays::job::gate::NoGate;
 use spindle_trays::job::nest::Under;
 use spindle_trays::lock::leader::Leader;
 use spindle_trays::lock::workspace::Opens;
-use crate::jobs::Idle;
 use std::alloc::Global;
 use std::hint::spin_loop;
 use std::marker::PhantomData;

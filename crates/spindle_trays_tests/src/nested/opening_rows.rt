@@ -4,14 +4,14 @@
 //! locks end at all, two and three one in the other.
 
 use crate::checks::{holds, is};
+use crate::gates::Meetings;
 use crate::nested::opening::{Above, Answer, Ask, Opening};
-use spindle_threads::limits::Limits;
+use crate::rounds::rounds_of;
 use spindle_parts::fault::Fault;
+use spindle_threads::limits::Limits;
 use spindle_trays::job::Job;
 use spindle_trays::job::nest::Nest;
 use spindle_trays::lock::pool::Pool;
-use crate::gates::Meetings;
-use crate::rounds::rounds_of;
 use std::alloc::Global;
 use std::process::Abort;
 use std::sync::Wait;

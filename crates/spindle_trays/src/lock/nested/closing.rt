@@ -6,10 +6,10 @@
 ghost use Rattle.spindle_parts.specs.declared.requests.plays.Account.{Account};
 ghost use Rattle.spindle_threads.specs.Signals.{AnnouncedExit};
 
-use crate::lock::nested::child_lease::ChildLease;
 use crate::lock::nested::child::Child;
-use spindle_threads::helper_requests::OpenPlaces;
+use crate::lock::nested::child_lease::ChildLease;
 use spindle_parts::aarc_imp::AtomicArc;
+use spindle_threads::helper_requests::OpenPlaces;
 use std::sync::Wait;
 
 /// The leader of a lock, as it ends.
@@ -79,5 +79,8 @@ impl<'a, N: Drop> Left<'a, N> {
 
 /// Closes a lock that stands in a child slot.
 pub fn close<T: Leads, N: Drop, H: Wait>(rt: &H, leader: T, child_lease: ChildLease<'_, N>) {
-    child_lease.close(Dismissed::new(rt, leader)).leave(rt).clear(rt);
+    child_lease
+        .close(Dismissed::new(rt, leader))
+        .leave(rt)
+        .clear(rt);
 }
