@@ -4,13 +4,15 @@
 //! `held` says how pieces hold the kernel, `source` how they read the list.
 
 mod held;
+mod leaders;
 mod maps;
 mod pairs;
 mod source;
 mod tasks;
 mod updates;
 
-pub use self::held::Again;
+pub use self::held::{Again, Shared};
+pub use self::leaders::{MapsOf, UpdatesOf};
 pub use self::maps::{Mapping, Run, map};
 pub use self::pairs::{PairRun, map_pairs, reduce_pairs};
 pub use self::source::Source;

@@ -4,8 +4,11 @@ ghost use Rattle.std.specs.Prelude.{◌≡◌, ◌+◌, ◌*◌, min};
 
 use crate::checks::{are, holds, is};
 use crate::jobs::{Calls, Counting};
-use spindle::lock::{Combine, Limits, NoGate, Pool};
-use spindle::{Change, Fault, Kernel, SharedList, map, map_pairs, reduce_pairs, update};
+use spindle::lock::{Combine, Limits, LockOf, NoGate, Pool};
+use spindle::{
+    Change, Fault, Kernel, MapsOf, Shared, SharedList, UpdatesOf, map, map_pairs, reduce_pairs,
+    update,
+};
 use std::alloc::Global;
 
 // Squares a number, and adds one that is borrowed.
@@ -210,5 +213,68 @@ fn pairs_are_combined_in_their_order(rt: HostRuntime) -> Result<(), Fault> {
         let last = reduce_pairs::<_, _, LastSecond>(&rt, alloc, &pool, jobs, &first, &second)?;
         is(&rt, last, 5);
     }
+    Ok(())
+}
+
+// Adds a number.
+#[derive(Drop)]
+struct Plus {
+    by: u32,
+}
+
+impl Kernel for Plus {
+    type In = u32;
+
+    type Out = u64;
+
+    ghost computes = { λ kernel x y. y ≡ x + kernel.by };
+
+    fn compute(&self, x: &u32) -> u64 {
+        u64::from(*x) + u64::from(self.by)
+    }
+}
+
+#[test]
+fn a_leader_maps_list_after_list(rt: HostRuntime) -> Result<(), Fault> {
+    let alloc = rt.alloc();
+    let pool = Pool::new(4, Limits::new(), NoGate);
+    let kernel = Shared::new(alloc, Plus { by: 1 })?;
+    let numbers = eleven_numbers(alloc)?;
+    let few = vec![in alloc; 7u32, 0]?;
+    let (sums, two) = LockOf::<MapsOf<Plus>>::with_slots_in_place(
+        &rt,
+        alloc,
+        &pool,
+        4,
+        5,
+        |leader| -> Result<(Vec<u64>, Vec<u64>), Fault> {
+            let sums = leader.map(&rt, alloc, &kernel, numbers)?;
+            let two = leader.map(&rt, alloc, &kernel, few)?;
+            Ok((sums, two))
+        },
+    )??;
+    are(&rt, &sums, &[4, 2, 5, 2, 6, 10, 3, 7, 6, 4, 4294967296]);
+    are(&rt, &two, &[8, 1]);
+    Ok(())
+}
+
+#[test]
+fn a_leader_updates_a_list_again(rt: HostRuntime) -> Result<(), Fault> {
+    let alloc = rt.alloc();
+    let pool = Pool::new(4, Limits::new(), NoGate);
+    let kernel = Shared::new(alloc, Bound { most: 5 })?;
+    let numbers = eleven_numbers(alloc)?;
+    let list = LockOf::<UpdatesOf<Bound>>::with_slots_in_place(
+        &rt,
+        alloc,
+        &pool,
+        4,
+        5,
+        |leader| -> Result<Vec<u32>, Fault> {
+            let once = leader.update(&rt, alloc, &kernel, numbers)?;
+            leader.update(&rt, alloc, &kernel, once)
+        },
+    )??;
+    are(&rt, &list, &BOUNDED);
     Ok(())
 }

@@ -1,8 +1,10 @@
-//! How pieces of a list hold their kernel: each has a reference to it, which is a kernel too.
+//! How pieces of a list hold their kernel: each has a reference to it, or shares it. Both are kernels too.
 ghost use Rattle.std.specs.Prelude.{◌≡◌, IfOk};
 
 use crate::kernels::{Change, Kernel};
-use std::alloc::AllocError;
+use std::alloc::{AllocError, Global};
+use std::marker::Model;
+use std::sync::Arc;
 
 /// A value that each piece of a list may have.
 pub trait Again: Drop {
@@ -38,5 +40,58 @@ impl<'k, K: Change> Change for &'k K {
     fn change(&self, item: &mut K::Item) {
         let kernel: &K = *self;
         kernel.change(item);
+    }
+}
+
+/// A kernel that rounds of a lock share. Contracts know it as the kernel.
+#[derive(Drop)]
+pub struct Shared<K> {
+    kernel: Arc<K>,
+}
+
+impl<K> Model for Shared<K> {
+    ghost use Rattle.std.specs.Arc.{arc_value};
+
+    ghost Value = { K };
+
+    ghost view = { λ shared. arc_value shared.kernel };
+}
+
+impl<K: Drop> Shared<K> {
+    /// The kernel, to be shared.
+    pub fn new(alloc: Global, kernel: K) -> Result<Shared<K>, AllocError>
+        ensures { IfOk result (λ shared. shared ≡ kernel) }
+    {
+        let kernel = Arc::new(alloc, kernel)?;
+        Ok(Shared { kernel })
+    }
+}
+
+impl<K: Drop> Again for Shared<K> {
+    fn again(&self) -> Result<Shared<K>, AllocError> {
+        let kernel = self.kernel.clone()?;
+        Ok(Shared { kernel })
+    }
+}
+
+impl<K: Kernel> Kernel for Shared<K> {
+    type In = K::In;
+
+    type Out = K::Out;
+
+    ghost computes = { K.computes };
+
+    fn compute(&self, item: &K::In) -> K::Out {
+        (*self.kernel).compute(item)
+    }
+}
+
+impl<K: Change> Change for Shared<K> {
+    type Item = K::Item;
+
+    ghost changes = { K.changes };
+
+    fn change(&self, item: &mut K::Item) {
+        (*self.kernel).change(item);
     }
 }

@@ -126,7 +126,7 @@ where
 }
 
 // The parts, each with the kernel and with room for what is computed of it.
-fn map_tasks<K: Again, S: Source, U: Drop>(
+pub(crate) fn map_tasks<K: Again, S: Source, U: Drop>(
     alloc: Global,
     kernel: &K,
     parts: Vec<S>,
@@ -145,7 +145,7 @@ fn map_tasks<K: Again, S: Source, U: Drop>(
 }
 
 // Moves what was computed of all pieces to the end of the list, one behind the other.
-fn append_outputs<K: Drop, S: Source, U: Drop>(
+pub(crate) fn append_outputs<K: Drop, S: Source, U: Drop>(
     tasks: Vec<PublishedRound<K, Run<S, U>>>,
     all: &mut Vec<U>,
 ) -> Result<(), AllocError>

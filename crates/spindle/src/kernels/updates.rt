@@ -82,7 +82,7 @@ where
 }
 
 // The pieces, each with the kernel.
-fn tasks_of<K: Again, T: Drop>(
+pub(crate) fn tasks_of<K: Again, T: Drop>(
     alloc: Global,
     kernel: &K,
     pieces: Vec<Piece<T>>,
@@ -99,7 +99,7 @@ fn tasks_of<K: Again, T: Drop>(
 }
 
 // Moves the items of all pieces to the end of the list, one behind the other.
-fn append_items<K: Drop, T: Drop>(
+pub(crate) fn append_items<K: Drop, T: Drop>(
     tasks: Vec<PublishedRound<K, Piece<T>>>,
     list: &mut Vec<T>,
 ) -> Result<(), AllocError>

@@ -3,8 +3,6 @@ use Rattle.std.proofs.Common.{◌≡◌, rules, map, ap, subst, sym, ◌∙◌}
 use Rattle.std.specs.List.{AllZip}
 use Rattle.std.proofs.lemmas.Simd.{map-map}
 use Rattle.spindle_parts.specs.Pieces.{joined}
-use Rattle.spindle.specs.declared.kernels.maps.Run.{Run}
-use Rattle.spindle.specs.declared.kernels.tasks.PublishedRound.{PublishedRound}
 use Rattle.spindle.proofs.KernelLists.{joined_tasks}
 use Rattle.spindle.proofs.kernels.maps.map_once.Goals as goal
 

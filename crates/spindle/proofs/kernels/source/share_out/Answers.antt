@@ -1,6 +1,5 @@
 -- One more part: the items behind those shared out, of the next length.
-use Rattle.std.proofs.Common.{◌≡◌, ℕ, ◌+◌, ◌-◌, ◌<◌, ◌++◌, ◌∷◌, [], List, length, map, take, drop, get_or, ap, ◌∙◌, arith, rules, slice_range}
-use Rattle.spindle_parts.specs.Pieces.{joined}
+use Rattle.std.proofs.Common.{◌≡◌, ℕ, ◌+◌, ◌-◌, ◌<◌, ◌++◌, ◌∷◌, [], List, length, map, take, drop, get_or, ap, ◌∙◌, arith, rules}
 use Rattle.spindle_parts.proofs.ListLaws.{joined_snoc, map_snoc, total_last}
 use Rattle.spindle_parts.proofs.ListRuns.{total_part}
 use Rattle.std.proofs.Math.Seq.{take-add}

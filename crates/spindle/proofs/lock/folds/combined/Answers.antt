@@ -1,5 +1,5 @@
 -- One more total.
-use Rattle.std.proofs.Common.{◌≡◌, ap, sym, ◌∙◌, [], ◌∷◌, ◌++◌, map}
+use Rattle.std.proofs.Common.{ap, sym, ◌∙◌, [], ◌∷◌, map}
 use Rattle.std.specs.Prelude.{fold}
 use Rattle.std.proofs.lemmas.List.Sums.{fold-append}
 use Rattle.spindle_parts.proofs.ListLaws.{map_snoc}

@@ -1,5 +1,5 @@
 -- One more pair.
-use Rattle.std.proofs.Common.{◌≡◌, length, take, get_or, rules, arith, sym, ap, ◌∙◌}
+use Rattle.std.proofs.Common.{◌≡◌, take, get_or, rules, arith, sym, ap, ◌∙◌}
 use Rattle.std.proofs.lemmas.List.{take_all}
 use Rattle.std.proofs.lemmas.List.Sums.{fold_more}
 use Rattle.std.proofs.lemmas.Slice.Zip.{length-zip, get_or-zip}
