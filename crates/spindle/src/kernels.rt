@@ -17,7 +17,7 @@ pub use self::maps::{Mapping, Run, map};
 pub use self::pairs::{PairRun, map_pairs, reduce_pairs};
 pub use self::source::Source;
 pub(crate) use self::source::parts_of;
-pub use self::tasks::PublishedRound;
+pub use self::tasks::Task;
 pub use self::updates::{Updating, update};
 
 /// A kernel: what a call over a list computes of each item. It holds what it reads beside the item, as a closure holds what it

@@ -7,7 +7,7 @@ ghost use Rattle.spindle.specs.Kernels.{IsOfKernel};
 use crate::kernels::Kernel;
 use crate::kernels::held::Again;
 use crate::kernels::source::{Source, parts_of};
-use crate::kernels::tasks::{PIECES, PublishedRound};
+use crate::kernels::tasks::{PIECES, Task};
 use crate::lock::update_one;
 use spindle_parts::fault::Fault;
 use spindle_parts::lists::SharedList;
@@ -58,7 +58,7 @@ pub struct Mapping<K, S> {
 }
 
 impl<K: Kernel + Drop, S: Source<Item = K::In>> Update for Mapping<K, S> {
-    type Item = PublishedRound<K, Run<S, K::Out>>;
+    type Item = Task<K, Run<S, K::Out>>;
 
     type Inner = End;
 
@@ -68,12 +68,12 @@ impl<K: Kernel + Drop, S: Source<Item = K::In>> Update for Mapping<K, S> {
     fn run<H: Threads + Wait + Sync>(
         _rt: &H,
         _alloc: Global,
-        task: PublishedRound<K, Run<S, K::Out>>,
+        task: Task<K, Run<S, K::Out>>,
         _cx: &mut JobCx<End>,
-    ) -> PublishedRound<K, Run<S, K::Out>> {
-        let PublishedRound { kernel, part } = task;
+    ) -> Task<K, Run<S, K::Out>> {
+        let Task { kernel, part } = task;
         let part = part.computed::<K>(&kernel);
-        PublishedRound { kernel, part }
+        Task { kernel, part }
     }
 }
 
@@ -130,7 +130,7 @@ pub(crate) fn map_tasks<K: Again, S: Source, U: Drop>(
     alloc: Global,
     kernel: &K,
     parts: Vec<S>,
-) -> Result<Vec<PublishedRound<K, Run<S, U>>>, AllocError>
+) -> Result<Vec<Task<K, Run<S, U>>>, AllocError>
     ensures parts { IfOk result (λ tasks.
         map (λ task. task.part.source) tasks.items ≡ parts.items) }
     ensures kernel { IfOk result (λ tasks. All (IsOfKernel kernel.now) tasks.items) }
@@ -139,21 +139,21 @@ pub(crate) fn map_tasks<K: Again, S: Source, U: Drop>(
     for part in parts {
         let kernel = kernel.again()?;
         let part = Run::new(alloc, part)?;
-        tasks.push_reserved(PublishedRound { kernel, part });
+        tasks.push_reserved(Task { kernel, part });
     }
     Ok(tasks)
 }
 
 // Moves what was computed of all pieces to the end of the list, one behind the other.
 pub(crate) fn append_outputs<K: Drop, S: Source, U: Drop>(
-    tasks: Vec<PublishedRound<K, Run<S, U>>>,
+    tasks: Vec<Task<K, Run<S, U>>>,
     all: &mut Vec<U>,
 ) -> Result<(), AllocError>
     ensures { let outputs = joined (map (λ task. task.part.outputs.items) tasks.items) in
         OnOk result (all.new.items ≡ all.old.items ++ outputs) }
 {
     for task in tasks {
-        let PublishedRound { part, .. } = task;
+        let Task { part, .. } = task;
         let Run { mut outputs, .. } = part;
         all.append(&mut outputs)?;
     }

@@ -5,7 +5,7 @@ pub(crate) const PIECES: usize = 4;
 
 /// A kernel, and what it works on.
 #[derive(Drop)]
-pub struct PublishedRound<K, P> {
+pub struct Task<K, P> {
     pub(crate) kernel: K,
     pub(crate) part: P,
 }

@@ -6,7 +6,7 @@ ghost use Rattle.spindle.specs.Kernels.{IsOfKernel};
 
 use crate::kernels::Change;
 use crate::kernels::held::Again;
-use crate::kernels::tasks::{PIECES, PublishedRound};
+use crate::kernels::tasks::{PIECES, Task};
 use crate::lock::update_one;
 use spindle_parts::cut::{Piece, cut};
 use spindle_parts::fault::Fault;
@@ -26,7 +26,7 @@ pub struct Updating<K> {
 }
 
 impl<K: Change + Drop> Update for Updating<K> {
-    type Item = PublishedRound<K, Piece<K::Item>>;
+    type Item = Task<K, Piece<K::Item>>;
 
     type Inner = End;
 
@@ -36,14 +36,14 @@ impl<K: Change + Drop> Update for Updating<K> {
     fn run<H: Threads + Wait + Sync>(
         _rt: &H,
         _alloc: Global,
-        task: PublishedRound<K, Piece<K::Item>>,
+        task: Task<K, Piece<K::Item>>,
         _cx: &mut JobCx<End>,
-    ) -> PublishedRound<K, Piece<K::Item>> {
-        let PublishedRound { kernel, part } = task;
+    ) -> Task<K, Piece<K::Item>> {
+        let Task { kernel, part } = task;
         let Piece { number, mut items } = part;
         change_each::<K>(&kernel, &mut items);
         let part = Piece { number, items };
-        PublishedRound { kernel, part }
+        Task { kernel, part }
     }
 }
 
@@ -86,28 +86,28 @@ pub(crate) fn tasks_of<K: Again, T: Drop>(
     alloc: Global,
     kernel: &K,
     pieces: Vec<Piece<T>>,
-) -> Result<Vec<PublishedRound<K, Piece<T>>>, AllocError>
+) -> Result<Vec<Task<K, Piece<T>>>, AllocError>
     ensures parts { IfOk result (λ tasks. map (λ task. task.part) tasks.items ≡ pieces.items) }
     ensures kernel { IfOk result (λ tasks. All (IsOfKernel kernel.now) tasks.items) }
 {
     let mut tasks = Vec::with_capacity(alloc, pieces.len())?;
     for part in pieces {
         let kernel = kernel.again()?;
-        tasks.push_reserved(PublishedRound { kernel, part });
+        tasks.push_reserved(Task { kernel, part });
     }
     Ok(tasks)
 }
 
 // Moves the items of all pieces to the end of the list, one behind the other.
 pub(crate) fn append_items<K: Drop, T: Drop>(
-    tasks: Vec<PublishedRound<K, Piece<T>>>,
+    tasks: Vec<Task<K, Piece<T>>>,
     list: &mut Vec<T>,
 ) -> Result<(), AllocError>
     ensures { let items = joined (map (λ task. task.part.items.items) tasks.items) in
         OnOk result (list.new.items ≡ list.old.items ++ items) }
 {
     for task in tasks {
-        let PublishedRound { part, .. } = task;
+        let Task { part, .. } = task;
         let Piece { mut items, .. } = part;
         list.append(&mut items)?;
     }

@@ -5,12 +5,12 @@ use Rattle.std.proofs.lemmas.List.Elements.{All-push}
 use Rattle.spindle_parts.specs.declared.cut.Piece.{Piece}
 use Rattle.spindle_parts.proofs.ListLaws.{map_snoc}
 use Rattle.spindle.specs.Kernels.{IsOfKernel}
-use Rattle.spindle.specs.declared.kernels.tasks.PublishedRound.{PublishedRound}
+use Rattle.spindle.specs.declared.kernels.tasks.Task.{Task}
 use Rattle.spindle.proofs.kernels.updates.tasks_of.Goals as goal
 
 pub loop-part-preserved : goal.loop-part-preserved
 loop-part-preserved g c =
-    let T : Type 0 = PublishedRound g.row.K.Denot (Piece g.row.T.Denot) in
+    let T : Type 0 = Task g.row.K.Denot (Piece g.row.T.Denot) in
     let part : T → Piece g.row.T.Denot = λ task. task.part in
     let old : List T = c.loop-part.tasks.items in
     let task : T = record { kernel = c.in_ok-kernel.kernel; part = c.in-Some.part } in
