@@ -12,7 +12,7 @@ mod tasks;
 mod updates;
 
 pub use self::held::{Again, Shared};
-pub use self::leaders::{MapsOf, UpdatesOf};
+pub use self::leaders::UpdatesOf;
 pub use self::maps::{Mapping, Run, map};
 pub use self::pairs::{PairRun, map_pairs, reduce_pairs};
 pub use self::source::Source;

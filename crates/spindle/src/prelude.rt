@@ -1,8 +1,6 @@
 //! What nearly every caller imports: `use spindle::prelude::*;`.
 
-pub use crate::kernels::{
-    Change, Kernel, MapsOf, Shared, UpdatesOf, map, map_pairs, reduce_pairs, update,
-};
+pub use crate::kernels::{Change, Kernel, Shared, UpdatesOf, map, map_pairs, reduce_pairs, update};
 pub use crate::lock::{
     ChunkRounds, End, Gate, InPlace, Job, JobCx, Leader, Limits, LockOf, NoGate, PlaceLeader, Pool,
     Report, RunsRounds, SlotLeader, TellsFailures, Under, UnderInPlace, UnderSlots, Update, reduce,

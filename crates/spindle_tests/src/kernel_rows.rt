@@ -6,26 +6,25 @@ use crate::checks::{are, holds, is};
 use crate::jobs::{Calls, Counting};
 use spindle::lock::{Combine, Limits, LockOf, NoGate, Pool};
 use spindle::{
-    Change, Fault, Kernel, MapsOf, Shared, SharedList, UpdatesOf, map, map_pairs, reduce_pairs,
-    update,
+    Change, Fault, Kernel, Shared, SharedList, UpdatesOf, map, map_pairs, reduce_pairs, update,
 };
 use std::alloc::Global;
 
-// Squares a number, and adds one that is borrowed.
+// Adds a number that is borrowed.
 #[derive(Drop)]
-struct SquareAnd<'a> {
+struct Above<'a> {
     base: &'a u32,
 }
 
-impl<'a> Kernel for SquareAnd<'a> {
+impl<'a> Kernel for Above<'a> {
     type In = u32;
 
     type Out = u64;
 
-    ghost computes = { λ kernel x y. y ≡ x * x + kernel.base.now };
+    ghost computes = { λ kernel x y. y ≡ x + kernel.base.now };
 
     fn compute(&self, x: &u32) -> u64 {
-        u64::from(*x) * u64::from(*x) + u64::from(*self.base)
+        u64::from(*x) + u64::from(*self.base)
     }
 }
 
@@ -38,17 +37,17 @@ fn eleven_numbers(alloc: Global) -> Result<Vec<u32>, Fault> {
     }
 }
 
-// Their squares, each and 7.
-const SQUARES: [u64; 11] = [16, 8, 23, 8, 32, 88, 11, 43, 32, 16, 18446744065119617032];
+// Each of them and 7.
+const SUMS: [u64; 11] = [10, 8, 11, 8, 12, 16, 9, 13, 12, 10, 4294967302];
 
 #[test]
 fn outputs_of_a_map_stand_in_the_order_of_their_items(rt: HostRuntime) -> Result<(), Fault> {
     let alloc = rt.alloc();
     for threads in [1, 2, 4] {
         let pool = Pool::new(threads, Limits::new(), NoGate);
-        let kernel = SquareAnd { base: &7 };
-        let squares = map(&rt, alloc, &pool, &kernel, eleven_numbers(alloc)?)?;
-        are(&rt, &squares, &SQUARES);
+        let kernel = Above { base: &7 };
+        let sums = map(&rt, alloc, &pool, &kernel, eleven_numbers(alloc)?)?;
+        are(&rt, &sums, &SUMS);
     }
     Ok(())
 }
@@ -58,16 +57,16 @@ fn refused_map_has_run_no_job(rt: HostRuntime) -> Result<(), Fault> {
     let alloc = rt.alloc();
     let calls = Calls::new();
     let pool = Pool::new(4, Limits::new(), Counting { calls: &calls });
-    let kernel = SquareAnd { base: &7 };
-    let squares = match map(&rt, alloc, &pool, &kernel, eleven_numbers(alloc)?) {
-        Ok(squares) => squares,
+    let kernel = Above { base: &7 };
+    let sums = match map(&rt, alloc, &pool, &kernel, eleven_numbers(alloc)?) {
+        Ok(sums) => sums,
         Err(fault) => {
             holds(&rt, matches!(fault, Fault::Memory));
             is(&rt, calls.in_all(), (0, 0));
             map(&rt, alloc, &pool, &kernel, eleven_numbers(alloc)?)?
         }
     };
-    are(&rt, &squares, &SQUARES);
+    are(&rt, &sums, &SUMS);
     is(&rt, calls.in_all(), (11, 11));
     Ok(())
 }
@@ -78,9 +77,9 @@ fn refused_nothing_where_a_kernel_has_no_items(rt: HostRuntime) -> Result<(), Fa
     let alloc = rt.alloc();
     let calls = Calls::new();
     let pool = Pool::new(4, Limits::new(), Counting { calls: &calls });
-    let kernel = SquareAnd { base: &7 };
-    let squares = map(&rt, alloc, &pool, &kernel, Vec::new(alloc))?;
-    is(&rt, squares.capacity(), 0);
+    let kernel = Above { base: &7 };
+    let sums = map(&rt, alloc, &pool, &kernel, Vec::new(alloc))?;
+    is(&rt, sums.capacity(), 0);
     is(&rt, calls.in_all(), (0, 0));
     Ok(())
 }
@@ -213,48 +212,6 @@ fn pairs_are_combined_in_their_order(rt: HostRuntime) -> Result<(), Fault> {
         let last = reduce_pairs::<_, _, LastSecond>(&rt, alloc, &pool, jobs, &first, &second)?;
         is(&rt, last, 5);
     }
-    Ok(())
-}
-
-// Adds a number.
-#[derive(Drop)]
-struct Plus {
-    by: u32,
-}
-
-impl Kernel for Plus {
-    type In = u32;
-
-    type Out = u64;
-
-    ghost computes = { λ kernel x y. y ≡ x + kernel.by };
-
-    fn compute(&self, x: &u32) -> u64 {
-        u64::from(*x) + u64::from(self.by)
-    }
-}
-
-#[test]
-fn a_leader_maps_list_after_list(rt: HostRuntime) -> Result<(), Fault> {
-    let alloc = rt.alloc();
-    let pool = Pool::new(4, Limits::new(), NoGate);
-    let kernel = Shared::new(alloc, Plus { by: 1 })?;
-    let numbers = eleven_numbers(alloc)?;
-    let few = vec![in alloc; 7u32, 0]?;
-    let (sums, two) = LockOf::<MapsOf<Plus>>::with_slots_in_place(
-        &rt,
-        alloc,
-        &pool,
-        4,
-        5,
-        |leader| -> Result<(Vec<u64>, Vec<u64>), Fault> {
-            let sums = leader.map(&rt, alloc, &kernel, numbers)?;
-            let two = leader.map(&rt, alloc, &kernel, few)?;
-            Ok((sums, two))
-        },
-    )??;
-    are(&rt, &sums, &[4, 2, 5, 2, 6, 10, 3, 7, 6, 4, 4294967296]);
-    are(&rt, &two, &[8, 1]);
     Ok(())
 }
 

@@ -1,55 +1,23 @@
 //! Calls over whole lists in a lock that stays open: round after round by one leader, whose kernel its lists share.
-ghost use Rattle.std.specs.Prelude.{◌≡◌, ◌<◌, IfOk, IsOk, OnErr, IsErrOf, vec_len};
+ghost use Rattle.std.specs.Prelude.{◌≡◌, ◌<◌, IfOk, OnErr, IsErrOf};
 ghost use Rattle.std.specs.List.{AllZip};
 ghost use Rattle.spindle.specs.SlotLeaders.{threads_of, lock_slots};
 
+use crate::kernels::Change;
 use crate::kernels::held::Shared;
-use crate::kernels::maps::{Mapping, append_outputs, map_tasks};
-use crate::kernels::source::parts_of;
 use crate::kernels::tasks::PIECES;
 use crate::kernels::updates::{Updating, append_items, tasks_of};
-use crate::kernels::{Change, Kernel};
 use crate::lock::PlaceLeader;
 use spindle_parts::cut::cut;
 use spindle_parts::fault::Fault;
-use spindle_parts::lists::{ListRun, SharedList};
 use spindle_slots::job::update::InPlace;
 use spindle_trays::job::gate::Gate;
 use std::alloc::Global;
 use std::sync::Wait;
 use std::thread::Threads;
 
-/// The kind of job of a lock whose leader maps lists by the kernel K, opened by `LockOf::<MapsOf<K>>::with_slots_in_place`.
-pub type MapsOf<K> = InPlace<Mapping<Shared<K>, ListRun<<K as Kernel>::In>>>;
-
-/// The kind of job of a lock whose leader updates lists by the kernel K.
+/// The kind of job of a lock whose leader updates lists by the kernel K, opened by `LockOf::<UpdatesOf<K>>::with_slots_in_place`.
 pub type UpdatesOf<K> = InPlace<Updating<Shared<K>>>;
-
-impl<'a, K: Kernel + Drop, G: Gate> PlaceLeader<'a, Mapping<Shared<K>, ListRun<K::In>>, G> {
-    /// What the kernel computes of each item, in the order of the items: a round of this lock.
-    pub fn map<H: Threads + Wait + Sync>(
-        &mut self,
-        rt: &H,
-        alloc: Global,
-        kernel: &Shared<K>,
-        list: Vec<K::In>,
-    ) -> Result<Vec<K::Out>, Fault>
-        ensures answer { IfOk result (λ outputs.
-            AllZip (K.computes kernel.now) list.items outputs.items) }
-        ensures memory { OnErr result (IsErrOf result Fault.Memory) }
-        ensures lock { threads_of self.new ≡ threads_of self.old }
-        ensures slots { lock_slots self.new ≡ lock_slots self.old }
-    {
-        let len = list.len();
-        let jobs = self.max_num_threads().saturating_mul(PIECES);
-        let mut outputs = Vec::with_capacity(alloc, len)?;
-        let list = SharedList::from_vec(alloc, list)?.run(0, len)?;
-        let mut tasks = map_tasks(alloc, kernel, parts_of(alloc, &list, jobs)?)?;
-        self.update_each(rt, alloc, jobs, &mut tasks)?;
-        append_outputs(tasks, &mut outputs)?;
-        Ok(outputs)
-    }
-}
 
 impl<'a, K: Change + Drop, G: Gate> PlaceLeader<'a, Updating<Shared<K>>, G> {
     /// Changes each item of the list by the kernel: a round of this lock. A refusal gives the items up.
