@@ -1,6 +1,6 @@
 //! Rows of calls over whole lists by a kernel, and what a refused allocation leaves of them: no job was run, and the same call with
 //! memory answers in full.
-ghost use Rattle.std.specs.Prelude.{◌≡◌, ◌+◌, ◌*◌, min};
+ghost use Rattle.std.specs.Prelude.{◌≡◌, ◌+◌, min};
 
 use crate::checks::{are, holds, is};
 use crate::jobs::{Calls, Counting};
@@ -10,21 +10,21 @@ use spindle::{
 };
 use std::alloc::Global;
 
-// Adds a number that is borrowed.
+// A number, but no more than one that is borrowed.
 #[derive(Drop)]
-struct Above<'a> {
-    base: &'a u32,
+struct AtMost<'a> {
+    most: &'a u32,
 }
 
-impl<'a> Kernel for Above<'a> {
+impl<'a> Kernel for AtMost<'a> {
     type In = u32;
 
-    type Out = u64;
+    type Out = u32;
 
-    ghost computes = { λ kernel x y. y ≡ x + kernel.base.now };
+    ghost computes = { λ kernel x y. y ≡ min x kernel.most.now };
 
-    fn compute(&self, x: &u32) -> u64 {
-        u64::from(*x) + u64::from(*self.base)
+    fn compute(&self, x: &u32) -> u32 {
+        (*x).min(*self.most)
     }
 }
 
@@ -37,17 +37,17 @@ fn eleven_numbers(alloc: Global) -> Result<Vec<u32>, Fault> {
     }
 }
 
-// Each of them and 7.
-const SUMS: [u64; 11] = [10, 8, 11, 8, 12, 16, 9, 13, 12, 10, 4294967302];
+// Each of them, but 7 at most.
+const LEAST: [u32; 11] = [3, 1, 4, 1, 5, 7, 2, 6, 5, 3, 7];
 
 #[test]
 fn outputs_of_a_map_stand_in_the_order_of_their_items(rt: HostRuntime) -> Result<(), Fault> {
     let alloc = rt.alloc();
     for threads in [1, 2, 4] {
         let pool = Pool::new(threads, Limits::new(), NoGate);
-        let kernel = Above { base: &7 };
-        let sums = map(&rt, alloc, &pool, &kernel, eleven_numbers(alloc)?)?;
-        are(&rt, &sums, &SUMS);
+        let kernel = AtMost { most: &7 };
+        let least = map(&rt, alloc, &pool, &kernel, eleven_numbers(alloc)?)?;
+        are(&rt, &least, &LEAST);
     }
     Ok(())
 }
@@ -57,16 +57,16 @@ fn refused_map_has_run_no_job(rt: HostRuntime) -> Result<(), Fault> {
     let alloc = rt.alloc();
     let calls = Calls::new();
     let pool = Pool::new(4, Limits::new(), Counting { calls: &calls });
-    let kernel = Above { base: &7 };
-    let sums = match map(&rt, alloc, &pool, &kernel, eleven_numbers(alloc)?) {
-        Ok(sums) => sums,
+    let kernel = AtMost { most: &7 };
+    let least = match map(&rt, alloc, &pool, &kernel, eleven_numbers(alloc)?) {
+        Ok(least) => least,
         Err(fault) => {
             holds(&rt, matches!(fault, Fault::Memory));
             is(&rt, calls.in_all(), (0, 0));
             map(&rt, alloc, &pool, &kernel, eleven_numbers(alloc)?)?
         }
     };
-    are(&rt, &sums, &SUMS);
+    are(&rt, &least, &LEAST);
     is(&rt, calls.in_all(), (11, 11));
     Ok(())
 }
@@ -77,9 +77,9 @@ fn refused_nothing_where_a_kernel_has_no_items(rt: HostRuntime) -> Result<(), Fa
     let alloc = rt.alloc();
     let calls = Calls::new();
     let pool = Pool::new(4, Limits::new(), Counting { calls: &calls });
-    let kernel = Above { base: &7 };
-    let sums = map(&rt, alloc, &pool, &kernel, Vec::new(alloc))?;
-    is(&rt, sums.capacity(), 0);
+    let kernel = AtMost { most: &7 };
+    let least = map(&rt, alloc, &pool, &kernel, Vec::new(alloc))?;
+    is(&rt, least.capacity(), 0);
     is(&rt, calls.in_all(), (0, 0));
     Ok(())
 }
