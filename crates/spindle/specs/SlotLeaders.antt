@@ -26,7 +26,7 @@ use Rattle.spindle_rounds.specs.Working.{PlayedRound}
 abbrev pub threads_of : {J G P I O N S : Type 0} → SlotLeader J G P I O N S → ℕ
 threads_of leader = leader.counts.most
 
--- it leads a lock of so many threads with so many slots, where this tells them of its post
+-- it leads a lock of so many threads with so many slots, where this tells them of its state
 abbrev pub IsLeaderOf : {J G P I O N S : Type 0} → (P → ℕ) → (threads slots : ℕ)
     → SlotLeader J G P I O N S → Type 0
 IsLeaderOf slot_count threads slots leader = (threads_of leader ≡ threads)
@@ -44,7 +44,7 @@ IsForMemory items result = OnErr result (IsErrOf result Memory) × (items ≡ 0 
 abbrev pub AnnouncedRest : {J G P I O N S : Type 0} → (old new : SlotLeader J G P I O N S) → Type 0
 AnnouncedRest old new = signals.AnnouncedRest (account_of old) (account_of new)
 
--- what its post tells of it is as before
+-- what its state tells of it is as before
 abbrev pub IsAsBefore : {J G P I O N S V : Type 0} → (P → V) → (old new : SlotLeader J G P I O N S)
     → Type 0
 IsAsBefore told old new = told new.post ≡ told old.post
@@ -54,7 +54,7 @@ abbrev pub DidNothing : {J G P I O N S V : Type 0} → (P → V) → (old new : 
     → Type 0
 DidNothing view old new = IsAsBefore view old new × (account_of new ≡ account_of old)
 
--- the slots of its lock, where this tells them of its post
+-- the slots of its lock, where this tells them of its state
 abbrev pub slots_of : {J G P I O N S : Type 0} → (P → ℕ) → SlotLeader J G P I O N S → ℕ
 slots_of slot_count leader = slot_count leader.post
 

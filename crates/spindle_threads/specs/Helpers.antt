@@ -22,7 +22,7 @@ IsNews v Exit = Unit {0}
 IsNews v (Round task) = OnTask task.jobs task.may_stop v
 IsNews v Requests = Unit {0}
 
--- a helper after a round: at its post, under its number, or out of the barrier
+-- a helper after a round: a member, under its number, or out of the barrier
 abbrev pub IsHelperAt : {T S N : Type 0} → Tables T S N → (thread : ℕ) → Whereabouts T S N → Type 0
 IsHelperAt tables thread (In post) = (post.tables.now ≡ tables) × (post.thread ≡ thread)
     × ((party_view post.barrier).leader ≡ false)

@@ -1,4 +1,4 @@
--- What a thread's account at the ledger gains by the notices that it reads and gives.
+-- What a thread's account at the ledger gains by the signals that it reads and gives.
 use Rattle.std.specs.Prelude.{◌≡◌, ◌⊎◌, ℕ, Bool, true, false, if◌then◌else◌}
 use Rattle.spindle_parts.specs.declared.requests.plays.Account.{Account}
 use Rattle.spindle_parts.specs.declared.requests.TakePlace.TheVariants as answer

@@ -1,5 +1,5 @@
 //! The threads of a lock, whatever the kind of job: how many there are, the tables that they share and their seats at these, how
-//! idle ones wait, and the post of each at the barrier.
+//! idle ones wait, and the membership of each at the barrier.
 //!
 //! Users stand on `spindle`, which gives out what they name of this.
 #![tactic(auto)]

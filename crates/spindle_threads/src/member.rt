@@ -37,7 +37,7 @@ pub struct Member<'a, D: SlotContents> {
 /// Where a helper is after a round.
 #[derive(Drop)]
 pub enum Whereabouts<'a, D: SlotContents> {
-    /// At its post.
+    /// In the barrier.
     In(Member<'a, D>),
     /// Out of the barrier, since nested locks ask for helpers.
     Out(Seat<D>),

@@ -11,7 +11,7 @@ use crate::tables::Tables;
 use spindle_parts::requests::{Requests, Seat, TakePlace};
 use spindle_rounds::round_table::slots::SlotContents;
 
-/// A thread's access to the notices of its lock. It answers for no request between two calls.
+/// A thread's access to the signals of its lock. It answers for no request between two calls.
 #[derive(Drop)]
 pub struct Signals<'a> {
     ledger: &'a Requests,
@@ -25,7 +25,7 @@ pub struct Signals<'a> {
 impl<'a> Signals<'a> {
     ghost use Rattle.spindle_threads.specs.Accounts.{account_of, IsSameThread};
 
-    /// The notices, by a seat of their ledger, which has so many child slots.
+    /// The signals, by a seat of their ledger, which has so many child slots.
     pub fn new(ledger: &'a Requests, seat: Seat, slots: usize) -> Signals<'a>
         requires seated { IsSeatOf ledger.now seat }
         requires counted { slot_count ledger.now ≡ slots }

@@ -1,4 +1,4 @@
-//! What the threads of a lock share, whatever the kind of job: rounds, thread numbers, notices, a place to sleep, and who is
+//! What the threads of a lock share, whatever the kind of job: rounds, thread numbers, signals, a place to sleep, and who is
 //! there. What the slots of its round table hold is a parameter.
 ghost use Rattle.std.specs.Prelude.{◌≡◌, ◌<◌, Some};
 ghost use Rattle.spindle_parts.specs.LedgerSeats.{slot_count};

@@ -1,6 +1,6 @@
 //! The leader of a lock whose round table has a slot for each job.
 //!
-//! It knows its post as a type P of which only the calls of `OpensSlots<P>` are known, as a leader without slots knows its
+//! It knows its state as a type P of which only the calls of `OpensSlots<P>` are known, as a leader without slots knows its
 //! workspace.
 ghost use Rattle.std.specs.Prelude.{◌≡◌, ◌<◌, ◌≤◌, IsNone};
 ghost use Rattle.spindle.specs.SlotLeaders.{threads_of, AnnouncedRest, IsAsBefore};

@@ -1,4 +1,4 @@
-//! The rounds in place of a leader that knows its post as a type P alone, and the post that it has.
+//! The rounds in place of a leader that knows its state as a type P alone, and the post that it has.
 ghost use Rattle.std.specs.Prelude.{◌≡◌, ◌<◌, ◌≤◌, true, OnOk, OnErr, IsErrOf, vec_len, vec_capacity};
 ghost use Rattle.std.specs.List.{AllZip};
 ghost use denote.Param.Send.{IsSync};
@@ -27,7 +27,7 @@ use std::thread::Threads;
 /// The post of a leader that plays rounds in place. It keeps room for chunks.
 pub type PlaceLeaderState<J> = LeaderState<ChunkOf<J>>;
 
-/// The kinds of jobs whose leader with a post of type P plays rounds in place.
+/// The kinds of jobs whose leader with a state of type P plays rounds in place.
 pub trait PlaysInPlace<P>: OpensSlots<P> + Updates {
     /// A round over these items in so many jobs, two at least. Memory is refused before the publish alone, and leaves the items as
     /// they were.

@@ -1,4 +1,4 @@
-//! The rounds over lists of a leader that knows its post as a type P alone, and the post that it has.
+//! The rounds over lists of a leader that knows its state as a type P alone, and the post that it has.
 ghost use Rattle.std.specs.Prelude.{◌≡◌, ◌≤◌, [], OnOk, OnErr, IsErrOf, vec_capacity, length};
 ghost use Rattle.std.specs.List.{AllZip};
 ghost use denote.Param.Send.{IsSync};
@@ -26,7 +26,7 @@ use std::thread::Threads;
 /// The post of a leader that plays rounds over lists. It keeps rooms for their outputs.
 pub type SlotLeaderState<J> = LeaderState<PieceOf<J>>;
 
-/// The kinds of jobs whose leader with a post of type P plays rounds over lists of items.
+/// The kinds of jobs whose leader with a state of type P plays rounds over lists of items.
 pub trait PlaysPieces<P>: OpensSlots<P> {
     /// A round over these items, whose outputs are put at the end of the list. Memory is refused before the publish alone.
     fn play<'a, S: FillsSlots<Self>, G: Gate, H: Threads + Wait + Sync>(

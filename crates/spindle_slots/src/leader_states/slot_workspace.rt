@@ -1,7 +1,7 @@
 //! What the threads of a lock with slots share beside its tables, and what its leader is known by.
 //!
 //! A closure's bound can name neither a table nor a party at one, nor a type that keeps a fact about a kind of job. So the leader
-//! knows its post as a type P of which only the calls of `OpensSlots<P>` are known.
+//! knows its state as a type P of which only the calls of `OpensSlots<P>` are known.
 ghost use Rattle.std.specs.Prelude.{◌≡◌, ℕ, ◌≤◌, [], true, IfOk, OnErr, IsErrOf, IsSome};
 ghost use Rattle.std.specs.Option.{ForSome};
 ghost use Rattle.spindle_rounds.specs.declared.round_table.view.View.{View};

@@ -76,7 +76,7 @@ where
     Helpers { threads }
 }
 
-/// Starts the helpers, and takes the leader's post. The leader runs jobs with what comes beside its post.
+/// Starts the helpers, and makes the leader a member. The leader runs jobs with what comes beside.
 pub fn muster<
     's,
     E,
@@ -116,7 +116,7 @@ where
     (post, runner, helpers)
 }
 
-/// Takes the leader's post of a lock. The leader runs jobs with what comes beside its post.
+/// Makes the leader of a lock a member. The leader runs jobs with what comes beside.
 pub fn take_post<'s, D: SlotContents, J: Job, G: Gate, L: TakesPart<J, D>, H: Wait>(
     rt: &H,
     tables: &'s Tables<D>,
