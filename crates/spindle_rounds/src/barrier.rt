@@ -47,7 +47,7 @@ pub enum JoinRefused<P> {
 pub struct Barrier<'a, D: SlotContents> {
     init: &'a BarrierInit<D>,
     /// What the party steps with.
-    pub seat: Seat<D>,
+    pub(crate) seat: Seat<D>,
     sense: u64,
     /// Not so of a closer that has exited.
     is_member: bool,

@@ -63,6 +63,6 @@ impl<'a> LeaderMember<'a, Bare> {
         ensures tables { self.new.post.tables ≡ self.old.post.tables }
     {
         let post = &mut self.post;
-        post.tables.round.mark_left(&mut post.barrier.seat, marks);
+        post.tables.round.mark_left(post.barrier.seat(), marks);
     }
 }

@@ -102,7 +102,7 @@ impl<'a, D: SlotContents> Member<'a, D> {
         ensures seat { IsSameSeat self.old.barrier.seat self.new.barrier.seat }
     {
         let tables = self.tables;
-        let word = tables.round.published(&mut self.barrier.seat);
+        let word = tables.round.published(self.barrier.seat());
         if word > 0 {
             return Some(PublishedRound::new(word));
         }

@@ -55,9 +55,9 @@ pub fn publish<'a, D: SlotContents, H: Wait>(
         task.jobs task.may_stop (party_view barrier.new) }
     ensures rest { EndedRest (account_of signals.old) (account_of signals.new) }
 {
-    tables.round.fill(&mut barrier.seat, task.jobs);
+    tables.round.fill(barrier.seat(), task.jobs);
     signals.end_rest();
-    publish_task(&tables.round, &mut barrier.seat, task);
+    publish_task(&tables.round, barrier.seat(), task);
     tables.wake_for_news(rt);
 }
 

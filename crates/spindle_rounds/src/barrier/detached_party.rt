@@ -1,5 +1,7 @@
 //! A party at a barrier, without the way to the barrier: what it keeps while it borrows nothing.
 ghost use Rattle.std.specs.Prelude.{◌≡◌};
+ghost use Rattle.std.specs.Borrow.{sem};
+ghost use Rattle.spindle_rounds.specs.Seats.{LendsDetachedSeat};
 ghost use Rattle.spindle_rounds.specs.Stances.{IsStanceOf};
 
 use crate::barrier::{Barrier, BarrierInit};
@@ -9,8 +11,7 @@ use crate::round_table::slots::SlotContents;
 /// What a party holds of its own. At its barrier it is that party again.
 #[derive(Drop)]
 pub struct DetachedParty<D: SlotContents> {
-    /// What the party steps with.
-    pub seat: Seat<D>,
+    seat: Seat<D>,
     sense: u64,
     is_member: bool,
     thread_id: usize,
@@ -34,6 +35,17 @@ impl<'a, D: SlotContents> Barrier<'a, D> {
             is_member,
             thread_id,
         }
+    }
+}
+
+impl<D: SlotContents> DetachedParty<D> {
+    /// The party's seat, for the calls of `Round`.
+    pub fn seat(&mut self) -> &mut Seat<D>
+        ensures* writes_back { sem 𝓛
+            (LendsDetachedSeat D.row D.Slot.row D.Note.row D.SlotContents self.entry result) }
+        ensures value { result.now ≡ self.old.seat }
+    {
+        &mut self.seat
     }
 }
 

@@ -47,7 +47,7 @@ impl<'t, J: Updates> SlotTables<'t, PieceSlots<ChunkOf<J>>> {
         ensures played { PlayedRound jobs barrier.old.seat.me.0 barrier.new.seat.me.0 }
     {
         let round = &self.tables.round;
-        self.fill_in_place(&mut barrier.seat, store, jobs, items);
+        self.fill_in_place(barrier.seat(), store, jobs, items);
         let mut signals = runner.signals.another();
         let work = SlotWork {
             runner,
@@ -56,10 +56,10 @@ impl<'t, J: Updates> SlotTables<'t, PieceSlots<ChunkOf<J>>> {
         };
         self.play_held(rt, barrier, &mut signals, jobs as u64, work);
         for slot in 0..jobs {
-            let answer = round.take_answer(&mut barrier.seat, slot);
+            let answer = round.take_answer(barrier.seat(), slot);
             store.keep_ready(answer.unload(items));
         }
-        round.turn_slots(&mut barrier.seat, jobs, self.slots);
+        round.turn_slots(barrier.seat(), jobs, self.slots);
     }
 }
 

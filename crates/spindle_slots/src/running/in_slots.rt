@@ -78,7 +78,7 @@ pub(crate) fn take_part_in_slots<J: Job, A: RunsPieces<J>, G: Gate, H: Threads +
         alloc,
         leads: false,
     };
-    drop(party.work(rt, &mut post.barrier.seat, work));
+    drop(party.work(rt, post.barrier.seat(), work));
 }
 
 impl<'t, A: PieceKind> SlotTables<'t, PieceSlots<A>> {
@@ -105,7 +105,7 @@ impl<'t, A: PieceKind> SlotTables<'t, PieceSlots<A>> {
         ensures played { PlayedRound jobs barrier.old.seat.me.0 barrier.new.seat.me.0 }
     {
         let tables = self.tables;
-        publish_held(rt, tables, &mut barrier.seat, signals, jobs);
+        publish_held(rt, tables, barrier.seat(), signals, jobs);
         let task = PublishedRound {
             jobs,
             may_stop: false,
@@ -115,9 +115,9 @@ impl<'t, A: PieceKind> SlotTables<'t, PieceSlots<A>> {
             thread: 0,
             task,
         };
-        drop(party.work(rt, &mut barrier.seat, work));
+        drop(party.work(rt, barrier.seat(), work));
         end_round(rt, tables, barrier);
-        tables.round.take_answered(&mut barrier.seat, jobs);
+        tables.round.take_answered(barrier.seat(), jobs);
     }
 }
 

@@ -48,7 +48,7 @@ impl<'t, J: Job> SlotTables<'t, PieceSlots<PieceOf<J>>> {
         ensures memory { OnErr result (IsErrOf result Fault.Memory) }
     {
         let pieces = items.pieces();
-        items.fill(alloc, self, &mut barrier.seat, rooms)?;
+        items.fill(alloc, self, barrier.seat(), rooms)?;
         let mut signals = runner.signals.another();
         let work = SlotWork {
             runner,
@@ -58,10 +58,10 @@ impl<'t, J: Job> SlotTables<'t, PieceSlots<PieceOf<J>>> {
         self.play_held(rt, barrier, &mut signals, pieces as u64, work);
         let round = &self.tables.round;
         for slot in 0..pieces {
-            let answer = round.take_answer(&mut barrier.seat, slot);
+            let answer = round.take_answer(barrier.seat(), slot);
             rooms.keep(slot, answer.unload(outputs));
         }
-        round.turn_slots(&mut barrier.seat, pieces, self.slots);
+        round.turn_slots(barrier.seat(), pieces, self.slots);
         Ok(())
     }
 }

@@ -69,7 +69,7 @@ impl<A: PieceKind> SlotMember<A> {
             mut stance,
             slots,
         } = leader_seats;
-        tables.round.hold_slots(&mut stance.seat, slots);
+        tables.round.hold_slots(stance.seat(), slots);
         SlotMember {
             tables,
             slots,

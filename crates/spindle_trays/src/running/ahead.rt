@@ -66,7 +66,7 @@ pub(crate) fn play_ahead<'a, J: Job, G: Gate, H: Threads + Wait + Sync>(
         own: LoneWork::new(alloc, pieces, runner, outputs),
         held: None,
     };
-    let AheadWork { trays, own, held } = party.work(rt, &mut post.barrier.seat, work);
+    let AheadWork { trays, own, held } = party.work(rt, post.barrier.seat(), work);
     trays.bring_back(rt, pieces.count(), held);
     end_round(rt, tables, &mut post.barrier);
     *outputs = own.outputs;

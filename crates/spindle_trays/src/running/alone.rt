@@ -61,7 +61,7 @@ pub(crate) fn play_alone<'a, J: Job, G: Gate, H: Threads + Wait + Sync>(
         task,
     };
     let work = LoneWork::new(alloc, pieces, runner, outputs);
-    let mut work = party.work(rt, &mut post.barrier.seat, work);
+    let mut work = party.work(rt, post.barrier.seat(), work);
     work.run_left(rt);
     *outputs = work.outputs;
     end_round(rt, tables, &mut post.barrier);

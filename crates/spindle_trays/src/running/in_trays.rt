@@ -60,7 +60,7 @@ pub(crate) fn take_part<J: Job, G: Gate, H: Threads + Wait + Sync>(
         alloc,
         held: None,
     };
-    let work = party.work(rt, &mut post.barrier.seat, work);
+    let work = party.work(rt, post.barrier.seat(), work);
     trays.bring_back(rt, task.jobs as usize, work.held);
 }
 
@@ -94,7 +94,7 @@ pub(crate) fn play_in_trays<'a, J: Job, G: Gate, H: Threads + Wait + Sync>(
         alloc,
         held: None,
     };
-    let work = party.work(rt, &mut post.barrier.seat, work);
+    let work = party.work(rt, post.barrier.seat(), work);
     trays.bring_back(rt, task.jobs as usize, work.held);
     end_round(rt, tables, &mut post.barrier);
 }

@@ -72,7 +72,7 @@ pub(crate) fn play_rooms<'a, J: Job, G: Gate, H: Threads + Wait + Sync>(
         alloc,
         rooms: mem::replace(rooms, Vec::new(alloc)),
     };
-    let work = party.work(rt, &mut post.barrier.seat, work);
+    let work = party.work(rt, post.barrier.seat(), work);
     *rooms = work.rooms;
     end_round(rt, tables, &mut post.barrier);
 }

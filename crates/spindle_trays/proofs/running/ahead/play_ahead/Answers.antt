@@ -10,4 +10,4 @@ returns-clause-played g c = let w = c.work-own.ensures in let old = c.args.leade
     subst (λ (n : ℕ). PlayedRound n old new.0) task.ensures.jobs
     (subst (λ (b : Bool). PlayedRoundOf task.result.jobs b old new.0) task.ensures.may_stop
     (played_after task.result.jobs task.result.may_stop old c.publish.new.barrier.seat.me.0 c.work-own.new.seat.me new
-    c.publish.ensures.published w.went.on w.idle c.end_round.ensures.next))
+    c.publish.ensures.published (rw c.seat.ensures.value at c.work-own.ensures.went.on) w.idle c.end_round.ensures.next))

@@ -13,14 +13,15 @@ returns-clause-played g c = let w = c.work-work.ensures in let old = c.args.lead
     subst (λ (n : ℕ). PlayedRoundOf n true old new.0) task.ensures.jobs
     (subst (λ (b : Bool). PlayedRoundOf task.result.jobs b old new.0) task.ensures.may_stop
     (played_after task.result.jobs task.result.may_stop old c.publish.new.barrier.seat.me.0 c.work-work.new.seat.me new
-    c.publish.ensures.published w.went.on w.idle c.end_round.ensures.next))
+    c.publish.ensures.published (rw c.seat.ensures.value at c.work-work.ensures.went.on) w.idle c.end_round.ensures.next))
 
 pub returns-clause-last : goal.returns-clause-last
-returns-clause-last g c = let q = round_of c.args.leader.now.post.barrier.seat.me.0.standing in let new = c.end_round.new.barrier.seat.me in let task = c.task-task in
+returns-clause-last g c = let q = round_of c.args.leader.now.post.barrier.seat.me.0.standing in let new = c.end_round.new.barrier.seat.me in
+    let task = c.task-task in
     subst (λ (n : ℕ). LastPublished q n true new.0) task.ensures.jobs
     (subst (λ (b : Bool). LastPublished q task.result.jobs b new.0) task.ensures.may_stop
     (last_after q task.result.jobs task.result.may_stop c.publish.new.barrier.seat.me.0 c.work-work.new.seat.me new
-    c.publish.ensures.last c.work-work.ensures.went.on c.end_round.ensures.next))
+    c.publish.ensures.last (rw c.seat.ensures.value at c.work-work.ensures.went.on) c.end_round.ensures.next))
 
 pub returns-clause-fit : goal.returns-clause-fit
 returns-clause-fit g c = let w = c.work-work.ensures in rw w.keeps at w.holds
