@@ -12,7 +12,7 @@
 -- context have answer and refused: the locks that they open are closed when they return, and the context is the same.
 use denote.Ref.{MutBor}
 use Rattle.std.specs.Fn.{Once, FnOnceReturnsAtMut}
-use Rattle.std.specs.Prelude.{◌≡◌, ◌⊎◌, ◌↔◌, ℕ, ◌<◌, ◌≤◌, Bool, List, Vec, Result, Ok, Err, true}
+use Rattle.std.specs.Prelude.{◌≡◌, ◌⊎◌, ◌↔◌, ℕ, ◌<◌, ◌≤◌, Bool, List, Vec, Result, Ok, Err, None, true, length}
 use Rattle.std.specs.List.{All, Any}
 use Rattle.std.specs.declared.alloc.Global.{Global}
 use Rattle.spindle_parts.specs.declared.fault.Fault.{Fault}
@@ -22,8 +22,9 @@ use Rattle.spindle_threads.specs.Accounts as accounts
 use Rattle.spindle_threads.specs.Signals as signals
 use Rattle.spindle_threads.specs.declared.ThreadCounts.{ThreadCounts}
 use Rattle.spindle_threads.specs.declared.leader_member.LeaderMember.{LeaderMember}
-use Rattle.spindle_trays.specs.Reports.{HasFailed, IsAnswered}
+use Rattle.spindle_trays.specs.Reports.{HasFailed, IsAnswered, IsNoted}
 use Rattle.spindle_trays.specs.declared.lock.leader.Leader.{Leader}
+use Rattle.spindle_trays.specs.declared.running.tally.Tally.{Tally}
 use Rattle.spindle_rounds.specs.declared.round_table.view.View.{View}
 use Rattle.spindle_rounds.specs.Leftovers.{AreUnbegun, IsFoundLeft, IsMarked}
 use Rattle.spindle_rounds.specs.RoundConditions.{MayFill}
@@ -114,6 +115,25 @@ AreLeft jobs P old new = ((k : ℕ) → P k ↔ IsFoundLeft (view_of new) (hands
 abbrev pub TriedAndMarked : {J G L I O N S : Type 0}
     → (jobs : ℕ) → (marks : List Bool) → (old new : Leader J G L I O N S) → Type 0
 TriedAndMarked jobs marks old new = TriedOnce jobs old new × AreLeft jobs (IsMarked marks) old new
+
+-- a round of n pieces over these items that may stop is to be played: each piece has a mark, none is set, and nothing is noted
+pub record IsBlank {A B : Type 0} (Meets : A → B → Type 0) (Fails : B → Type 0) (items : List A) (n : ℕ) (marks : List Bool) (tally : Tally B)
+    : Type 0 where
+  pub counted : length marks ≡ n
+  pub unmarked : (k : ℕ) → IsMarked marks k → ⊥
+  pub fresh : (left : List Bool) → IsNoted Meets Fails items n left 0 tally
+  pub whole : tally.lost ≡ None
+
+-- it was played: what it has left is marked, and what came of each piece is noted. With one piece, or where the leader works alone,
+-- none is lost
+pub record IsTallied {J G L I O N S A B : Type 0} (Meets : A → B → Type 0) (Fails : B → Type 0) (items : List A) (n : ℕ) (marks : List Bool)
+    (tally : Tally B) (old new : Leader J G L I O N S) : Type 0 where
+  pub counted : length marks ≡ n
+  pub tried : 2 ≤ n → TriedAndMarked n marks old new
+  pub direct : n ≤ 1 → MadeNoStep old new × ((k : ℕ) → IsMarked marks k → ⊥)
+  pub noted : IsNoted Meets Fails items n marks n tally
+  pub one : n ≤ 1 → tally.lost ≡ None
+  pub alone : hands_of old ≤ 1 → tally.lost ≡ None
 
 -- why a round over these items that may stop may be refused, but never one of no jobs: for want of memory, or since k is the least
 -- number of a piece that is lost. Of what the round has left none is less, unless another thread takes part and a piece that ran has failed;

@@ -1,9 +1,8 @@
 //! Rounds of a lock that may stop: a piece that fails stops its round, and the leader learns which pieces ran.
-ghost use Rattle.std.specs.Prelude.{◌≡◌, ℕ, ◌<◌, ◌≤◌, Bool, List, None, IfOk, IfErr, OnOk, OnErr, IsErrOf, length, vec_len};
+ghost use Rattle.std.specs.Prelude.{◌≡◌, ◌<◌, ◌≤◌, IfOk, IfErr, OnOk, OnErr, IsErrOf, vec_len};
 ghost use Rattle.std.specs.List.{Contains};
-ghost use Rattle.spindle_rounds.specs.Leftovers.{IsMarked};
-ghost use Rattle.spindle_trays.specs.Leaders.{hands_of, AreLeft, GoesOn, IsSameLock, IsTryRefusal, MadeNoStep, TriedAndMarked, TriedAs};
-ghost use Rattle.spindle_trays.specs.Reports.{IsNoted, IsOfNone, IsReport};
+ghost use Rattle.spindle_trays.specs.Leaders.{hands_of, AreLeft, GoesOn, IsBlank, IsSameLock, IsTallied, IsTryRefusal, MadeNoStep, TriedAs};
+ghost use Rattle.spindle_trays.specs.Reports.{IsOfNone, IsReport};
 ghost use Rattle.spindle_trays.specs.Rounds.{job_count};
 
 use crate::job::gate::Gate;
@@ -125,20 +124,10 @@ impl<'a, J: Opens<L>, G: Gate, L> Leader<'a, J, G, L> {
         tally: &mut Tally<J::Out>,
     ) -> Result<(), Fault>
         requires most { pieces.now.count ≤ 4294967295 }
-        requires marks { length left.old.items ≡ pieces.now.count }
-        requires unmarked { (k : ℕ) → IsMarked left.old.items k → ⊥ }
-        requires fresh { (marks : List Bool) → IsNoted J.meets J.fails
-            pieces.now.items pieces.now.count marks 0 tally.old }
-        requires whole { tally.old.lost ≡ None }
-        ensures tried { OnOk result (2 ≤ pieces.now.count
-            → TriedAndMarked pieces.now.count left.new.items self.old self.new) }
-        ensures direct { pieces.now.count ≤ 1 → MadeNoStep self.old self.new
-            × (left.new.items ≡ left.old.items) }
-        ensures marks { length left.new.items ≡ pieces.now.count }
-        ensures noted { OnOk result (IsNoted J.meets J.fails
-            pieces.now.items pieces.now.count left.new.items pieces.now.count tally.new) }
-        ensures alone { OnOk result (hands_of self.old ≤ 1 → tally.new.lost ≡ None) }
-        ensures one { OnOk result (pieces.now.count ≤ 1 → tally.new.lost ≡ None) }
+        requires blank { IsBlank J.meets J.fails
+            pieces.now.items pieces.now.count left.old.items tally.old }
+        ensures tallied { OnOk result (IsTallied J.meets J.fails pieces.now.items
+            pieces.now.count left.new.items tally.new self.old self.new) }
         ensures memory { OnErr result (IsErrOf result Fault.Memory × MadeNoStep self.old self.new) }
         ensures lock { IsSameLock self.old self.new }
     {
@@ -159,14 +148,11 @@ impl<'a, J: Opens<L>, G: Gate, L> Leader<'a, J, G, L> {
         tally: &mut Tally<J::Out>,
     ) -> Result<(), Fault>
         requires counted { (2 ≤ pieces.now.count) × (pieces.now.count ≤ 4294967295) }
-        requires marks { length left.old.items ≡ pieces.now.count }
-        requires unmarked { (k : ℕ) → IsMarked left.old.items k → ⊥ }
-        requires fresh { (marks : List Bool) → IsNoted J.meets J.fails
-            pieces.now.items pieces.now.count marks 0 tally.old }
-        ensures tried { OnOk result (TriedAndMarked pieces.now.count left.new.items self.old self.new) }
-        ensures marks { length left.new.items ≡ pieces.now.count }
-        ensures noted { OnOk result (IsNoted J.meets J.fails
-            pieces.now.items pieces.now.count left.new.items pieces.now.count tally.new) }
+        requires hands { 2 ≤ hands_of self.old }
+        requires blank { IsBlank J.meets J.fails
+            pieces.now.items pieces.now.count left.old.items tally.old }
+        ensures tallied { OnOk result (IsTallied J.meets J.fails pieces.now.items
+            pieces.now.count left.new.items tally.new self.old self.new) }
         ensures memory { OnErr result (IsErrOf result Fault.Memory × MadeNoStep self.old self.new) }
         ensures lock { IsSameLock self.old self.new }
     {
@@ -190,19 +176,10 @@ impl<'a, J: Opens<L>, G: Gate, L> Leader<'a, J, G, L> {
         tally: &mut Tally<J::Out>,
     ) -> Result<(), Fault>
         requires most { pieces.now.count ≤ 4294967295 }
-        requires marks { length left.old.items ≡ pieces.now.count }
-        requires unmarked { (k : ℕ) → IsMarked left.old.items k → ⊥ }
-        requires fresh { (marks : List Bool) → IsNoted J.meets J.fails
-            pieces.now.items pieces.now.count marks 0 tally.old }
-        requires whole { tally.old.lost ≡ None }
-        ensures tried { OnOk result (2 ≤ pieces.now.count
-            → TriedAndMarked pieces.now.count left.new.items self.old self.new) }
-        ensures direct { pieces.now.count ≤ 1 → MadeNoStep self.old self.new
-            × (left.new.items ≡ left.old.items) }
-        ensures marks { length left.new.items ≡ pieces.now.count }
-        ensures noted { OnOk result (IsNoted J.meets J.fails
-            pieces.now.items pieces.now.count left.new.items pieces.now.count tally.new) }
-        ensures whole { OnOk result (tally.new.lost ≡ None) }
+        requires blank { IsBlank J.meets J.fails
+            pieces.now.items pieces.now.count left.old.items tally.old }
+        ensures tallied { OnOk result (IsTallied J.meets J.fails pieces.now.items
+            pieces.now.count left.new.items tally.new self.old self.new) }
         ensures memory { OnErr result (IsErrOf result Fault.Memory × MadeNoStep self.old self.new) }
         ensures lock { IsSameLock self.old self.new }
     {

@@ -1,5 +1,5 @@
 -- A fresh tally fits all marks.
-use Rattle.std.proofs.Common.{ℕ, true, ap, refl, subst, ◌∙◌}
+use Rattle.std.proofs.Common.{ℕ, true, ap, refl, subst, arith, ◌∙◌}
 use Rattle.spindle_threads.specs.Posts.{LastPublished, party_view}
 use Rattle.spindle_rounds.specs.Leftovers.{AreUnbegun, IsMarked}
 use Rattle.spindle_rounds.specs.RoundSlots.{bare}
@@ -9,27 +9,32 @@ use Rattle.spindle_trays.proofs.LeaderRounds.{passed_on}
 use Rattle.spindle_trays.proofs.lock.leader.Leader.try_in_trays.Goals as goal
 
 pub tally-requires-clause-fresh : goal.tally-requires-clause-fresh
-tally-requires-clause-fresh g c = c.requires.fresh c.as_slice.result.now
+tally-requires-clause-fresh g c = c.requires.blank.fresh c.as_slice.result.now
 
 pub returns-in_err-hand_out : goal.returns-in_err-hand_out
 returns-in_err-hand_out g c = rw (passed_on c.from_residual.result c.from_residual.ensures.1 c.in_err-hand_out.ensures)
-    (record { tried = tt; marks = c.requires.marks; noted = tt; memory = (refl, refl); lock = (refl, refl) })
+    (record { tallied = tt; memory = (refl, refl); lock = (refl, refl) })
 
 pub returns : goal.returns
 returns g c = let p = c.play_in_trays.ensures in let m = c.mark_left.ensures in let t = c.task-task.ensures in
     let played = rw (t.jobs, t.may_stop) at p.played in let last = rw (t.jobs, t.may_stop) at p.last in
     let q = round_of (view_of c.args.self.now).standing in let marks = c.mark_left.new.marks.items in
     let v = party_view c.play_in_trays.new.leader.post.barrier in let w = party_view c.mark_left.new.self.post.barrier in
-    record {
-      tried = (
-        (m.published ∙ played.0, m.standing ∙ played.1),
-        (
-          rw (p.tables, c.requires.marks) at m.left,
-          subst (λ (n : ℕ). LastPublished q n true v → AreUnbegun bare q n w (IsMarked marks)) c.requires.marks (m.unbegun q true) last,
-        ),
-      );
-      marks = m.count ∙ c.requires.marks;
-      noted = rw (← c.as_slice.ensures.value) c.tally.ensures.noted;
+    let counted = c.requires.counted in let hands = c.requires.hands in record {
+      tallied = record {
+        counted = m.count ∙ c.requires.blank.counted;
+        tried = λ two. (
+          (m.published ∙ played.0, m.standing ∙ played.1),
+          (
+            rw (p.tables, c.requires.blank.counted) at m.left,
+            subst (λ (n : ℕ). LastPublished q n true v → AreUnbegun bare q n w (IsMarked marks)) c.requires.blank.counted (m.unbegun q true) last,
+          ),
+        );
+        direct = λ one. absurd (omega arith);
+        noted = rw (← c.as_slice.ensures.value) c.tally.ensures.noted;
+        one = λ one. absurd (omega arith);
+        alone = λ few. absurd (omega arith);
+      };
       memory = tt;
       lock = (ap (λ t. t.now.counts.most) (m.tables ∙ p.tables), ap (λ t. t.now.counts.threads) (m.tables ∙ p.tables));
     }
