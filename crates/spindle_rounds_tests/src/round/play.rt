@@ -159,7 +159,6 @@ pub fn spend(round: &Round<Bare>, seat: &mut Seat<Bare>, mut share: Share) -> u6
 /// Fills and publishes a round of n jobs.
 pub fn lead(round: &Round<Bare>, seat: &mut Seat<Bare>, jobs: u64)
     requires seated { IsSeatAt round.now.init seat.old }
-    requires ranges { 0 < round.now.init.threads }
     requires leads { MayFill seat.old.me.0 }
     requires free { IsFreeInside seat.old.me.0 }
     requires counted { (2 ≤ jobs) × (jobs ≤ 4294967295) }
@@ -173,7 +172,6 @@ pub fn lead(round: &Round<Bare>, seat: &mut Seat<Bare>, jobs: u64)
 /// Fills and publishes a round of n jobs that may stop.
 pub fn lead_try(round: &Round<Bare>, seat: &mut Seat<Bare>, jobs: u64)
     requires seated { IsSeatAt round.now.init seat.old }
-    requires ranges { 0 < round.now.init.threads }
     requires leads { MayFill seat.old.me.0 }
     requires free { IsFreeInside seat.old.me.0 }
     requires counted { (2 ≤ jobs) × (jobs ≤ 4294967295) }

@@ -17,7 +17,6 @@ use std::process::Abort;
 pub fn publish_two(round: &Round<Bare>, leader: &mut Barrier<Bare>)
     requires held { IsHeld leader.old }
     requires seated { IsSeatAt round.now.init leader.old.seat }
-    requires ranges { 0 < round.now.init.threads }
     requires leads { MayFill leader.old.seat.me.0 }
     requires free { IsFreeInside leader.old.seat.me.0 }
     ensures held { IsHeld leader.new }

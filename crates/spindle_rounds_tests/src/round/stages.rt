@@ -31,7 +31,6 @@ pub fn publish(
     requires guest { IfSome beside.old.guest (λ s. IsOut round.now false s) }
     requires leader { IsIn round.now true zero.old }
     requires leads { MayFill zero.old.seat.me.0 }
-    requires ranges { 0 < round.now.init.threads }
     ensures guest { IfSome beside.new.guest (λ s. IsOut round.now false s) }
     ensures leader { IsIn round.now true zero.new }
     ensures free { MayClaim zero.new.seat.me.0 }
