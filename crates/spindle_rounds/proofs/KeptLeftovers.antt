@@ -1,5 +1,5 @@
 -- A load that asks what is left: between rounds the leader knows from then on what stands there.
-use Rattle.std.proofs.Common.{◌≡◌, ◌≢◌, ◌⊎◌, ⊎_elim, ℕ, ◌<◌, ◌≤◌, Bool, true, false, List, [], ◌∷◌, get_or, sym, refl, ap, ◌∙◌, subst, arith, Some}
+use Rattle.std.proofs.Common.{◌≡◌, ◌≢◌, ⊎_elim, ℕ, ◌<◌, ◌≤◌, Bool, true, false, List, [], ◌∷◌, get_or, sym, refl, ap, ◌∙◌, subst, arith, Some}
 use Rattle.std.proofs.Common.{if◌then◌else◌, ◌==◌, nat_lt}
 use mathlib.Core.Option.{some}
 use lib.ListN.{get_elem?}

@@ -1,7 +1,7 @@
 -- How a party's work goes on with its seat, from one claim to the next.
 -- What `run` of a `Work` owes as HasFinished is the clause `finished` of `finish`, where it finished last. finish_after carries it over
 -- steps that came before, and stop_done of RoundClients over a stop: the seat still has its claim, and owes nothing of what was seen.
-use Rattle.std.proofs.Common.{◌≡◌, ℕ, List, Bool, true, false, ◌+◌, MatchBool, None, Some, inl, inr, refl, sym, ap, ◌∙◌, subst, arith}
+use Rattle.std.proofs.Common.{◌≡◌, ℕ, List, Bool, true, false, ◌+◌, MatchBool, None, Some, inr, refl, sym, ap, ◌∙◌, subst, arith}
 use Rattle.atomic_table.specs.Table.{Me}
 use Rattle.atomic_table.specs.declared.shared.Seat.{Seat}
 use Rattle.spindle_rounds.specs.declared.round.Round.{Round}

@@ -16,7 +16,8 @@ use Rattle.spindle_rounds.specs.RoundAnswers.{FilledBy}
 use Rattle.spindle_rounds.specs.Passing.{InNext}
 use Rattle.spindle_rounds.specs.SlotSteps.{board_back, giving_back, IsDeed, HasPublished}
 use Rattle.spindle_rounds.specs.RoundPieces.{pieces, AreFilled, AreAnswered}
-use Rattle.spindle_rounds.specs.PieceRounds.{Hand, HoldsPieces, PublishedPieces, AwaitsAnswers}
+use Rattle.spindle_rounds.specs.PieceRounds.{Hand, PublishedPieces, AwaitsAnswers}
+use Rattle.spindle_rounds.proofs.SlotLoops.{HoldsPieces}
 use Rattle.spindle_rounds.proofs.RoundClients.{filled_round, round_published}
 use Rattle.spindle_rounds.proofs.BarrierClients.{moved_standing, moved_known, moved_deeds}
 

@@ -1,22 +1,22 @@
 -- A loop over the slots at a leader's hand: its first turn, each turn, its end, and what may be published after it.
 -- Its invariant is `Turning P Q n i` of the hand: P holds of what is left from slot i on, Q of what was put before it. turning_first
 -- begins it, turning_head gives what `swap_slot` and `put_piece` ask, turning_next goes on with their clause `behind`, and turning_last
--- ends it. After a part of the slots pieces_held gives what `publish_pieces` asks.
-use Rattle.std.proofs.Common.{◌≡◌, ◌⊎◌, inl, inr, ⊎_elim, ℕ, zero, suc, ◌+◌, ◌<◌, ◌≤◌, List, [], ◌∷◌, ◌++◌, length, length-append, sym, refl, ap, ◌∙◌}
+-- ends it. After a part of the slots pieces_held gives what `publish_held` rests on.
+use Rattle.std.proofs.Common.{◌≡◌, ◌⊎◌, inl, inr, ⊎_elim, true, ℕ, zero, suc, ◌+◌, ◌<◌, ◌≤◌, List, [], ◌∷◌, ◌++◌, length, length-append, sym, refl, ap, ◌∙◌}
 use Rattle.std.proofs.Common.{subst, arith}
 use mathlib.Core.Option.{some, some-injective, some-ne-none}
 use lib.ListN.{get_elem?}
 use Rattle.atomic_table.specs.Table.{Me, rest}
 use Rattle.spindle_rounds.specs.declared.round_table.view.Spot.{Spot}
 use Rattle.spindle_rounds.specs.declared.round_table.view.Spot.TheVariants.{Out, Filled}
+use Rattle.spindle_rounds.specs.declared.round_table.view.Standing.TheVariants.{Inside}
 use Rattle.spindle_rounds.specs.declared.round_table.view.View.{View}
 use Rattle.spindle_rounds.specs.declared.round_table.pieces.SlotState.{SlotState}
 use Rattle.spindle_rounds.specs.RoundSlots.{spot_at}
 use Rattle.spindle_rounds.specs.RoundConditions.{MayFill, MayPutAll}
 use Rattle.spindle_rounds.specs.SlotSteps.{numbered, board_back}
 use Rattle.spindle_rounds.specs.SlotLoops.{IsPiece, HoldsEach, Turning}
-use Rattle.spindle_rounds.specs.RoundPieces.{pieces, spot_with, IsAtHand, IsUnrun}
-use Rattle.spindle_rounds.specs.PieceRounds.{HoldsPieces}
+use Rattle.spindle_rounds.specs.RoundPieces.{pieces, spot_with, AreFilled, IsAtHand, IsUnrun}
 use Rattle.spindle_rounds.specs.SpotPlaces.{spot_else}
 use Rattle.spindle_rounds.proofs.PieceClients.{there, turned_on, may_put_all, back_before, piece_back}
 
@@ -107,6 +107,11 @@ module _ {P A : Type 0} (answers : P → A → Type 0) (q : ℕ) where
       (back i ys b)
   back_on i [] c b = refl
   back_on i (y ∷ ys) c b = back_on (i + 1) ys c ((i, spot_with answers q y) ∷ b)
+
+-- the leader, having published nothing, holds slots that may go back, and then each of n jobs has its piece in its slot
+abbrev pub HoldsPieces : {P A : Type 0} (answers : P → A → Type 0) → ℕ → Me (SlotState P A) (View P) → Type 0
+HoldsPieces answers n m = (q : ℕ) × (m.0.standing ≡ Inside q) × (m.0.known.unpublished ≡ true) × MayPutAll (pieces answers) q m.1 m.0.board
+    × AreFilled answers q n (board_back (pieces answers) q m.1 m.0.board)
 
 -- where every slot is out, and the first n hold pieces and the others nothing that was run, the n may be published
 pub pieces_held : {P A : Type 0} (answers : P → A → Type 0) (slots n : ℕ) (m : Me (SlotState P A) (View P)) → MayFill m.0

@@ -2,14 +2,13 @@
 -- the pieces go back and are published; at its end their answers come out.
 use Rattle.std.specs.Prelude.{◌≡◌, ◌≢◌, ℕ, ◌<◌, ◌∷◌, [], true, false}
 use Rattle.atomic_table.specs.Table.{Me}
-use Rattle.spindle_rounds.specs.declared.round_table.view.Standing.TheVariants.{Inside}
 use Rattle.spindle_rounds.specs.declared.round_table.view.Spot.TheVariants.{Out}
 use Rattle.spindle_rounds.specs.declared.round_table.view.View.{View}
 use Rattle.spindle_rounds.specs.declared.round_table.pieces.SlotState.{SlotState}
 use Rattle.spindle_rounds.specs.RoundSlots.{spot_at}
 use Rattle.spindle_rounds.specs.RoundShown.{Showed}
 use Rattle.spindle_rounds.specs.RoundSteps.{round_of}
-use Rattle.spindle_rounds.specs.RoundConditions.{MayPutAll, IsFreeInside, IsDone}
+use Rattle.spindle_rounds.specs.RoundConditions.{IsFreeInside, IsDone}
 use Rattle.spindle_rounds.specs.RoundViews.{SharesAsBefore, published_of}
 use Rattle.spindle_rounds.specs.Working.{OnTask}
 use Rattle.spindle_rounds.specs.SlotSteps.{board_back, HasPublished}
@@ -19,13 +18,6 @@ module _ {P A : Type 0} (answers : P → A → Type 0) where
   -- what a leader's seat holds
   abbrev pub Hand : Type 0
   Hand = Me (SlotState P A) (View P)
-
-  -- the leader, having published nothing, holds slots that may go back, and then each of n jobs has
-  -- its piece in its slot
-  abbrev pub HoldsPieces : ℕ → Hand → Type 0
-  HoldsPieces n m = (q : ℕ) × (m.0.standing ≡ Inside q) × (m.0.known.unpublished ≡ true)
-      × MayPutAll (pieces answers) q m.1 m.0.board
-      × AreFilled answers q n (board_back (pieces answers) q m.1 m.0.board)
 
   -- the slots are back, and n jobs are published
   pub record PublishedPieces (n : ℕ) (m w : Hand) : Type 0 where

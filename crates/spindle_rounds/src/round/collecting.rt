@@ -8,7 +8,7 @@ ghost use Rattle.spindle_rounds.specs.RoundPieces.{pieces, AreFilled, AreAnswere
 ghost use Rattle.spindle_rounds.specs.RoundConditions.{MayFill, MayTakeOut};
 ghost use Rattle.spindle_rounds.specs.SlotLoops.{IsAny, IsEmpty, IsPiece, HoldsEach, Turning};
 ghost use Rattle.spindle_rounds.specs.SlotSteps.{HasPublished, TakenOut};
-ghost use Rattle.spindle_rounds.specs.PieceRounds.{HoldsPieces, PublishedPieces, AwaitsAnswers};
+ghost use Rattle.spindle_rounds.specs.PieceRounds.{PublishedPieces, AwaitsAnswers};
 ghost use Rattle.spindle_rounds.specs.Holding.{IsHeld, Keeps};
 ghost use Rattle.spindle_rounds.specs.Passing.{InNext};
 ghost use Rattle.spindle_rounds.specs.Seating.{IsSeatAt, IsSameSeat, slots_of};
@@ -55,21 +55,8 @@ impl<A: PieceKind> Round<PieceSlots<A>> {
         }
     }
 
-    /// Gives back the slots with the pieces of a round, and publishes it: from now on every member may claim them.
-    pub fn publish_pieces(&self, seat: &mut Seat<PieceSlots<A>>, jobs: u64)
-        requires seated { IsSeatAt self.now.init seat.old }
-        requires pieces { HoldsPieces A.answers jobs seat.old.me }
-        requires counted { (2 ≤ jobs) × (jobs ≤ 4294967295) }
-        ensures seat { IsSameSeat seat.old seat.new }
-        ensures published { PublishedPieces A.answers jobs seat.old.me seat.new.me }
-    {
-        self.give_slots(seat);
-        self.fill(seat, jobs);
-        self.publish(seat, jobs);
-    }
-
-    /// The same where the leader holds all slots: the first ones with the pieces of so many jobs, and in the others nothing
-    /// that was run, as a loop over the first ones leaves them.
+    /// Gives back the slots, all of which the leader holds, and publishes the round: from now on every member may claim its
+    /// jobs. The first slots have the pieces of so many jobs, and in the others stands nothing that was run.
     pub fn publish_held(&self, seat: &mut Seat<PieceSlots<A>>, jobs: u64)
         requires seated { IsSeatAt self.now.init seat.old }
         requires leads { MayFill seat.old.me.0 }
@@ -80,7 +67,9 @@ impl<A: PieceKind> Round<PieceSlots<A>> {
         ensures seat { IsSameSeat seat.old seat.new }
         ensures published { PublishedPieces A.answers jobs seat.old.me seat.new.me }
     {
-        self.publish_pieces(seat, jobs);
+        self.give_slots(seat);
+        self.fill(seat, jobs);
+        self.publish(seat, jobs);
     }
 
     /// Empties the slots at the leader's hand, of which there are so many.
