@@ -46,7 +46,7 @@ returns-clause-answered g c = let A = g.A.PieceKind.answers in let s : ℕ = slo
       found = taken.0;
       published = c.publish_held.ensures.published;
       on = worked.went.on;
-      none = c.requires.alone _ _ worked.keeps worked.holds;
+      none = worked.holds worked.keeps;
       next = next;
       taken = subst (λ (k : ℕ). TakenOut (pieces A) k taken.0 e x) many taken.1;
       answered = answered_then A s j u e waits next x.1 c.take_answered.ensures.answered;
