@@ -12,7 +12,7 @@ pub use Rattle.spindle_trays.specs.Outputs
 pub use Rattle.spindle_trays.specs.PieceRuns
 pub use Rattle.spindle_trays.specs.Reports
 pub use Rattle.spindle_trays.specs.Rounds
-pub use Rattle.spindle_trays.specs.declared.lock.report.Report
+pub use Rattle.spindle_trays.specs.declared.pieces.report.Report
 pub use Rattle.spindle_threads.specs.Accounts
 pub use Rattle.spindle_threads.specs.ThreadCounts
 pub use Rattle.spindle_threads.specs.Signals

@@ -1,5 +1,5 @@
 //! Where a thread runs jobs: what these see of the lock, in a form that names no slots of its round table.
-ghost use Rattle.std.specs.Prelude.{◌≡◌, ℕ, ◌<◌, ◌≤◌, Some, IfSome};
+ghost use Rattle.std.specs.Prelude.{◌≡◌, ℕ, ◌<◌, ◌≤◌, None, Some, IfSome};
 ghost use Rattle.std.specs.Option.{ForSome};
 
 use crate::ThreadCounts;
@@ -23,18 +23,17 @@ pub struct JobSite<'a> {
 impl<'a> JobSite<'a> {
     ghost use Rattle.spindle_threads.specs.ThreadCounts.{told_of};
 
-    /// The same for a job that is run under another number, or none.
-    pub fn under(&self, index: Option<usize>) -> JobSite<'a>
-        requires index { ForSome index (λ i. i < self.now.counts.most) }
+    /// The same for a job that a leader runs directly: under no number.
+    pub fn directly(&self) -> JobSite<'a>
         ensures counts { result.counts ≡ self.now.counts }
         ensures members { result.members ≡ self.now.members }
-        ensures number { result.index ≡ index }
+        ensures number { result.index ≡ None }
     {
         JobSite {
             counts: self.counts,
             members: self.members,
             sleep: self.sleep,
-            index,
+            index: None,
         }
     }
 

@@ -1,14 +1,22 @@
 //! The leader's post: it publishes rounds, and works in them.
-ghost use Rattle.std.specs.Prelude.{◌≡◌, ◌↔◌, ℕ, Bool, true, length};
+ghost use Rattle.std.specs.Prelude.{◌≡◌, ◌↔◌, ◌≤◌, ℕ, Bool, true, length};
 ghost use Rattle.spindle_threads.specs.Posts.{LastPublished, party_view};
 ghost use Rattle.spindle_threads.specs.SlotMembers.{StandsAt};
 ghost use Rattle.spindle_rounds.specs.Leftovers.{AreUnbegun, IsMarked, IsFoundLeft};
 ghost use Rattle.spindle_rounds.specs.RoundSlots.{bare};
+ghost use Rattle.spindle_rounds.specs.RoundSteps.{round_of};
 ghost use Rattle.spindle_rounds.specs.RoundViews.{published_of};
+ghost use Rattle.spindle_rounds.specs.Working.{PlayedRoundOf};
 
 use crate::member::Member;
+use crate::publish_and_end::{end_round, publish};
+use crate::signals::Signals;
 use spindle_rounds::barrier::detached_party::DetachedParty;
+use spindle_rounds::round::claimer::{Claimer, Work};
+use spindle_rounds::round::published_round::PublishedRound;
 use spindle_rounds::round_table::slots::{Bare, SlotContents};
+use std::sync::Wait;
+use std::thread::Threads;
 
 /// The post of a lock's leader, whose thread number is 0.
 #[derive(Drop)]
@@ -45,6 +53,37 @@ impl<'a, D: SlotContents> LeaderMember<'a, D> {
 }
 
 impl<'a> LeaderMember<'a, Bare> {
+    /// A leader's round: it publishes the task, does this work in it, and waits until the round has ended. The work comes back.
+    pub fn lead<W: Work<Bare> + Drop, H: Threads + Wait + Sync>(
+        &mut self,
+        rt: &H,
+        mut signals: Signals<'a>,
+        task: PublishedRound,
+        work: W,
+    ) -> W
+        requires counted { (2 ≤ task.jobs) × (task.jobs ≤ 4294967295) }
+        requires holds { (hands : _) → W.holds work hands }
+        ensures holds { (hands : _) × W.holds result hands }
+        ensures keeps { W.keeps work result }
+        ensures played { PlayedRoundOf task.jobs task.may_stop
+            (party_view self.old.post.barrier) (party_view self.new.post.barrier) }
+        ensures last { LastPublished (round_of (party_view self.old.post.barrier).standing)
+            task.jobs task.may_stop (party_view self.new.post.barrier) }
+        ensures tables { self.new.post.tables ≡ self.old.post.tables }
+    {
+        let post = &mut self.post;
+        let tables = post.tables;
+        publish(rt, tables, &mut post.barrier, &mut signals, task);
+        let claimer = Claimer {
+            round: &tables.round,
+            thread: 0,
+            task,
+        };
+        let work = claimer.work(rt, post.barrier.seat(), work);
+        end_round(rt, tables, &mut post.barrier);
+        work
+    }
+
     /// After a round marks the numbers that it has left, of as many as there are marks: where the leader has published so many jobs
     /// last, those that nobody has begun.
     pub fn mark_left(&mut self, marks: &mut Vec<bool>)

@@ -1,6 +1,7 @@
 //! A thread's post at the barrier of its lock: between rounds it stands inside, with no job claimed.
 ghost use Rattle.std.specs.Prelude.{◌≡◌, ℕ, ◌<◌, ◌%◌, false, true, IfSome};
 ghost use Rattle.spindle_rounds.specs.declared.round_table.view.Standing.TheVariants.{Inside};
+ghost use Rattle.spindle_rounds.specs.RoundConditions.{IsDone};
 ghost use Rattle.spindle_rounds.specs.RoundSteps.{round_of};
 ghost use Rattle.spindle_rounds.specs.Working.{OnTask, IsIdle};
 ghost use Rattle.spindle_threads.specs.Posts.{IsAt, IsOut, IsSized, LookedForTask, party_view};
@@ -8,11 +9,13 @@ ghost use Rattle.spindle_rounds.specs.Seating.{IsSeatAt, IsSameSeat, IsSameTable
 
 use crate::tables::Tables;
 use spindle_rounds::barrier::Barrier;
+use spindle_rounds::round::claimer::{Claimer, Work};
 use spindle_rounds::round::published_round::PublishedRound;
 use spindle_rounds::round_table::Seat;
 use spindle_rounds::round_table::slots::SlotContents;
 use std::sync::Wait;
 use std::thread;
+use std::thread::Threads;
 
 /// A member of the barrier that takes part in no round at the moment.
 #[derive(Drop)]
@@ -107,6 +110,29 @@ impl<'a, D: SlotContents> Member<'a, D> {
             return Some(PublishedRound::new(word));
         }
         None
+    }
+
+    /// A helper's part in a published round: it does this work until no job is left for it. The work comes back.
+    pub fn join_in<W: Work<D> + Drop, H: Threads + Wait + Sync>(
+        &mut self,
+        rt: &H,
+        task: PublishedRound,
+        work: W,
+    ) -> W
+        requires task { OnTask task.jobs task.may_stop (party_view self.old.barrier) }
+        requires helper { (party_view self.old.barrier).leader ≡ false }
+        requires holds { (hands : _) → W.holds work hands }
+        ensures post { (self.new.tables ≡ self.old.tables) × (self.new.thread ≡ self.old.thread) }
+        ensures leader { (party_view self.new.barrier).leader ≡ false }
+        ensures done { IsDone (party_view self.new.barrier) }
+        ensures seat { IsSameSeat self.old.barrier.seat self.new.barrier.seat }
+    {
+        let claimer = Claimer {
+            round: &self.tables.round,
+            thread: self.thread,
+            task,
+        };
+        claimer.work(rt, self.barrier.seat(), work)
     }
 
     /// Leaves the barrier. Where others waited for that, and the round has ended by it, it wakes them.

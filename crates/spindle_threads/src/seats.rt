@@ -72,22 +72,19 @@ impl<D: SlotContents> Tables<D> {
         requires outside { round_seat.me ≡ (outsider round.init.threads true, []) }
         ensures counts { IfOk result (λ t. t.0.counts ≡ counts) }
         ensures round { IfOk result (λ t. t.0.round ≡ round) }
-        ensures slots { IfOk result (λ t. t.0.child_slots ≡ child_slots) }
         ensures idling { IfOk result (λ t. t.0.sleep.idling ≡ idling) }
-        ensures seats { IfOk result (λ t. AreSeatsAt t.0 t.1) }
+        ensures seats { IfOk result (λ t. AreSeatsAt t.0 t.1 × (t.0.child_slots ≡ child_slots)) }
         ensures memory { OnErr result (IsErrOf result Fault.Memory) }
     {
-        let threads = counts.threads();
-        let (numbers, numbers_seat) = Numbers::new(alloc, threads)?;
+        let (numbers, numbers_seat) = Numbers::new(alloc, counts.threads())?;
         let (ledger, ledger_seat) = Requests::new(alloc, child_slots)?;
-        let sleep = Sleep::new(idling);
         let tables = Tables {
             counts,
             round,
             numbers,
             ledger,
             child_slots,
-            sleep,
+            sleep: Sleep::new(idling),
             present: Present::new(),
         };
         let seats = Seats {

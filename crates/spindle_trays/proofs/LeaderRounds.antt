@@ -1,28 +1,20 @@
 -- Rounds of a leader: their jobs, where it stands between them, refusals that are passed on, and what a lost piece tells.
-use Rattle.std.proofs.Common.{◌≡◌, ◌≢◌, ℕ, ◌+◌, ◌<◌, ◌≤◌, ◌↔◌, Bool, true, false, List, None, Some, ⊎_elim, inl, inr, Result, Ok, Err, ap, ◌∙◌, replicate, zero, suc, sym}
+use Rattle.std.proofs.Common.{◌≡◌, ◌≢◌, ℕ, ◌<◌, ◌≤◌, ◌↔◌, Bool, true, false, List, None, Some, ⊎_elim, inl, inr, Result, Ok, Err, ap, ◌∙◌, replicate, zero, suc, sym}
 use Rattle.std.proofs.Common.{arith, length, min, ◌==◌, Vec, Global, vec_len, IsErrOf, IsErrAnd, IfErr, OnErr, OnOk, subst}
 use Rattle.std.proofs.lemmas.Bool.{cases_lt, false≢true}
 use Rattle.spindle_parts.specs.declared.fault.Fault.{Fault}
 use Rattle.spindle_parts.specs.declared.fault.Fault.TheVariants.{Memory, Lost}
 use Rattle.spindle_rounds.specs.Leftovers.{IsMarked}
-use Rattle.spindle_rounds.specs.Passing.{InNext}
-use Rattle.spindle_rounds.specs.RoundShown.{Showed}
-use Rattle.spindle_rounds.specs.RoundSteps.{round_of, unknown}
-use Rattle.spindle_rounds.specs.RoundViews.{Onward, shown_of}
-use Rattle.spindle_rounds.specs.SlotSteps.{IsDeed}
-use Rattle.spindle_rounds.specs.declared.round_table.view.Standing.TheVariants.{Inside}
-use Rattle.spindle_rounds.specs.declared.round_table.view.View.{View}
-use Rattle.spindle_rounds.proofs.BarrierClients.{moved_deeds}
 use Rattle.spindle_parts.specs.Words.{most_jobs}
 use Rattle.spindle_trays.specs.Rounds.{job_count}
 use Rattle.spindle_rounds.specs.RoundConditions.{MayFill}
-use Rattle.spindle_threads.specs.Posts.{LastPublished, party_view}
+use Rattle.spindle_threads.specs.Posts.{party_view}
 use Rattle.spindle_threads.specs.declared.leader_member.LeaderMember.{LeaderMember}
 use Rattle.spindle_trays.specs.Leaders.{hands_of, AreLeft, IsTryRefusal, MadeNoStep, PlayedAs, PlayedOnce, TriedOnce}
 use Rattle.spindle_trays.specs.Reports.{is_marked, least_lost, IsNoted}
 use Rattle.spindle_trays.proofs.Reports.{least_first, least_within}
 use Rattle.spindle_trays.specs.declared.lock.leader.Leader.{Leader}
-use Rattle.spindle_trays.specs.declared.running.tally.Tally.{Tally}
+use Rattle.spindle_trays.specs.declared.pieces.tally.Tally.{Tally}
 
 -- what a call was refused for is what is passed on
 pub passed : {T E : Type 0} (r : Result T E) {x : E} → IsErrAnd r (λ z. z ≡ x) → r ≡ Err x
@@ -132,10 +124,3 @@ left_same n P Q old new same left = (
   (λ k. ((λ p. (left.0 k).0 ((same k).0 p)), λ f. (same k).1 ((left.0 k).1 f))),
   λ t s rule at k. let u = left.1 t s rule at k in ((λ p. u.0 ((same k).0 p)), λ f. (same k).1 (u.1 f)),
 )
-
--- what a leader published stays what it published last, through its work in the round and the round's end
-pub last_after : {S N : Type 0} (q n : ℕ) (may_stop : Bool) (v : View N) (u w : View N × List (ℕ × S)) → LastPublished q n may_stop v → Onward v u.0 → InNext u w
-    → LastPublished q n may_stop w.0
-last_after q n may_stop v u w last on next =
-    let same = ap shown_of (moved_deeds (Inside (round_of u.0.standing + 1)) (unknown u.0.leader false) u w next) ∙ on.published in
-    (ap (λ z. z.0.laid) next.seat ∙ on.laid ∙ last.0, subst (IsDeed (Showed q n may_stop)) (sym same) last.1)

@@ -21,8 +21,8 @@ use Rattle.spindle_trays.specs.Reports.{numbers_of, outputs_of, is_marked, HasFa
 use Rattle.spindle_trays.specs.Reports.{lost_at, less_of, first_astray, least_lost}
 use Rattle.spindle_trays.proofs.PieceRuns.{before_first, items_more}
 use Rattle.spindle_trays.specs.PieceRuns.{items_before, piece_at, piece_start}
-use Rattle.spindle_trays.specs.declared.lock.report.Report.{Report}
-use Rattle.spindle_trays.specs.declared.running.tally.Tally.{Tally}
+use Rattle.spindle_trays.specs.declared.pieces.report.Report.{Report}
+use Rattle.spindle_trays.specs.declared.pieces.tally.Tally.{Tally}
 
 -- as many pieces are noted, however their number is written
 pub noted_at : {A B : Type 0} (Meets : A → B → Type 0) (Fails : B → Type 0) (items : List A) (n : ℕ) (left : List Bool) (tally : Tally B) {j k : ℕ} → j ≡ k

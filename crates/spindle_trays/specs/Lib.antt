@@ -8,7 +8,7 @@ pub mod ChunkRounds
 pub mod Leaders
 pub mod Locks
 pub mod Rounds
-pub mod Alone
+pub mod Ahead
 -- Those of the crates below that its public clauses name.
 pub use Rattle.spindle_parts.specs.Pieces
 pub use Rattle.spindle_rounds.specs.Leftovers

@@ -5,8 +5,8 @@ use Rattle.std.specs.List.Sorted.{IsStrictlyIncreasing}
 use Rattle.std.specs.List.{All, AllZip, Any}
 use Rattle.spindle_parts.specs.Pieces.{counted, joined}
 use Rattle.spindle_trays.specs.PieceRuns.{piece_at}
-use Rattle.spindle_trays.specs.declared.lock.report.Report.{Report}
-use Rattle.spindle_trays.specs.declared.running.tally.Tally.{Tally}
+use Rattle.spindle_trays.specs.declared.pieces.report.Report.{Report}
+use Rattle.spindle_trays.specs.declared.pieces.tally.Tally.{Tally}
 
 -- the numbers of the pieces that ran
 abbrev pub numbers_of : {V : Type 0} → List (ℕ × V) → List ℕ

@@ -1,7 +1,7 @@
 //! Locks: a caller opens one for a kind of job, and hands lists of items to its rounds.
 //!
-//! `pool` has what a lock is opened with, `root` and `opening` how it opens, `leader` the rounds, `trying` those that may stop and
-//! `report` what came of them, `rounds` what the leaders of all kinds of lock have in common, `helper` the life of its other
+//! `pool` has what a lock is opened with, `root` and `opening` how it opens, `leader` the rounds, `trying` those that may stop,
+//! `rounds` what the leaders of all kinds of lock have in common, `helper` the life of its other
 //! threads, `helpers` their start and join, `part` what they do in a round, and `nested` the locks that jobs open.
 
 mod helper;
@@ -11,7 +11,6 @@ pub mod nested;
 pub mod opening;
 pub mod part;
 pub mod pool;
-pub mod report;
 pub mod root;
 pub mod rounds;
 mod trying;

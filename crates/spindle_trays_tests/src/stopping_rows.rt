@@ -12,7 +12,7 @@ use spindle_parts::fault::Fault;
 use spindle_threads::limits::Limits;
 use spindle_trays::job::gate::NoGate;
 use spindle_trays::lock::pool::Pool;
-use spindle_trays::lock::report::Report;
+use spindle_trays::pieces::report::Report;
 use std::alloc::Global;
 use std::process::Abort;
 use std::sync::Wait;

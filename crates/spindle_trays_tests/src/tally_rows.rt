@@ -6,12 +6,12 @@ ghost use Rattle.std.specs.Prelude.{◌≡◌, length};
 use crate::checks::{are, holds, is};
 use crate::trying::Trying;
 use spindle_parts::lists::SharedList;
-use spindle_trays::lock::report::Report;
 use spindle_trays::pieces::finished::Finished;
 use spindle_trays::pieces::list_runs::ListRuns;
+use spindle_trays::pieces::report::Report;
 use spindle_trays::pieces::spare_lists::SpareLists;
+use spindle_trays::pieces::tally::Tally;
 use spindle_trays::pieces::trays::Trays;
-use spindle_trays::running::tally::Tally;
 use std::alloc::Global;
 use std::process::Abort;
 use std::sync::Wait;
@@ -172,47 +172,14 @@ fn a_skipped_piece_is_lost_where_none_failed(rt: HostRuntime) -> Result<(), Fail
 #[test]
 fn the_least_of_several_is_lost(rt: HostRuntime) -> Result<(), Fail> {
     let alloc = rt.alloc();
+    let one = [false, true, false, false, false];
+    let four = [false, false, false, false, true];
     let but_three = [(0, 0), (1, 1), (2, 2), (4, 4)];
-    loses(
-        &rt,
-        alloc,
-        true,
-        &but_three,
-        &[false, true, false, false, false],
-        1,
-    )?;
-    loses(
-        &rt,
-        alloc,
-        true,
-        &but_three,
-        &[false, false, false, false, true],
-        3,
-    )?;
+    loses(&rt, alloc, true, &but_three, &one, 1)?;
+    loses(&rt, alloc, true, &but_three, &four, 3)?;
     let but_one_and_three = [(0, 0), (2, 2), (4, 4)];
-    loses(
-        &rt,
-        alloc,
-        false,
-        &but_one_and_three,
-        &[false, true, false, false, false],
-        1,
-    )?;
-    loses(
-        &rt,
-        alloc,
-        true,
-        &but_one_and_three,
-        &[false, true, false, false, false],
-        3,
-    )?;
+    loses(&rt, alloc, false, &but_one_and_three, &one, 1)?;
+    loses(&rt, alloc, true, &but_one_and_three, &one, 3)?;
     let but_two_and_four = [(0, 0), (1, 1), (3, 3)];
-    loses(
-        &rt,
-        alloc,
-        false,
-        &but_two_and_four,
-        &[false, false, false, false, true],
-        2,
-    )
+    loses(&rt, alloc, false, &but_two_and_four, &four, 2)
 }

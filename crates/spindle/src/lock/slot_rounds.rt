@@ -73,7 +73,7 @@ impl<'a, J: PlaysPieces<P>, G: Gate, P> SlotLeader<'a, J, G, P> {
         outputs.reserve(items.len())?;
         if jobs == 1 {
             let inputs = items.as_slice();
-            self.runner.run(rt, alloc, 0, None, inputs, outputs);
+            self.runner.run(rt, alloc, None, inputs, outputs);
         } else {
             let mut items = Items::new(alloc, items, jobs)?;
             self.play(rt, alloc, &mut items, outputs)?;
@@ -160,7 +160,7 @@ impl<'a, J: PlaysPieces<P, In = usize>, G: Gate, P> SlotLeader<'a, J, G, P> {
         }
         let mut outputs = Vec::with_capacity(alloc, n_jobs)?;
         if n_jobs == 1 {
-            outputs.push_reserved(self.runner.run_one(rt, alloc, 0, None, &0));
+            outputs.push_reserved(self.runner.run_one(rt, alloc, None, &0));
             return Ok(outputs);
         }
         self.play(rt, alloc, &mut Numbers::new(n_jobs), &mut outputs)?;

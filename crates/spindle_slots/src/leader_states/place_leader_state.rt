@@ -98,7 +98,7 @@ impl<J: Updates> PlaysInPlace<LeaderState<ChunkOf<J>>> for J {
         let mut room = store.take(alloc)?;
         room.reserve(items.len())?;
         let chunk = room.load(items, 0);
-        let updated = update_chunk(rt, alloc, runner, 0, None, chunk);
+        let updated = update_chunk(rt, alloc, runner, None, chunk);
         store.keep(updated.unload(items));
         Ok(())
     }

@@ -10,7 +10,7 @@ ghost use Rattle.spindle_rounds.specs.Seating.{HasSlots, IsSeatAt};
 ghost use Rattle.spindle_rounds.specs.RoundSteps.{outsider};
 
 use crate::leader_states::sealed::HasLeaderState;
-use crate::running::in_slots::{RunsPieces, take_part_in_slots};
+use crate::running::in_slots::{RunsPieces, SlotWork};
 use crate::threads::slot_member::LeaderSeats;
 use spindle_parts::fault::Fault;
 use spindle_rounds::round::Round;
@@ -60,7 +60,12 @@ impl<J: Job, A: RunsPieces<J>> TakesPart<J, PieceSlots<A>> for SlotWorkspace<J> 
         runner: &mut Runner<'_, J, G>,
         task: PublishedRound,
     ) {
-        take_part_in_slots::<J, A, G, H>(rt, alloc, post, runner, task);
+        let work = SlotWork {
+            runner,
+            alloc,
+            leads: false,
+        };
+        drop(post.join_in(rt, task, work));
     }
 }
 

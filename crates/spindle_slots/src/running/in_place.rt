@@ -1,7 +1,6 @@
 //! Rounds in place: a thread updates the items of its piece, and puts back what became of them.
 ghost use Rattle.std.specs.Prelude.{◌≡◌, ◌≤◌, ◌<◌, true, [], reverse, vec_len, vec_capacity};
 ghost use Rattle.std.specs.List.{AllZip};
-ghost use Rattle.std.specs.Option.{ForSome};
 ghost use Rattle.spindle_rounds.specs.Holding.{Keeps};
 ghost use Rattle.spindle_rounds.specs.Working.{PlayedRound};
 ghost use Rattle.spindle_slots.specs.InPlace.{IsReady};
@@ -12,7 +11,7 @@ use crate::pieces::chunk::{Chunk, Lists, Updated};
 use crate::pieces::chunk_buffers::ChunkBuffers;
 use crate::pieces::of_kind::ChunkOf;
 use crate::pieces::slot_piece::OneOr;
-use crate::running::in_slots::{RunsPieces, SlotWork};
+use crate::running::in_slots::RunsPieces;
 use crate::threads::slot_tables::SlotTables;
 use spindle_rounds::barrier::Barrier;
 use spindle_rounds::round_table::pieces::PieceSlots;
@@ -48,13 +47,7 @@ impl<'t, J: Updates> SlotTables<'t, PieceSlots<ChunkOf<J>>> {
     {
         let round = &self.tables.round;
         self.fill_in_place(barrier.seat(), store, jobs, items);
-        let mut signals = runner.signals.another();
-        let work = SlotWork {
-            runner,
-            alloc,
-            leads: true,
-        };
-        self.play_held(rt, barrier, &mut signals, jobs as u64, work);
+        self.play_held(rt, alloc, barrier, runner, jobs as u64);
         for slot in 0..jobs {
             let answer = round.take_answer(barrier.seat(), slot);
             store.keep_ready(answer.unload(items));
@@ -71,61 +64,49 @@ impl<J: Updates> RunsPieces<J> for ChunkOf<J> {
         number: usize,
         piece: &mut Option<OneOr<J::Item, Chunk<J::Item>>>,
     ) -> OneOr<J::Item, Updated<J::Item>> {
-        let index = runner.site.index;
         let Some(piece) = piece.take() else {
             unreachable!()
         };
+        let number = Some(number);
         match piece {
-            OneOr::One(item) => OneOr::One(update_one(rt, alloc, runner, number, index, item)),
-            OneOr::Many(chunk) => OneOr::Many(update_chunk(
-                rt, alloc, runner, number, index, chunk,
-            )),
+            OneOr::One(item) => OneOr::One(update_one(rt, alloc, runner, number, item)),
+            OneOr::Many(chunk) => OneOr::Many(update_chunk(rt, alloc, runner, number, chunk)),
         }
     }
 }
 
-// Updates an item, between the two calls of the gate.
+// Updates an item, as a job of this number.
 fn update_one<J: Updates, G: Gate, H: Threads + Wait + Sync>(
     rt: &H,
     alloc: Global,
     runner: &mut Runner<'_, J, G>,
-    number: usize,
-    index: Option<usize>,
+    number: Option<usize>,
     item: J::Item,
 ) -> J::Item
-    requires index { ForSome index (λ i. i < runner.old.site.counts.most) }
     ensures updated { J.updated item result }
     ensures site { runner.new.site ≡ runner.old.site }
 {
-    let site = runner.site.under(index);
-    let signals = runner.signals.another();
-    let mut context = JobCx::new(Some(runner.slots), signals, site);
-    runner.gate.begun(number);
+    let mut context = runner.enter(number);
     let updated = J::update(rt, alloc, &mut Some(item), &mut context);
-    runner.gate.done(number);
+    runner.leave(number);
     updated
 }
 
-/// Updates the items of a chunk, between the two calls of the gate.
+/// Updates the items of a chunk, as a job of this number.
 pub(crate) fn update_chunk<J: Updates, G: Gate, H: Threads + Wait + Sync>(
     rt: &H,
     alloc: Global,
     runner: &mut Runner<'_, J, G>,
-    number: usize,
-    index: Option<usize>,
+    number: Option<usize>,
     chunk: Chunk<J::Item>,
 ) -> Updated<J::Item>
-    requires index { ForSome index (λ i. i < runner.old.site.counts.most) }
     ensures updated { AllZip J.updated chunk result }
     ensures site { runner.new.site ≡ runner.old.site }
 {
-    let site = runner.site.under(index);
-    let signals = runner.signals.another();
-    let mut context = JobCx::new(Some(runner.slots), signals, site);
-    runner.gate.begun(number);
+    let mut context = runner.enter(number);
     let mut lists = chunk.into_lists();
     update_each::<J, H>(rt, alloc, &mut lists, &mut context);
-    runner.gate.done(number);
+    runner.leave(number);
     Updated::new(lists)
 }
 

@@ -1,12 +1,10 @@
 //! The work of one thread in a round whose pieces stand in the slots of the round table: whoever begins a number has its piece.
-ghost use Rattle.std.specs.Prelude.{◌≡◌, ◌≤◌, ℕ, List, [], true, false, IsSome};
+ghost use Rattle.std.specs.Prelude.{◌≡◌, ◌≤◌, [], true, IsSome};
 ghost use Rattle.std.specs.Option.{ForSome};
 ghost use Rattle.std.proofs.Common.{refl, ◌∙◌};
 ghost use denote.Param.Send.{IsSync};
-ghost use Rattle.spindle_rounds.specs.RoundConditions.{IsDone};
-ghost use Rattle.spindle_rounds.specs.Seating.{IsSameSeat};
 ghost use Rattle.spindle_rounds.specs.Holding.{Keeps};
-ghost use Rattle.spindle_rounds.specs.Working.{OnTask, PlayedRound};
+ghost use Rattle.spindle_rounds.specs.Working.{PlayedRound};
 ghost use Rattle.spindle_rounds.specs.SlotLoops.{IsEmpty, IsPiece, Turning};
 ghost use Rattle.spindle_slots.specs.SlotRounds.{LeadsAt, PlayedPieces};
 
@@ -17,10 +15,8 @@ use spindle_rounds::round::claim::Claimed;
 use spindle_rounds::round::claimer::{Claimer, Work};
 use spindle_rounds::round::published_round::PublishedRound;
 use spindle_rounds::round_table::Seat;
-use spindle_rounds::round_table::pieces::{PieceKind, PieceSlots, SlotState};
-use spindle_threads::member::Member;
+use spindle_rounds::round_table::pieces::{PieceKind, PieceSlots};
 use spindle_threads::publish_and_end::{end_round, publish_held};
-use spindle_threads::signals::Signals;
 use spindle_trays::job::Job;
 use spindle_trays::job::gate::Gate;
 use spindle_trays::running::runner::Runner;
@@ -52,52 +48,22 @@ pub(crate) struct SlotWork<'r, 'a, J: Job, G: Gate> {
     pub(crate) leads: bool,
 }
 
-/// Runs the jobs of a published round that are left for the thread of this post.
-pub(crate) fn take_part_in_slots<J: Job, A: RunsPieces<J>, G: Gate, H: Threads + Wait + Sync>(
-    rt: &H,
-    alloc: Global,
-    post: &mut Member<'_, PieceSlots<A>>,
-    runner: &mut Runner<'_, J, G>,
-    task: PublishedRound,
-)
-    requires sync { IsSync H.row }
-    requires task { OnTask task.jobs task.may_stop post.old.barrier.seat.me.0 }
-    requires helper { post.old.barrier.seat.me.0.leader ≡ false }
-    ensures post { (post.new.tables ≡ post.old.tables) × (post.new.thread ≡ post.old.thread) }
-    ensures leader { post.new.barrier.seat.me.0.leader ≡ false }
-    ensures done { IsDone post.new.barrier.seat.me.0 }
-    ensures seat { IsSameSeat post.old.barrier.seat post.new.barrier.seat }
-{
-    let party = Claimer {
-        round: &post.tables.round,
-        thread: post.thread,
-        task,
-    };
-    let work = SlotWork {
-        runner,
-        alloc,
-        leads: false,
-    };
-    drop(party.work(rt, post.barrier.seat(), work));
-}
-
 impl<'t, A: PieceKind> SlotTables<'t, PieceSlots<A>> {
     /// A leader's round over the pieces in its slots: they are published, all threads run them, and after the round's end the
     /// leader takes all slots out.
-    pub(crate) fn play_held<W: Work<PieceSlots<A>> + Drop, H: Threads + Wait + Sync>(
+    pub(crate) fn play_held<J: Job, G: Gate, H: Threads + Wait + Sync>(
         &self,
         rt: &H,
+        alloc: Global,
         barrier: &mut Barrier<'_, PieceSlots<A>>,
-        signals: &mut Signals<'_>,
+        runner: &mut Runner<'_, J, G>,
         jobs: u64,
-        work: W,
     )
+    where
+        A: RunsPieces<J>,
         requires leads { LeadsAt self.now.tables.now barrier.old }
         requires pieces { Turning IsEmpty IsPiece self.now.slots jobs barrier.old.seat.me.1 }
         requires counted { (2 ≤ jobs) × (jobs ≤ 4294967295) × (jobs ≤ self.now.slots) }
-        requires work { W.holds work [] }
-        requires alone { (w : W) (c : List (ℕ × SlotState A.Piece A.Answer)) → W.keeps work w
-            → W.holds w c → c ≡ [] }
         ensures leads { LeadsAt self.now.tables.now barrier.new }
         ensures same { Keeps barrier.old barrier.new }
         ensures answered { PlayedPieces A.answers self.now.slots jobs
@@ -105,17 +71,21 @@ impl<'t, A: PieceKind> SlotTables<'t, PieceSlots<A>> {
         ensures played { PlayedRound jobs barrier.old.seat.me.0 barrier.new.seat.me.0 }
     {
         let tables = self.tables;
-        publish_held(rt, tables, barrier.seat(), signals, jobs);
-        let task = PublishedRound {
-            jobs,
-            may_stop: false,
-        };
-        let party = Claimer {
+        publish_held(rt, tables, barrier.seat(), &mut runner.signals, jobs);
+        let claimer = Claimer {
             round: &tables.round,
             thread: 0,
-            task,
+            task: PublishedRound {
+                jobs,
+                may_stop: false,
+            },
         };
-        drop(party.work(rt, barrier.seat(), work));
+        let work = SlotWork {
+            runner,
+            alloc,
+            leads: true,
+        };
+        drop(claimer.work(rt, barrier.seat(), work));
         end_round(rt, tables, barrier);
         tables.round.take_answered(barrier.seat(), jobs);
     }

@@ -9,7 +9,7 @@ use crate::pieces::items::FillsSlots;
 use crate::pieces::of_kind::PieceOf;
 use crate::pieces::output_buffers::OutputBuffers;
 use crate::pieces::slot_piece::{Batch, OneOr, Outputs};
-use crate::running::in_slots::{RunsPieces, SlotWork};
+use crate::running::in_slots::RunsPieces;
 use crate::threads::slot_tables::SlotTables;
 use spindle_parts::fault::Fault;
 use spindle_rounds::barrier::Barrier;
@@ -49,13 +49,7 @@ impl<'t, J: Job> SlotTables<'t, PieceSlots<PieceOf<J>>> {
     {
         let pieces = items.pieces();
         items.fill(alloc, self, barrier.seat(), rooms)?;
-        let mut signals = runner.signals.another();
-        let work = SlotWork {
-            runner,
-            alloc,
-            leads: true,
-        };
-        self.play_held(rt, barrier, &mut signals, pieces as u64, work);
+        self.play_held(rt, alloc, barrier, runner, pieces as u64);
         let round = &self.tables.round;
         for slot in 0..pieces {
             let answer = round.take_answer(barrier.seat(), slot);
@@ -74,16 +68,15 @@ impl<J: Job> RunsPieces<J> for PieceOf<J> {
         number: usize,
         piece: &mut Option<OneOr<J::In, Batch<J::In, J::Out>>>,
     ) -> OneOr<J::Out, Outputs<J::In, J::Out>> {
-        let index = runner.site.index;
         let Some(piece) = piece.take() else {
             unreachable!()
         };
+        let number = Some(number);
         match piece {
-            OneOr::One(item) => OneOr::One(runner.run_one(rt, alloc, number, index, &item)),
+            OneOr::One(item) => OneOr::One(runner.run_one(rt, alloc, number, &item)),
             OneOr::Many(batch) => {
                 let (inputs, mut parts) = batch.into_parts();
-                let items = inputs.as_slice();
-                runner.run(rt, alloc, number, index, items, &mut parts.outputs);
+                runner.run(rt, alloc, number, inputs.as_slice(), &mut parts.outputs);
                 OneOr::Many(Outputs::new(parts))
             }
         }

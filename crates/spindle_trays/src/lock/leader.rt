@@ -14,8 +14,7 @@ use crate::lock::nested::Leads;
 use crate::lock::workspace::{Opens, Workspace};
 use crate::pieces::list_runs::ListRuns;
 use crate::pieces::spare_lists::SpareLists;
-use crate::running::ahead::play_ahead;
-use crate::running::alone::play_alone;
+use crate::running::ahead::{play_ahead, play_alone};
 use crate::running::runner::Runner;
 use spindle_parts::fault::Fault;
 use spindle_parts::lists::shared::SharedList;
@@ -130,11 +129,12 @@ impl<'a, J: Opens<L>, G: Gate, L> Leader<'a, J, G, L> {
     {
         if jobs == 1 {
             let inputs = items.as_slice();
-            self.runner.run(rt, alloc, 0, None, inputs, outputs);
+            self.runner.run(rt, alloc, None, inputs, outputs);
         } else {
             let pieces = ListRuns::new(SharedList::from_vec(alloc, items)?, jobs);
             let (post, runner) = (&mut self.post, &mut self.runner);
-            play_alone(rt, alloc, post, runner, &pieces, outputs);
+            let trays = J::trays(self.workspace);
+            play_alone(rt, alloc, post, trays, runner, &pieces, outputs);
         }
         Ok(())
     }

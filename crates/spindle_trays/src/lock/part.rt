@@ -9,7 +9,7 @@ use crate::job::Job;
 use crate::job::gate::Gate;
 use crate::job::nest::Nest;
 use crate::lock::workspace::Opens;
-use crate::running::in_trays::take_part;
+use crate::running::in_trays::TrayWork;
 use crate::running::runner::Runner;
 use spindle_rounds::round::published_round::PublishedRound;
 use spindle_rounds::round_table::slots::{Bare, SlotContents};
@@ -63,6 +63,14 @@ impl<J: Opens<L>, L> TakesPart<J, Bare> for L {
         runner: &mut Runner<'_, J, G>,
         task: PublishedRound,
     ) {
-        take_part(rt, alloc, post, J::trays(self), runner, task);
+        let trays = J::trays(self);
+        let work = TrayWork {
+            trays,
+            runner,
+            alloc,
+            held: None,
+        };
+        let work = post.join_in(rt, task, work);
+        trays.bring_back(rt, task.jobs as usize, work.held);
     }
 }

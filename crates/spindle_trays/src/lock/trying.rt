@@ -7,13 +7,13 @@ ghost use Rattle.spindle_trays.specs.Rounds.{job_count};
 
 use crate::job::gate::Gate;
 use crate::lock::leader::{Leader, MOST_JOBS};
-use crate::lock::report::Report;
 use crate::lock::workspace::Opens;
 use crate::pieces::list_runs::ListRuns;
+use crate::pieces::report::Report;
 use crate::pieces::spare_lists::SpareLists;
+use crate::pieces::tally::Tally;
 use crate::running::in_trays::play_in_trays;
 use crate::running::sequential::{make_rooms, play_rooms};
-use crate::running::tally::Tally;
 use spindle_parts::fault::Fault;
 use spindle_parts::lists::shared::SharedList;
 use std::alloc::Global;

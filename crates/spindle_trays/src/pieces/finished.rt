@@ -5,7 +5,7 @@ ghost use Rattle.spindle_trays.specs.Rounds.{AddsAnswers};
 
 use crate::job::Job;
 use crate::pieces::ready::Ready;
-use crate::running::tally::has_failure;
+use crate::pieces::tally::has_failure;
 use spindle_parts::lists::run::ListRun;
 use spindle_parts::lists::shared::are_equal;
 use spindle_rounds::round::finishing::Numbered;

@@ -18,7 +18,7 @@ use crate::pieces::list_runs::ListRuns;
 use crate::pieces::place::Place;
 use crate::pieces::ready::Ready;
 use crate::pieces::spare_lists::SpareLists;
-use crate::running::tally::Tally;
+use crate::pieces::tally::Tally;
 use std::alloc::{AllocError, Global};
 use std::mem;
 

@@ -1,10 +1,8 @@
 //! The work of one thread in a published round: it runs the pieces of the numbers that it claims, out of the trays.
-ghost use Rattle.std.specs.Prelude.{◌≡◌, ◌≤◌, false};
+ghost use Rattle.std.specs.Prelude.{◌≡◌, ◌≤◌};
 ghost use Rattle.spindle_threads.specs.Posts.{LastPublished, party_view};
-ghost use Rattle.spindle_rounds.specs.RoundConditions.{IsDone};
 ghost use Rattle.spindle_rounds.specs.RoundSteps.{round_of};
-ghost use Rattle.spindle_rounds.specs.Seating.{IsSameSeat};
-ghost use Rattle.spindle_rounds.specs.Working.{OnTask, PlayedRoundOf};
+ghost use Rattle.spindle_rounds.specs.Working.{PlayedRoundOf};
 
 use crate::job::Job;
 use crate::job::gate::Gate;
@@ -18,50 +16,17 @@ use spindle_rounds::round::published_round::PublishedRound;
 use spindle_rounds::round_table::Seat;
 use spindle_rounds::round_table::slots::Bare;
 use spindle_threads::leader_member::LeaderMember;
-use spindle_threads::member::Member;
-use spindle_threads::publish_and_end::{end_round, publish};
 use std::alloc::Global;
 use std::sync::Wait;
 use std::thread::Threads;
 
 /// What runs the pieces of trays. It holds the last piece until it takes its next one.
 #[derive(Drop)]
-struct TrayWork<'t, 'r, 'a, J: Job, G: Gate> {
-    trays: &'t Trays<J>,
-    runner: &'r mut Runner<'a, J, G>,
-    alloc: Global,
-    held: Option<Finished<J>>,
-}
-
-/// Runs the jobs of a published round that are left for the thread.
-pub(crate) fn take_part<J: Job, G: Gate, H: Threads + Wait + Sync>(
-    rt: &H,
-    alloc: Global,
-    post: &mut Member<'_, Bare>,
-    trays: &Trays<J>,
-    runner: &mut Runner<'_, J, G>,
-    task: PublishedRound,
-)
-    requires task { OnTask task.jobs task.may_stop post.old.barrier.seat.me.0 }
-    requires helper { post.old.barrier.seat.me.0.leader ≡ false }
-    ensures post { (post.new.tables ≡ post.old.tables) × (post.new.thread ≡ post.old.thread) }
-    ensures leader { post.new.barrier.seat.me.0.leader ≡ false }
-    ensures done { IsDone post.new.barrier.seat.me.0 }
-    ensures seat { IsSameSeat post.old.barrier.seat post.new.barrier.seat }
-{
-    let party = Claimer {
-        round: &post.tables.round,
-        thread: post.thread,
-        task,
-    };
-    let work = TrayWork {
-        trays,
-        runner,
-        alloc,
-        held: None,
-    };
-    let work = party.work(rt, post.barrier.seat(), work);
-    trays.bring_back(rt, task.jobs as usize, work.held);
+pub(crate) struct TrayWork<'t, 'r, 'a, J: Job, G: Gate> {
+    pub(crate) trays: &'t Trays<J>,
+    pub(crate) runner: &'r mut Runner<'a, J, G>,
+    pub(crate) alloc: Global,
+    pub(crate) held: Option<Finished<J>>,
 }
 
 /// Publishes a task, whose pieces stand in the trays, takes part, and waits until the round has ended.
@@ -80,23 +45,15 @@ pub(crate) fn play_in_trays<'a, J: Job, G: Gate, H: Threads + Wait + Sync>(
         task.jobs task.may_stop (party_view leader.new.post.barrier) }
     ensures tables { leader.new.post.tables ≡ leader.old.post.tables }
 {
-    let post = &mut leader.post;
-    let tables = post.tables;
-    publish(rt, tables, &mut post.barrier, &mut runner.signals, task);
-    let party = Claimer {
-        round: &tables.round,
-        thread: 0,
-        task,
-    };
+    let signals = runner.signals.another();
     let work = TrayWork {
         trays,
         runner,
         alloc,
         held: None,
     };
-    let work = party.work(rt, post.barrier.seat(), work);
+    let work = leader.lead(rt, signals, task, work);
     trays.bring_back(rt, task.jobs as usize, work.held);
-    end_round(rt, tables, &mut post.barrier);
 }
 
 impl<'t, 'r, 'a, J: Job, G: Gate> Work<Bare> for TrayWork<'t, 'r, 'a, J, G> {
@@ -144,9 +101,7 @@ impl<J: Job> Trays<J> {
     {
         if let Some(piece) = self.exchange(rt, pieces, held, number) {
             let (inputs, mut outputs) = piece.into_parts();
-            let index = runner.site.index;
-            let items = inputs.as_slice();
-            runner.run(rt, alloc, number, index, items, &mut outputs);
+            runner.run(rt, alloc, Some(number), inputs.as_slice(), &mut outputs);
             Finished::new(number, inputs, outputs)
         } else {
             Finished::empty(alloc, number)

@@ -1,6 +1,5 @@
 //! Runs the items of one job, between its two calls of the gate.
-ghost use Rattle.std.specs.Prelude.{◌≡◌, ◌+◌, ◌<◌, ◌≤◌, ◌++◌, List, length, vec_len, vec_capacity};
-ghost use Rattle.std.specs.Option.{ForSome};
+ghost use Rattle.std.specs.Prelude.{◌≡◌, ◌+◌, ◌≤◌, ◌++◌, List, length, vec_len, vec_capacity};
 ghost use Rattle.spindle_trays.specs.Rounds.{AddsAnswers};
 
 use crate::job::Job;
@@ -40,29 +39,43 @@ impl<'a, J: Job, G: Gate> Runner<'a, J, G> {
         }
     }
 
-    /// Runs the items, and puts their outputs at the end of the list.
+    /// The way into a job of this number: its context, and the gate's first call. A job that a leader runs directly has no number,
+    /// and its gate is told 0.
+    pub fn enter(&mut self, number: Option<usize>) -> JobCx<'a, J::Inner>
+        ensures { self.new.site ≡ self.old.site }
+    {
+        let site = match number {
+            Some(_) => self.site,
+            None => self.site.directly(),
+        };
+        let context = JobCx::new(Some(self.slots), self.signals.another(), site);
+        self.gate.begun(number.unwrap_or(0));
+        context
+    }
+
+    /// The way out of it: the gate's second call.
+    pub fn leave(&self, number: Option<usize>) {
+        self.gate.done(number.unwrap_or(0));
+    }
+
+    /// Runs the items of a job, and puts their outputs at the end of the list.
     pub fn run<H: Threads + Wait + Sync>(
         &mut self,
         rt: &H,
         alloc: Global,
-        number: usize,
-        index: Option<usize>,
+        number: Option<usize>,
         items: &[J::In],
         outputs: &mut Vec<J::Out>,
     )
-        requires index { ForSome index (λ i. i < self.old.site.counts.most) }
         requires room { vec_len outputs.old + length items.now ≤ vec_capacity outputs.old }
         ensures answered { AddsAnswers J.meets items.now outputs.old.items outputs.new.items }
         ensures room { vec_capacity outputs.new ≡ vec_capacity outputs.old }
         ensures len { vec_len outputs.new ≡ vec_len outputs.old + length items.now }
         ensures site { self.new.site ≡ self.old.site }
     {
-        let site = self.site.under(index);
-        let signals = self.signals.another();
-        let mut context = JobCx::new(Some(self.slots), signals, site);
-        self.gate.begun(number);
+        let mut context = self.enter(number);
         run_each::<J, H>(rt, alloc, items, &mut context, outputs);
-        self.gate.done(number);
+        self.leave(number);
     }
 
     /// Runs a job of one item, and answers its output.
@@ -70,20 +83,15 @@ impl<'a, J: Job, G: Gate> Runner<'a, J, G> {
         &mut self,
         rt: &H,
         alloc: Global,
-        number: usize,
-        index: Option<usize>,
+        number: Option<usize>,
         item: &J::In,
     ) -> J::Out
-        requires index { ForSome index (λ i. i < self.old.site.counts.most) }
         ensures answered { J.meets item.now result }
         ensures site { self.new.site ≡ self.old.site }
     {
-        let site = self.site.under(index);
-        let signals = self.signals.another();
-        let mut context = JobCx::new(Some(self.slots), signals, site);
-        self.gate.begun(number);
+        let mut context = self.enter(number);
         let output = J::run(rt, alloc, item, &mut context);
-        self.gate.done(number);
+        self.leave(number);
         output
     }
 }

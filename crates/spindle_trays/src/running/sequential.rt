@@ -2,7 +2,6 @@
 //! piece has run. The rooms stay with the leader and no tray is asked, so nothing can be lost there.
 ghost use Rattle.std.specs.Prelude.{◌≡◌, ◌↔◌, ◌<◌, ◌≤◌, None, true, IfOk, IfSome, IsNone, IsTrue, OnErr, IsErrOf, length};
 ghost use Rattle.std.specs.List.{AllZip};
-ghost use Rattle.std.specs.Option.{ForSome};
 ghost use Rattle.std.proofs.Common.{refl, ◌∙◌};
 ghost use Rattle.spindle_trays.specs.PieceRuns.{piece_at};
 ghost use Rattle.spindle_trays.specs.Reports.{AreRooms, IsNoted, IsRoomFor};
@@ -15,16 +14,15 @@ use crate::job::gate::Gate;
 use crate::pieces::finished::Finished;
 use crate::pieces::list_runs::ListRuns;
 use crate::pieces::spare_lists::SpareLists;
+use crate::pieces::tally::{Tally, has_failure};
 use crate::running::finishing::finish;
 use crate::running::runner::Runner;
-use crate::running::tally::{Tally, has_failure};
 use spindle_parts::fault::Fault;
 use spindle_rounds::round::claim::Claimed;
 use spindle_rounds::round::claimer::{Claimer, Work};
 use spindle_rounds::round_table::Seat;
 use spindle_rounds::round_table::slots::Bare;
 use spindle_threads::leader_member::LeaderMember;
-use spindle_threads::publish_and_end::{end_round, publish};
 use std::alloc::Global;
 use std::mem;
 use std::sync::Wait;
@@ -57,24 +55,15 @@ pub(crate) fn play_rooms<'a, J: Job, G: Gate, H: Threads + Wait + Sync>(
         pieces.now.count true (party_view leader.new.post.barrier) }
     ensures tables { leader.new.post.tables ≡ leader.old.post.tables }
 {
-    let post = &mut leader.post;
-    let tables = post.tables;
-    let task = pieces.task(true);
-    publish(rt, tables, &mut post.barrier, &mut runner.signals, task);
-    let party = Claimer {
-        round: &tables.round,
-        thread: 0,
-        task,
-    };
+    let signals = runner.signals.another();
     let work = SequentialWork {
         pieces,
         runner,
         alloc,
         rooms: mem::replace(rooms, Vec::new(alloc)),
     };
-    let work = party.work(rt, post.barrier.seat(), work);
+    let work = leader.lead(rt, signals, pieces.task(true), work);
     *rooms = work.rooms;
-    end_round(rt, tables, &mut post.barrier);
 }
 
 impl<'p, 'r, 'a, J: Job, G: Gate> Work<Bare> for SequentialWork<'p, 'r, 'a, J, G> {
@@ -115,7 +104,7 @@ impl<'p, 'r, 'a, J: Job, G: Gate> SequentialWork<'p, 'r, 'a, J, G> {
         }
         let items = self.pieces.piece(number);
         let room = &mut self.rooms[number];
-        run_in_room(rt, self.alloc, self.runner, Some(0), number, items, room);
+        run_in_room(rt, self.alloc, self.runner, Some(number), items, room);
         has_failure::<J>(room.as_slice())
     }
 }
@@ -169,7 +158,7 @@ impl<'a, J: Job, G: Gate> Runner<'a, J, G> {
         }
     }
 
-    // Takes the outputs of a piece that isn't left out of its room. Where it hasn't run, it runs now.
+    // Takes the outputs of a piece that isn't left out of its room. Where it hasn't run, the leader runs it directly.
     fn take_room<H: Threads + Wait + Sync>(
         &mut self,
         rt: &H,
@@ -191,20 +180,9 @@ impl<'a, J: Job, G: Gate> Runner<'a, J, G> {
             return None;
         }
         let mut outputs = mem::replace(room, Vec::new(alloc));
-        let index = self.own_index(pieces);
         let items = pieces.piece(number);
-        run_in_room(rt, alloc, self, index, number, items, &mut outputs);
+        run_in_room(rt, alloc, self, None, items, &mut outputs);
         Some(outputs)
-    }
-
-    // The number with which a leader runs pieces: none, where there is only one.
-    fn own_index(&self, pieces: &ListRuns<J::In>) -> Option<usize>
-        ensures { ForSome result (λ i. i < self.now.site.counts.most) }
-    {
-        if pieces.count() == 1 {
-            return None;
-        }
-        Some(0)
     }
 }
 
@@ -214,12 +192,10 @@ fn run_in_room<J: Job, G: Gate, H: Threads + Wait + Sync>(
     rt: &H,
     alloc: Global,
     runner: &mut Runner<'_, J, G>,
-    index: Option<usize>,
-    number: usize,
+    number: Option<usize>,
     items: &[J::In],
     room: &mut Vec<J::Out>,
 )
-    requires index { ForSome index (λ i. i < runner.old.site.counts.most) }
     requires fits { IsRoomFor J.meets items.now room.old }
     ensures answered { AllZip J.meets items.now room.new.items }
     ensures site { runner.new.site ≡ runner.old.site }
@@ -227,5 +203,5 @@ fn run_in_room<J: Job, G: Gate, H: Threads + Wait + Sync>(
     if !room.is_empty() {
         return;
     }
-    runner.run(rt, alloc, number, index, items, room);
+    runner.run(rt, alloc, number, items, room);
 }

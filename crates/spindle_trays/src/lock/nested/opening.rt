@@ -10,8 +10,8 @@ ghost use Rattle.spindle_threads.specs.Opening.{AreSeatsAt};
 use crate::job::Job;
 use crate::job::context::JobCx;
 use crate::job::gate::NoGate;
-use crate::job::nest::Under;
 use crate::lock::leader::Leader;
+use crate::lock::nested::Under;
 use crate::lock::nested::child::{Child, Nested};
 use crate::lock::nested::child_lease::ChildLease;
 use crate::lock::nested::closing::close;
@@ -48,24 +48,21 @@ impl<'a, K: Job> JobCx<'a, Under<K>> {
         ensures same { self.new ≡ self.old }
     {
         let counts = self.counts_for(max_threads);
-        let idling = self.site.sleep.idling();
+        let sleep = self.site.sleep;
         if let Some(slots) = self.slots
             && counts.threads() > 1
         {
-            let (child, seats) = Child::open(alloc, counts, idling)?;
+            let (child, seats) = Child::open(alloc, counts, sleep.idling())?;
             let asked = self.asks.ask(child.tables());
-            let child_lease = ChildLease::take(rt, slots, &child, asked, self.site.sleep);
-            if let Some(child_lease) = child_lease {
-                let gate = NoGate;
-                let mut leader = take_lead(rt, &child, &gate, seats);
+            if let Some(child_lease) = ChildLease::take(rt, slots, &child, asked, sleep) {
+                let mut leader = take_lead(rt, &child, &NoGate, seats);
                 let answer = f(&mut leader);
                 close(rt, leader, child_lease);
                 return Ok(answer);
             }
         }
-        let (child, seats) = Child::open(alloc, counts.alone(), idling)?;
-        let gate = NoGate;
-        let mut leader = take_lead(rt, &child, &gate, seats);
+        let (child, seats) = Child::open(alloc, counts.alone(), sleep.idling())?;
+        let mut leader = take_lead(rt, &child, &NoGate, seats);
         Ok(f(&mut leader))
     }
 }

@@ -8,8 +8,8 @@ ghost use Rattle.spindle_trays.specs.Rounds.{job_count, IsRefusal};
 
 use crate::job::Job;
 use crate::job::context::JobCx;
-use crate::job::nest::Under;
 use crate::lock::leader::MOST_JOBS;
+use crate::lock::nested::Under;
 use crate::running::runner::run_each;
 use spindle_parts::fault::Fault;
 use std::alloc::Global;

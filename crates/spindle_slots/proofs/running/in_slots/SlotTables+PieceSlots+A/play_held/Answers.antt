@@ -52,7 +52,7 @@ returns-clause-answered g c = let A = g.A.PieceKind.answers in let s : ℕ = slo
       found = taken.0;
       published = shown;
       on = on;
-      none = c.requires.alone _ _ worked.keeps worked.holds;
+      none = worked.holds worked.keeps;
       next = next;
       taken = subst (λ (k : ℕ). TakenOut (pieces A) k taken.0 e x) many taken.1;
       answered = answered_then A s j u e waits next x.1 (rw c.seat-3.ensures.value at c.take_answered.ensures.answered);

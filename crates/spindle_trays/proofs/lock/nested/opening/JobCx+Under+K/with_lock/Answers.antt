@@ -4,8 +4,8 @@ use Rattle.spindle_threads.specs.declared.ThreadCounts.{ThreadCounts}
 use Rattle.spindle_trays.specs.Locks.{nested_hands}
 use Rattle.spindle_trays.proofs.lock.nested.opening.JobCx+Under+K.with_lock.Goals as goal
 
-pub returns-in-Some-child_lease-clause-promise : goal.returns-in-Some-child_lease-clause-promise
-returns-in-Some-child_lease-clause-promise g c =
+pub returns-in-Some-take-clause-promise : goal.returns-in-Some-take-clause-promise
+returns-in-Some-take-clause-promise g c =
     let leads = c.take_lead-leader.ensures in let counts = c.in_ok-child.ensures.counts in
     let all = leads.threads ∙ ap (λ (k : ThreadCounts). k.most) counts in (
       c.take_lead-leader.result,
