@@ -24,3 +24,8 @@ equal_pairs_are_same E F same_first same_second x y e =
     let first = same_first x.0 y.0 (first_so (E x.0 y.0) (F x.1 y.1) e) in
     let second = same_second x.1 y.1 (second_so (E x.0 y.0) (F x.1 y.1) e) in
     λ i. (first i, second i)
+
+-- of lists, where equality is read off the goal: the law of shared lists and of runs, whatever their items are
+pub law_of_lists : {T : Type 0} {E : T → T → Bool} → ((x y : T) → E x y ≡ true → x ≡ y)
+    → (xs ys : List T) → pointwise E xs ys ≡ true → xs ≡ ys
+law_of_lists {E = E} same = equal_lists_are_same E same

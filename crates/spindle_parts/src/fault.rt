@@ -8,7 +8,7 @@ use thiserror::Error;
 /// What a lock, a round or a list of pieces is refused for.
 ///
 /// It stands for the panics and the aborts of spindle.
-#[derive(Debug, Drop, Error)]
+#[derive(Clone, Copy, Debug, PartialEq, Eq, Error)]
 pub enum Fault {
     /// A growth was refused before anything was published, so no job has run.
     #[error("no memory")]

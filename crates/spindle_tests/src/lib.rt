@@ -16,6 +16,8 @@ mod free_rows;
 #[cfg(test)]
 mod kernel_rows;
 #[cfg(test)]
+mod laws;
+#[cfg(test)]
 mod refused_calls;
 
 #[cfg(test)]
