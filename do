@@ -83,7 +83,7 @@ refusals() { .ci/refusals "$@"; }
 soak() {
   local seconds=${1:-15}
   # A lock's rounds go on where the time is over, and beside proofs threads that meet are slow.
-  (cd crates/spindle_soak && rt try --seconds $((600 + 2 * seconds)) -- "$seconds")
+  (cd crates/spindle_bench && rt try --seconds $((600 + 2 * seconds)) -- soak "$seconds")
 }
 
 #: edits CRATE          try a crate's must-fail edits, which the prover must refuse, one after another

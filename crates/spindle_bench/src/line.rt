@@ -11,6 +11,8 @@ pub enum Line {
     Place,
     /// A lock whose rounds are played in place, of a pool with patience.
     Patient,
+    /// A call over a whole list.
+    Lists,
     /// The kit's `rayon`.
     Rayon,
 }
@@ -23,6 +25,7 @@ impl Line {
             Line::Trays => "trays",
             Line::Place => "place",
             Line::Patient => "patient",
+            Line::Lists => "lists",
             Line::Rayon => "rayon",
         }
     }
@@ -34,6 +37,7 @@ impl Line {
             Line::Trays => "zuflanto-trays",
             Line::Place => "zuflanto-place",
             Line::Patient => "zuflanto-patient",
+            Line::Lists => "zuflanto-lists",
             Line::Rayon => "zuflanto-rayon",
         }
     }

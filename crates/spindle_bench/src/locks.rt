@@ -11,14 +11,14 @@ use crate::timing::{run, wait_until};
 use spindle::lock::{End, Nest, NoGate, Pool, Updates};
 use spindle::{with_lock, with_slots, with_slots_in_place};
 use std::alloc::Global;
-use std::rt::Clock;
+use std::rt::{Clock, Files};
 use std::sync::Wait;
 use std::thread::Threads;
 
-/// What locks that are timed need.
-pub trait Machine: Threads + Wait + Sync + Clock + Print + Alloc<A = Global> {}
+/// What the program needs of its runtime.
+pub trait Machine: Threads + Wait + Sync + Clock + Print + Files + Alloc<A = Global> {}
 
-impl<H: Threads + Wait + Sync + Clock + Print + Alloc<A = Global>> Machine for H {}
+impl<H: Threads + Wait + Sync + Clock + Print + Files + Alloc<A = Global>> Machine for H {}
 
 /// What the locks are opened with.
 #[derive(Drop)]

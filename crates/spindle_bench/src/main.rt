@@ -1,4 +1,4 @@
-//! Nanoseconds a round, for seven shapes of rounds, three kinds of locks, and the kit's `rayon`.
+//! Nanoseconds a round, for nine shapes of rounds, three kinds of locks, and the kit's `rayon`.
 //!
 //! For each shape and kind the program opens one lock of THREADS threads with the default limits, waits until all of them are
 //! there, runs rounds in it, checks what came out, and prints one line
@@ -8,12 +8,14 @@
 //! ```
 //!
 //! where the last four are whole nanoseconds a round: the best batch, the middle one, and those that a tenth and nine tenths of all
-//! batches stand below. A batch is 100 rounds between two readings of the clock (20 of `nested`, 10 of `stencil256k`); three batches
-//! warm up, then 300 count (100 of those two), or as many as end within 0.8 seconds.
+//! batches stand below. A batch is 100 rounds between two readings of the clock (20 of `nested`, 10 of `stencil256k`, 3 of
+//! calls over whole lists); three batches warm up, then 300 count (100 of these), or as many as end within 0.8 seconds.
 //!
-//! SHAPE in the environment names the one shape to run, and POOL what to run it on: `slots`, `trays`, `place`, `patient` or `rayon`.
+//! SHAPE in the environment names the one shape to run, and POOL what to run it on: `slots`, `trays`, `place`, `patient`, `lists` or
+//! `rayon`.
 //! No line is printed where nothing has that name; `all` is as no name. THREADS is how many threads run, else 4. With the word `check`
-//! the program reads no clock: it runs a few rounds for each line, checks what came out, and says so.
+//! the program reads no clock: it runs a few rounds for each line, checks what came out, and says so. With the words `soak SECONDS`
+//! it plays uneven jobs for so long, 15 where no number stands there, and times nothing (`soak`).
 //!
 //! NAME is `zuflanto` for a lock that `with_slots` opens, with a slot for each job of the round,
 //! `zuflanto-trays` for one that `with_lock` opens, and `zuflanto-place` for one that `with_slots_in_place` opens, whose rounds are
@@ -32,6 +34,8 @@
 //!   its own, and a job adds one to each of its numbers where they stand, by whole cache lines.
 //! - `map`: the squares of 4096 numbers, in four shared lists a thread that were made before the clock started. In place an item is
 //!   such a list with another of that length, into which a job writes the squares.
+//! - `map1m`, `dot1m`: `map` adds one to each of 1048576 numbers, the last round's; `reduce_pairs` adds the products of two lists of as
+//!   many. Both are `zuflanto-lists`, open a lock for each call, and make their lists of totals or outputs anew.
 //!
 //! What a round is charged with: making its list of items, all of `for_each_into` into a new list (or of the call that stands for
 //! it), and letting the last round's outputs go. Lists that rounds share are made before the clock starts.
@@ -48,8 +52,10 @@ mod rayon_rounds;
 mod series;
 mod settings;
 mod shape;
+mod soak;
 mod stop;
 mod timing;
+mod whole_lists;
 
 use crate::kinds::{AddOne, Nothing, Square, Stir};
 use crate::line::Line;
@@ -57,6 +63,7 @@ use crate::locks::{Bench, Machine, in_each, in_place};
 use crate::nested::{AddOneToPart, InRounds};
 use crate::settings::Settings;
 use crate::shape::{SHAPES, Shape};
+use crate::soak::soak;
 use crate::stop::Stop;
 use spindle::lock::{InPlace, Limits, NoGate, Pool};
 
@@ -65,6 +72,9 @@ const PATIENCE: u32 = 512;
 
 fn main(rt: HostRuntime) -> Result<(), Stop> {
     let settings = Settings::read(&rt)?;
+    if let Some(seconds) = settings.soak {
+        return soak(&rt, seconds);
+    }
     let bench = Bench {
         rt: &rt,
         settings: &settings,
@@ -79,8 +89,12 @@ fn main(rt: HostRuntime) -> Result<(), Stop> {
                 in_each::<AddOne, InPlace<AddOne>, _>(&bench, shape)?
             }
             Shape::Map => in_each::<Square, InPlace<Square>, _>(&bench, shape)?,
+            Shape::Map1m | Shape::Dot1m => whole_lists::of_shape(&bench, shape)?,
         }
         rayon_rounds::of_shape(&rt, &settings, shape)?;
+    }
+    if settings.is_check {
+        soak(&rt, 0)?;
     }
     Ok(())
 }

@@ -1,4 +1,5 @@
-//! Rounds of the kit's `rayon` over borrowed slices, in one piece a thread, of `map` four. `try8` and `nested` have none.
+//! Rounds of the kit's `rayon` over borrowed slices, in one piece a thread, of `map` four. `try8` and `nested` have
+//! none, and calls over whole lists stand in `whole_lists`.
 ghost use Rattle.std.specs.Prelude.{◌≡◌, ◌<◌};
 
 use crate::kernels::{are_all, are_squares, one_more_each, stirred};
@@ -26,7 +27,7 @@ pub fn of_shape<H: Threads + Sync + Clock + Print + Alloc<A = Global>>(
         Shape::Tiny8 => tiny(rt, settings),
         Shape::Stencil4k | Shape::Stencil256k => stencil(rt, settings, shape),
         Shape::Map => map(rt, settings),
-        Shape::Try8 | Shape::Nested => Ok(()),
+        Shape::Try8 | Shape::Nested | Shape::Map1m | Shape::Dot1m => Ok(()),
     }
 }
 

@@ -14,6 +14,9 @@ const DEFAULT_THREADS: usize = 4;
 /// A lock has at most so many threads.
 const MOST_THREADS: usize = 32767;
 
+/// For so many seconds uneven jobs are played where no word says it.
+const DEFAULT_SECONDS: u64 = 15;
+
 /// What to run.
 #[derive(Drop)]
 pub struct Settings {
@@ -25,28 +28,40 @@ pub struct Settings {
     pool: Option<String>,
     /// Whether rounds are only checked, and not timed.
     pub is_check: bool,
+    /// For how many seconds uneven jobs are played in place of all that; none where rounds are timed or checked.
+    pub soak: Option<u64>,
     ghost some: { 0 < threads },
     ghost few: { threads ≤ 32767 },
 }
 
 impl Settings {
-    /// Reads THREADS, SHAPE and POOL, and the word `check`.
+    /// Reads THREADS, SHAPE and POOL, and the words `check` or `soak SECONDS`.
     pub fn read(rt: &(impl Env + Alloc<A = Global>)) -> Result<Settings, Stop> {
         let threads = threads_of(env::var(rt, "THREADS").ok().as_deref())?;
         let shape = env::var(rt, "SHAPE").ok();
         let pool = env::var(rt, "POOL").ok();
-        let is_check = env::args(rt)?.any(|word| word.as_str() == "check");
+        let word = env::args(rt)?.nth(1);
+        let soak = match word.as_deref() {
+            Some("soak") => Some(seconds_of(env::args(rt)?.nth(2).as_deref())?),
+            _ => None,
+        };
         Ok(Settings {
             threads,
             shape,
             pool,
-            is_check,
+            is_check: word.as_deref() == Some("check"),
+            soak,
         })
     }
 
-    /// Whether this line of a shape is asked for. `try8` has none but that of trays.
+    /// Whether this line of a shape is asked for. `try8` has none but that of trays, and the last two have none of a lock.
     pub fn wants(&self, line: Line, shape: Shape) -> bool {
-        (shape != Shape::Try8 || line == Line::Trays)
+        let has_line = match shape {
+            Shape::Try8 => line == Line::Trays,
+            Shape::Map1m | Shape::Dot1m => line == Line::Lists || line == Line::Rayon,
+            _ => line != Line::Lists,
+        };
+        has_line
             && is_asked(self.pool.as_deref(), line.name())
             && is_asked(self.shape.as_deref(), shape.name())
     }
@@ -57,6 +72,14 @@ fn is_asked(asked: Option<&str>, name: &str) -> bool {
     match asked {
         Some(asked) => asked == name || asked == "all",
         None => true,
+    }
+}
+
+// For how many seconds a text asks.
+fn seconds_of(text: Option<&str>) -> Result<u64, Stop> {
+    match text {
+        Some(text) => text.parse::<u64>().map_err(|_| Stop::Seconds),
+        None => Ok(DEFAULT_SECONDS),
     }
 }
 

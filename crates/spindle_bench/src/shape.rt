@@ -27,10 +27,14 @@ pub enum Shape {
     Stencil256k,
     /// Squares 4096 numbers, in four jobs a thread.
     Map,
+    /// Adds one to each of 1048576 numbers, by a call over the whole list.
+    Map1m,
+    /// The dot product of two lists of 1048576 numbers, by such a call.
+    Dot1m,
 }
 
 /// All shapes, in the order of their lines.
-pub const SHAPES: [Shape; 7] = [
+pub const SHAPES: [Shape; 9] = [
     Shape::Empty,
     Shape::Tiny8,
     Shape::Try8,
@@ -38,6 +42,8 @@ pub const SHAPES: [Shape; 7] = [
     Shape::Stencil4k,
     Shape::Stencil256k,
     Shape::Map,
+    Shape::Map1m,
+    Shape::Dot1m,
 ];
 
 impl Shape {
@@ -51,6 +57,8 @@ impl Shape {
             Shape::Stencil4k => "stencil4k",
             Shape::Stencil256k => "stencil256k",
             Shape::Map => "map",
+            Shape::Map1m => "map1m",
+            Shape::Dot1m => "dot1m",
         }
     }
 
@@ -67,10 +75,11 @@ impl Shape {
         }
     }
 
-    /// The numbers of a round of a stencil or of `map`.
+    /// The numbers of a round of a stencil, of `map`, or of a call over a whole list.
     pub fn numbers(self) -> usize {
         match self {
             Shape::Stencil256k => 262144,
+            Shape::Map1m | Shape::Dot1m => 1048576,
             _ => 4096,
         }
     }
@@ -80,7 +89,7 @@ impl Shape {
         ensures { result ≤ 300 }
     {
         match self {
-            Shape::Nested | Shape::Stencil256k => 100,
+            Shape::Nested | Shape::Stencil256k | Shape::Map1m | Shape::Dot1m => 100,
             _ => 300,
         }
     }
@@ -92,6 +101,7 @@ impl Shape {
         match self {
             Shape::Nested => 20,
             Shape::Stencil256k => 10,
+            Shape::Map1m | Shape::Dot1m => 3,
             _ => 100,
         }
     }

@@ -2,6 +2,7 @@
 ghost use Rattle.std.specs.Prelude.{◌≡◌};
 
 use crate::shape::Shape;
+use crate::soak::Kind;
 use spindle::Fault;
 use std::alloc::{AllocError, AllocFailed};
 use std::io;
@@ -17,6 +18,10 @@ pub enum Stop {
     System(io::Error),
     /// Rounds of this shape answered something wrong.
     Wrong(Shape),
+    /// Rounds of uneven jobs in this kind of lock did.
+    Answer(Kind),
+    /// For how long to play uneven jobs is no number.
+    Seconds,
 }
 
 impl From<Fault> for Stop {

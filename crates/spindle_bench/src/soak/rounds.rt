@@ -2,17 +2,14 @@
 ghost use Rattle.std.specs.Prelude.{◌≡◌, ◌<◌, IfOk};
 ghost use denote.Param.Send.{IsSync};
 
+use crate::locks::Machine;
+use crate::stop::Stop;
 use spindle::lock::{Nest, PlaysInPlace, Updates};
 use spindle::prelude::*;
 use spindle::with_slots_in_place;
 use std::io;
-use std::rt::{Clock, Files};
+use std::rt::Clock;
 use std::time::{Duration, Instant};
-
-/// What the program needs of its runtime.
-pub trait Machine: Threads + Wait + Sync + Clock + Print + Files + Alloc<A = Global> {}
-
-impl<H: Threads + Wait + Sync + Clock + Print + Files + Alloc<A = Global>> Machine for H {}
 
 /// The rounds of a kind so far.
 #[derive(Drop)]
@@ -40,7 +37,7 @@ pub fn in_trays<J: Job<In = u64, Out = u64> + Send, H: Machine>(
     rt: &H,
     pool: &Pool<NoGate>,
     seen: &mut Seen,
-) -> anyhow::Result<()>
+) -> Result<(), Stop>
 where
     J::Inner: Send,
     <J::Inner as Nest>::ChildSlots: Send + Sync,
@@ -51,7 +48,7 @@ where
         rt.alloc(),
         pool,
         threads,
-        |leader| -> anyhow::Result<()>
+        |leader| -> Result<(), Stop>
             requires { IsSync H.row }
         { lists::<J, _, H>(rt, leader, seen) },
     )?
@@ -62,7 +59,7 @@ pub fn in_slots<J: Job<In = u64, Out = u64> + Send, H: Machine>(
     rt: &H,
     pool: &Pool<NoGate>,
     seen: &mut Seen,
-) -> anyhow::Result<()>
+) -> Result<(), Stop>
 where
     J::Inner: Send,
     <J::Inner as Nest>::ChildSlots: Send + Sync,
@@ -74,7 +71,7 @@ where
         pool,
         threads,
         SLOTS,
-        |leader| -> anyhow::Result<()>
+        |leader| -> Result<(), Stop>
             requires { IsSync H.row }
         { lists::<J, _, H>(rt, leader, seen) },
     )?
@@ -85,18 +82,18 @@ pub fn in_place<J: Updates<In = (), Out = (), Item = u64> + Send, H: Machine>(
     rt: &H,
     pool: &Pool<NoGate>,
     seen: &mut Seen,
-) -> anyhow::Result<()>
+) -> Result<(), Stop>
 where
     J::Inner: Send,
     <J::Inner as Nest>::ChildSlots: Send + Sync,
 {
-    with_slots_in_place::<J, NoGate, anyhow::Result<()>, _, _, H>(
+    with_slots_in_place::<J, NoGate, Result<(), Stop>, _, _, H>(
         rt,
         rt.alloc(),
         pool,
         pool.max_num_threads(),
         SLOTS,
-        |leader| -> anyhow::Result<()>
+        |leader| -> Result<(), Stop>
             requires { IsSync H.row }
         { places::<_, H>(rt, leader, seen) },
     )?
@@ -106,7 +103,7 @@ fn lists<J: Job<In = u64, Out = u64>, E: RunsRounds<J>, H: Machine>(
     rt: &H,
     leader: &mut E,
     seen: &mut Seen,
-) -> anyhow::Result<()>
+) -> Result<(), Stop>
     requires { IsSync H.row }
 {
     let mut answers = Vec::new(rt.alloc());
@@ -121,7 +118,7 @@ fn lists<J: Job<In = u64, Out = u64>, E: RunsRounds<J>, H: Machine>(
     Ok(())
 }
 
-fn places<E: PlaysHere, H: Machine>(rt: &H, leader: &mut E, seen: &mut Seen) -> anyhow::Result<()>
+fn places<E: PlaysHere, H: Machine>(rt: &H, leader: &mut E, seen: &mut Seen) -> Result<(), Stop>
     requires { IsSync H.row }
 {
     for _ in 0..ROUNDS {
