@@ -5,12 +5,11 @@ ghost use Rattle.std.specs.List.{AllZip};
 ghost use denote.Param.Send.{IsSync};
 ghost use Rattle.spindle.specs.SlotLeaders.{IsForMemory};
 
-use crate::lock::place_rounds::update;
 use crate::lock::slot_leader::SlotLeader;
 use crate::lock::slot_root::with_slots_in_place;
 use spindle_parts::fault::Fault;
 use spindle_slots::job::update::Updates;
-use spindle_slots::leader_states::place_leader_state::PlaceLeaderState;
+use spindle_slots::leader_states::place_leader_state::{PlaceLeaderState, PlaysInPlace};
 use spindle_trays::job::Job;
 use spindle_trays::job::gate::Gate;
 use spindle_trays::job::nest::Nest;
@@ -81,29 +80,6 @@ where
     )?
 }
 
-// One round over a list, in as many jobs as the list has items or its lock slots.
-#[derive(Drop)]
-struct OneRound<J: Updates> {
-    items: Vec<J::Item>,
-}
-
-impl<J: Updates> RoundsInPlace for OneRound<J> {
-    type Kind = J;
-
-    ghost played = { λ old new. AllZip J.updated old.items.items new.items.items };
-
-    fn play<G: Gate, H: Threads + Wait + Sync>(
-        &mut self,
-        rt: &H,
-        alloc: Global,
-        leader: &mut SlotLeader<J, G, PlaceLeaderState<J>>,
-    ) -> Result<(), Fault> {
-        let jobs = self.items.len();
-        let (runner, post) = (&mut leader.runner, &mut leader.post);
-        update::<J, PlaceLeaderState<J>, G, H>(rt, alloc, runner, post, jobs, &mut self.items)
-    }
-}
-
 /// Opens a lock over J, which is `InPlace<M>` for a kind M of updating, updates the items in one round of `n_jobs` jobs, and closes the
 /// lock. Where `n_jobs` is 0, there are as many jobs as the pool has threads. What becomes of an item stands where the item stood.
 ///
@@ -132,7 +108,30 @@ where
     let threads = pool.max_num_threads();
     let asked = if n_jobs == 0 { threads } else { n_jobs };
     let jobs = items.len().min(asked.min(MOST_JOBS));
-    let round = OneRound::<J> { items };
-    let round = play_in_place::<OneRound<J>, G, H>(rt, alloc, pool, jobs, jobs, round)?;
-    Ok(round.items)
+    with_slots_in_place::<J, G, Result<Vec<J::Item>, Fault>, _, _, H>(
+        rt,
+        alloc,
+        pool,
+        jobs,
+        jobs,
+        |leader| -> Result<Vec<J::Item>, Fault>
+            ensures updated { IfOk result (λ new. AllZip J.updated items.items new.items) }
+            ensures memory { OnErr result (IsErrOf result Fault.Memory) }
+        { update_all(rt, alloc, leader, items) },
+    )?
+}
+
+// One round over a list, in as many jobs as the list has items or its lock slots.
+fn update_all<J: PlaysInPlace<P>, P, G: Gate, H: Threads + Wait + Sync>(
+    rt: &H,
+    alloc: Global,
+    leader: &mut SlotLeader<J, G, P>,
+    mut items: Vec<J::Item>,
+) -> Result<Vec<J::Item>, Fault>
+    ensures updated { IfOk result (λ new. AllZip J.updated items.items new.items) }
+    ensures memory { OnErr result (IsErrOf result Fault.Memory) }
+{
+    let jobs = items.len();
+    leader.update_each(rt, alloc, jobs, &mut items)?;
+    Ok(items)
 }
