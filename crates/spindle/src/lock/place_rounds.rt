@@ -5,11 +5,13 @@ ghost use denote.Param.Send.{IsSync};
 ghost use Rattle.spindle_threads.specs.Accounts.{account_of};
 ghost use Rattle.spindle_rounds.specs.RoundConditions.{MayFill};
 ghost use Rattle.spindle_rounds.specs.Working.{PlayedRound};
+ghost use Rattle.spindle_parts.specs.Strips.{told};
 ghost use Rattle.spindle.specs.SlotLeaders.{slot_jobs, GoesOn, IsForMemory, PlayedAs};
 
 use crate::lock::slot_leader::SlotLeader;
 use spindle_parts::fault::Fault;
-use spindle_slots::job::update::InPlace;
+use spindle_parts::lists::{Strip, tell_neighbours};
+use spindle_slots::job::update::{InPlace, Updates};
 use spindle_slots::leader_states::place_leader_state::{PlaceLeaderState, PlaysInPlace};
 use spindle_slots::leader_states::slot_workspace::OpensSlots;
 use spindle_trays::job::gate::Gate;
@@ -44,6 +46,35 @@ impl<'a, J: PlaysInPlace<P>, G: Gate, P> SlotLeader<'a, J, G, P> {
         ensures goes_on { GoesOn J.OpensSlots.view J.OpensSlots.slot_count self.old self.new }
     {
         update::<J, P, G, H>(rt, alloc, &mut self.runner, &mut self.post, n_jobs, items)
+    }
+}
+
+impl<'a, T, N, J, G, P> SlotLeader<'a, J, G, P>
+where
+    T: Copy + Drop,
+    N: Drop,
+    J: PlaysInPlace<P> + Updates<Item = Strip<T, N>>,
+    G: Gate,
+{
+    /// One pass over a list that stands in strips: tells each strip what stands around it, with `edge` around them all, and updates all
+    /// strips in one round, as `update_each` does. After a refusal the strips have been told, and are as they were otherwise.
+    pub fn pass<H: Threads + Wait + Sync>(
+        &mut self,
+        rt: &H,
+        alloc: Global,
+        strips: &mut Vec<Strip<T, N>>,
+        edge: T,
+    ) -> Result<(), Fault>
+        ensures updated { OnOk result (AllZip J.updated (told edge strips.old.items edge) strips.new.items) }
+        ensures kept { OnErr result (strips.new.items ≡ told edge strips.old.items edge) }
+        ensures refused { IsForMemory (vec_len strips.old) result }
+        ensures trail { PlayedAs J.OpensSlots.view
+            (slot_jobs J.OpensSlots.slot_count self.old (vec_len strips.old) (vec_len strips.old))
+            self.old self.new result }
+        ensures goes_on { GoesOn J.OpensSlots.view J.OpensSlots.slot_count self.old self.new }
+    {
+        tell_neighbours(strips.as_mut_slice(), edge);
+        self.update_each(rt, alloc, strips.len(), strips)
     }
 }
 
