@@ -3,7 +3,9 @@ pub mod Jobs
 pub mod FreeLists
 pub mod Folds
 mod KernelLists
+pub mod PassLists
 mod Pairs
+mod TryLists
 -- Those of the crates below that callers cite.
 pub use Rattle.spindle_parts.proofs.Deals
 pub use Rattle.spindle_parts.proofs.ListLaws

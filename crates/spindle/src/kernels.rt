@@ -1,23 +1,30 @@
-//! Calls over whole lists: a caller writes what is computed of an item (`Kernel`) or what an item becomes (`Change`), and a call opens
-//! a lock, goes over the list in a few pieces a thread, and closes the lock.
+//! Calls over whole lists: a caller writes what is computed of an item (`Kernel`), what an item becomes (`Change`), or what it becomes
+//! between its neighbours (`Stencil`), and a call opens a lock, goes over the list in a few pieces a thread, and closes the lock.
 //!
 //! `held` says how pieces hold the kernel, `source` how they read the list.
+ghost use Rattle.std.specs.Prelude.{◌≡◌, Bool};
 
 mod held;
 mod leaders;
 mod maps;
 mod pairs;
+mod passes;
+mod passing;
 mod source;
 mod tasks;
+mod tries;
 mod updates;
 
 pub use self::held::{Again, Shared};
-pub use self::leaders::UpdatesOf;
+pub use self::leaders::{PairTotalsOf, PassesOf, TotalsOf, UpdatesOf};
 pub use self::maps::{Mapping, Run, map};
 pub use self::pairs::{PairRun, map_pairs, reduce_pairs};
+pub use self::passes::{Passes, passes_until};
+pub use self::passing::{Note, Passing};
 pub use self::source::Source;
 pub(crate) use self::source::parts_of;
 pub use self::tasks::Task;
+pub use self::tries::{Failed, Trial, Trying, try_map};
 pub use self::updates::{Updating, update};
 
 /// A kernel: what a call over a list computes of each item. It holds what it reads beside the item, as a closure holds what it
@@ -48,4 +55,24 @@ pub trait Change {
     /// Changes one item.
     fn change(&self, item: &mut Self::Item)
         ensures { changes self.now item.old item.new };
+}
+
+/// A kernel of passes over a list: in a pass each value becomes another, by the value before it and the one behind it.
+pub trait Stencil {
+    /// A value of the list.
+    type Value: Copy + Drop;
+
+    /// What a value becomes: by the one before it, itself, and the one behind it.
+    ghost becomes: { Self → Self.Value → Self.Value → Self.Value → Self.Value };
+
+    /// Whether a value has settled: by what it was and what it has become.
+    ghost settles: { Self → Self.Value → Self.Value → Bool };
+
+    /// What a value becomes between two others.
+    fn value(&self, before: Self::Value, here: Self::Value, behind: Self::Value) -> Self::Value
+        ensures { result ≡ becomes self.now before here behind };
+
+    /// Whether a value that became another has settled.
+    fn has_settled(&self, old: Self::Value, new: Self::Value) -> bool
+        ensures { result ≡ settles self.now old new };
 }

@@ -11,7 +11,10 @@ pub mod lock;
 pub mod prelude;
 
 pub use free::{for_each, for_each_raw};
-pub use kernels::{Change, Kernel, Shared, UpdatesOf, map, map_pairs, reduce_pairs, update};
+pub use kernels::{
+    Change, Failed, Kernel, PairTotalsOf, Passes, PassesOf, Shared, Stencil, TotalsOf, UpdatesOf,
+    map, map_pairs, passes_until, reduce_pairs, try_map, update,
+};
 pub use lock::{
     nested, play_in_place, reduce, run_one, update_one, with_lock, with_slots, with_slots_in_place,
 };

@@ -7,12 +7,12 @@
 //! kind of job. Locks for one call: `one_round` opens one for a round, `folds` for the total of a list, `place_once` for rounds
 //! in place.
 
-mod folds;
+pub(crate) mod folds;
 mod lock_of;
 pub mod nested;
 mod one_round;
 mod place_once;
-mod place_rounds;
+pub(crate) mod place_rounds;
 mod slot_leader;
 mod slot_nest;
 mod slot_opening;

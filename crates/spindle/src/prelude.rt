@@ -1,6 +1,9 @@
 //! What nearly every caller imports: `use spindle::prelude::*;`.
 
-pub use crate::kernels::{Change, Kernel, Shared, UpdatesOf, map, map_pairs, reduce_pairs, update};
+pub use crate::kernels::{
+    Change, Failed, Kernel, PairTotalsOf, Passes, PassesOf, Shared, Stencil, TotalsOf, UpdatesOf,
+    map, map_pairs, passes_until, reduce_pairs, try_map, update,
+};
 pub use crate::lock::{
     ChunkRounds, End, Gate, InPlace, Job, JobCx, Leader, Limits, LockOf, NoGate, PlaceLeader, Pool,
     Report, RunsRounds, SlotLeader, TellsFailures, Under, UnderInPlace, UnderSlots, Update, reduce,

@@ -52,7 +52,7 @@ smooth_is values =
     ap (λ n. (n + 2 * get_or values (0 + i) 0 + get_or values (0 + i + 1) 0) / 4) (before_at values (0 + i)))
 
 -- strips that know their neighbours, after one pass
-told_smooth : (b : ℕ) (strips : List (Strip ℕ))
+told_smooth : (b : ℕ) (strips : List (Strip ℕ (Unit {0})))
     → joined (map (λ strip. smooth_between strip.before strip.items.items strip.behind) (told b strips 0)) ≡ smooth_between b (items_of strips) 0
 told_smooth b [] = refl
 told_smooth b (strip ∷ strips) =
@@ -61,7 +61,7 @@ told_smooth b (strip ∷ strips) =
     ∙ sym (between_append b values (items_of strips) 0)
 
 -- what strips became
-updated_values : (old new : List (Strip ℕ)) → AllZip IsSmoothed old new
+updated_values : (old new : List (Strip ℕ (Unit {0}))) → AllZip IsSmoothed old new
     → items_of new ≡ joined (map (λ strip. smooth_between strip.before strip.items.items strip.behind) old)
 updated_values [] [] z = refl
 updated_values [] (n ∷ new) z = absurd z
@@ -71,5 +71,5 @@ updated_values (o ∷ old) (n ∷ new) z =
     ∙ ap (λ l. smooth_between o.before o.items.items o.behind ++ l) (updated_values old new z.1)
 
 -- a round over strips that were told their neighbours is a pass
-pub pass_of : (old new : List (Strip ℕ)) → AllZip IsSmoothed (told 0 old 0) new → items_of new ≡ smooth (items_of old)
+pub pass_of : (old new : List (Strip ℕ (Unit {0}))) → AllZip IsSmoothed (told 0 old 0) new → items_of new ≡ smooth (items_of old)
 pass_of old new z = updated_values (told 0 old 0) new z ∙ told_smooth 0 old ∙ smooth_is (items_of old)

@@ -8,3 +8,5 @@ pub mod Checked
 pub mod Stencil
 pub mod Chomp
 pub mod Ranks
+pub mod Solver
+pub mod Decimals

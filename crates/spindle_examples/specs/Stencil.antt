@@ -27,5 +27,5 @@ smooth_between before [] behind = []
 smooth_between before (here ∷ values) behind = (before + 2 * here + get_or values 0 behind) / 4 ∷ smooth_between here values behind
 
 -- what a pass makes of a strip
-abbrev pub IsSmoothed : (old new : Strip ℕ) → Type 0
+abbrev pub IsSmoothed : (old new : Strip ℕ (Unit {0})) → Type 0
 IsSmoothed old new = new.items.items ≡ smooth_between old.before old.items.items old.behind

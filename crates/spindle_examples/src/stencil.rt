@@ -1,9 +1,9 @@
 //! A three-point stencil of many passes, in place. The values stand in strips, whose lists stay for all passes: a pass is one
 //! round, whose jobs change them where they stand. A job reads its own strip alone, since between two passes the leader tells
 //! each strip the value before it and the one behind it.
-ghost use Rattle.std.specs.Prelude.{◌≡◌, ◌<◌, ◌+◌, ◌*◌, ◌/◌, get_or, IfOk, OnOk};
+ghost use Rattle.std.specs.Prelude.{◌≡◌, ◌<◌, ◌+◌, ◌*◌, ◌/◌, get_or, IfOk};
 ghost use Rattle.spindle.specs.Strips.{items_of};
-ghost use Rattle.spindle_examples.specs.Stencil.{smooth, smooth_times, smooth_between, IsSmoothed};
+ghost use Rattle.spindle_examples.specs.Stencil.{smooth_times, smooth_between, IsSmoothed};
 
 use spindle::prelude::*;
 
@@ -55,19 +55,6 @@ fn mean(before: u32, here: u32, behind: u32) -> u32
     (sum / 4) as u32
 }
 
-// One pass over all strips.
-fn pass<G: Gate, H: Threads + Wait + Sync>(
-    rt: &H,
-    alloc: Global,
-    leader: &mut PlaceLeader<Smooth, G>,
-    strips: &mut Vec<Strip<u32>>,
-) -> Result<(), Fault>
-    ensures { OnOk result (items_of strips.new.items ≡ smooth (items_of strips.old.items)) }
-{
-    tell_neighbours(strips.as_mut_slice(), 0);
-    leader.update_each(rt, alloc, strips.len(), strips)
-}
-
 // So many passes.
 fn passes<G: Gate, H: Threads + Wait + Sync>(
     rt: &H,
@@ -80,7 +67,7 @@ fn passes<G: Gate, H: Threads + Wait + Sync>(
         items_of new.items ≡ smooth_times count (items_of strips.items)) }
 {
     for _pass in 0..count {
-        pass(rt, alloc, leader, &mut strips)?;
+        leader.pass(rt, alloc, &mut strips, 0)?;
     }
     Ok(strips)
 }
@@ -97,7 +84,7 @@ pub fn smoothed<G: Gate + Sync, H: Threads + Wait + Sync>(
     requires { 0 < pieces }
     ensures { IfOk result (λ new. new.items ≡ smooth_times count values.items) }
 {
-    let strips = SharedList::from_vec(alloc, values)?.strips(alloc, pieces, 0)?;
+    let strips = SharedList::from_vec(alloc, values)?.strips(alloc, pieces, 0, ())?;
     let strips = LockOf::<InPlace<Smooth>>::with_slots_in_place(
         rt,
         alloc,

@@ -7,6 +7,8 @@
 #[cfg(test)]
 mod batch_tests;
 #[cfg(test)]
+mod list_tests;
+#[cfg(test)]
 mod tests;
 
 use spindle::lock::{NoGate, Pool};

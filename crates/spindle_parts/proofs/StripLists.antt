@@ -8,9 +8,9 @@ use Rattle.spindle_parts.specs.declared.lists.strips.Strip.{Strip}
 
 module _ {T : Type 0} where
   -- one strip more
-  pub items_snoc : (strips : List (Strip T)) (strip : Strip T) → items_of (strips ++ strip ∷ []) ≡ items_of strips ++ strip.items.items
-  items_snoc strips strip =
-      let items : Strip T → List T = λ strip. strip.items.items in
+  pub items_snoc : {N : Type 0} (strips : List (Strip T N)) (strip : Strip T N) → items_of (strips ++ strip ∷ []) ≡ items_of strips ++ strip.items.items
+  items_snoc {N = N} strips strip =
+      let items : Strip T N → List T = λ strip. strip.items.items in
       ap joined (map_snoc items strips strip) ∙ joined_snoc (map items strips) (items strip)
 
   -- the last item, as a read

@@ -13,12 +13,12 @@ last_of before [] = before
 last_of before (here ∷ items) = last_of here items
 
 -- the items of all strips, one behind the other
-abbrev pub items_of : {T : Type 0} → List (Strip T) → List T
+abbrev pub items_of : {T N : Type 0} → List (Strip T N) → List T
 items_of strips = joined (map (λ strip. strip.items.items) strips)
 
 -- the strips between two items, each told what stands before it and behind it
-abbrev pub told : {T : Type 0} → (before : T) → List (Strip T) → (behind : T) → List (Strip T)
+abbrev pub told : {T N : Type 0} → (before : T) → List (Strip T N) → (behind : T) → List (Strip T N)
 told before [] behind = []
 told before (strip ∷ strips) behind =
-    record { items = strip.items; before = before; behind = first_of (items_of strips) behind }
+    record { items = strip.items; before = before; behind = first_of (items_of strips) behind; note = strip.note }
     ∷ told (last_of before strip.items.items) strips behind

@@ -10,19 +10,23 @@ use spindle_parts::lists::{SharedList, Strip, joined_strips, tell_neighbours};
 use std::alloc::Global;
 use std::process::Abort;
 
-fn five_in(alloc: Global, pieces: usize) -> Result<Vec<Strip<u32>>, Fault>
+fn five_in(alloc: Global, pieces: usize) -> Result<Vec<Strip<u32, bool>>, Fault>
     requires { 0 < pieces }
 {
     let numbers = vec![in alloc; 1, 2, 3, 4, 5]?;
-    SharedList::from_vec(alloc, numbers)?.strips(alloc, pieces, 9)
+    SharedList::from_vec(alloc, numbers)?.strips(alloc, pieces, 9, true)
 }
 
 // Fails the test in which these aren't the strips of these items, told what stands before and behind them.
-fn are_strips(rt: &impl Abort, strips: &[Strip<u32>], wanted: &[(u32, &[u32], u32)]) {
+fn are_strips(rt: &impl Abort, strips: &[Strip<u32, bool>], wanted: &[(u32, &[u32], u32)]) {
     is(rt, strips.len(), wanted.len());
     for (strip, (before, items, behind)) in strips.iter().zip(wanted) {
         are(rt, strip.items.as_slice(), items);
-        is(rt, (strip.before, strip.behind), (*before, *behind));
+        is(
+            rt,
+            (strip.before, strip.behind, strip.note),
+            (*before, *behind, true),
+        );
     }
 }
 
@@ -42,6 +46,7 @@ fn strips_know_the_edge_until_they_are_told_their_neighbours(rt: HostRuntime) ->
             items: Vec::new(alloc),
             before: 9,
             behind: 9,
+            note: true,
         },
     )?;
     tell_neighbours(&mut strips, 0);

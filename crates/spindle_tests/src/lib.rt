@@ -18,7 +18,11 @@ mod kernel_rows;
 #[cfg(test)]
 mod laws;
 #[cfg(test)]
+mod pass_rows;
+#[cfg(test)]
 mod refused_calls;
+#[cfg(test)]
+mod try_rows;
 
 #[cfg(test)]
 use spindle_trays_tests::{jobs, sevens};

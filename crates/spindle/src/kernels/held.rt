@@ -1,7 +1,7 @@
 //! How pieces of a list hold their kernel: each has a reference to it, or shares it. Both are kernels too.
 ghost use Rattle.std.specs.Prelude.{◌≡◌, IfOk};
 
-use crate::kernels::{Change, Kernel};
+use crate::kernels::{Change, Kernel, Stencil};
 use std::alloc::{AllocError, Global};
 use std::marker::Model;
 use std::sync::Arc;
@@ -40,6 +40,24 @@ impl<'k, K: Change> Change for &'k K {
     fn change(&self, item: &mut K::Item) {
         let kernel: &K = *self;
         kernel.change(item);
+    }
+}
+
+impl<'k, K: Stencil> Stencil for &'k K {
+    type Value = K::Value;
+
+    ghost becomes = { λ kernel before here behind. K.becomes kernel.now before here behind };
+
+    ghost settles = { λ kernel old new. K.settles kernel.now old new };
+
+    fn value(&self, before: K::Value, here: K::Value, behind: K::Value) -> K::Value {
+        let kernel: &K = *self;
+        kernel.value(before, here, behind)
+    }
+
+    fn has_settled(&self, old: K::Value, new: K::Value) -> bool {
+        let kernel: &K = *self;
+        kernel.has_settled(old, new)
     }
 }
 
@@ -93,5 +111,21 @@ impl<K: Change> Change for Shared<K> {
 
     fn change(&self, item: &mut K::Item) {
         (*self.kernel).change(item);
+    }
+}
+
+impl<K: Stencil> Stencil for Shared<K> {
+    type Value = K::Value;
+
+    ghost becomes = { K.becomes };
+
+    ghost settles = { K.settles };
+
+    fn value(&self, before: K::Value, here: K::Value, behind: K::Value) -> K::Value {
+        (*self.kernel).value(before, here, behind)
+    }
+
+    fn has_settled(&self, old: K::Value, new: K::Value) -> bool {
+        (*self.kernel).has_settled(old, new)
     }
 }

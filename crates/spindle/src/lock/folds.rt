@@ -132,7 +132,7 @@ where
 }
 
 // The pieces, whose totals are to come.
-fn fold_parts<C: Combine, S: Drop>(
+pub(crate) fn fold_parts<C: Combine, S: Drop>(
     alloc: Global,
     sources: Vec<S>,
 ) -> Result<Vec<Part<S, C::Total>>, AllocError>
@@ -147,7 +147,7 @@ fn fold_parts<C: Combine, S: Drop>(
 }
 
 // The totals of pieces, one behind the other, as one.
-fn combined<C: Combine, S: Drop>(parts: Vec<Part<S, C::Total>>) -> C::Total
+pub(crate) fn combined<C: Combine, S: Drop>(parts: Vec<Part<S, C::Total>>) -> C::Total
     ensures { result ≡ fold C.combine C.neutral (map (λ part. part.total) parts.items) }
 {
     let mut all = C::neutral();

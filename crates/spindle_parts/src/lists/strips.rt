@@ -1,5 +1,6 @@
 //! Strips of a list that is worked in place: each owns a run of the items, and keeps the item before it and the one behind it, which
-//! whoever holds all strips tells it. So one strip of a stencil is worked without its neighbours.
+//! whoever holds all strips tells it. So one strip of a stencil is worked without its neighbours. What it makes known of itself is its
+//! note.
 ghost use Rattle.std.specs.Prelude.{◌≡◌, ◌<◌, All, IfOk, OnErr, IsErrOf, drop, get_or, length, map};
 ghost use Rattle.spindle_parts.specs.Pieces.{cut_lengths};
 ghost use Rattle.spindle_parts.specs.Strips.{items_of, first_of, last_of, told};
@@ -8,27 +9,37 @@ use crate::fault::Fault;
 use crate::lists::shared::SharedList;
 use std::alloc::{AllocError, Global};
 
-/// A run of a list's items, with the item that stands before it and the one behind it.
+/// A run of a list's items, with the item that stands before it and the one behind it, and a note: what a job has for its leader, as
+/// whether an item changed.
 #[derive(Drop)]
-pub struct Strip<T> {
+pub struct Strip<T, N = ()> {
     /// The items of the run.
     pub items: Vec<T>,
     /// The item before them, as the strip was told last.
     pub before: T,
     /// The item behind them, as the strip was told last.
     pub behind: T,
+    /// The note.
+    pub note: N,
 }
 
 impl<T: Copy + Drop> SharedList<T> {
     /// Copies the list into so many strips, or into as many as it has items where these are fewer, as long as `share_out_evenly` makes
-    /// its runs. Each is told that `edge` stands before it and behind it.
-    pub fn strips(&self, alloc: Global, pieces: usize, edge: T) -> Result<Vec<Strip<T>>, Fault>
+    /// its runs. Each is told that `edge` stands before it and behind it, and has this note.
+    pub fn strips<N: Copy + Drop>(
+        &self,
+        alloc: Global,
+        pieces: usize,
+        edge: T,
+        note: N,
+    ) -> Result<Vec<Strip<T, N>>, Fault>
         requires { 0 < length self.now → 0 < pieces }
         ensures joined { IfOk result (λ strips. items_of strips.items ≡ self.now) }
         ensures lengths { IfOk result (λ strips.
             map (λ strip. length strip.items.items) strips.items ≡ cut_lengths (length self.now) pieces) }
         ensures edges { IfOk result (λ strips.
             All (λ strip. (strip.before ≡ edge) × (strip.behind ≡ edge)) strips.items) }
+        ensures notes { IfOk result (λ strips. All (λ strip. strip.note ≡ note) strips.items) }
         ensures memory { OnErr result (IsErrOf result Fault.Memory) }
     {
         let runs = self.share_out_evenly(alloc, pieces)?;
@@ -38,6 +49,7 @@ impl<T: Copy + Drop> SharedList<T> {
                 items: copied(alloc, run.as_slice())?,
                 before: edge,
                 behind: edge,
+                note,
             })?;
         }
         Ok(strips)
@@ -56,7 +68,7 @@ fn copied<T: Copy>(alloc: Global, items: &[T]) -> Result<Vec<T>, AllocError>
 }
 
 /// Tells each strip the item that stands before it and the one behind it now. Before the first item and behind the last stands `edge`.
-pub fn tell_neighbours<T: Copy + Drop>(strips: &mut [Strip<T>], edge: T)
+pub fn tell_neighbours<T: Copy + Drop, N: Drop>(strips: &mut [Strip<T, N>], edge: T)
     ensures { strips.new ≡ told edge strips.old edge }
 {
     let mut before = edge;
@@ -67,10 +79,11 @@ pub fn tell_neighbours<T: Copy + Drop>(strips: &mut [Strip<T>], edge: T)
     }
 }
 
-impl<T: Drop> Strip<T> {
+impl<T: Drop, N: Drop> Strip<T, N> {
     // Tells the strip what stands before it and behind it.
     fn tell(&mut self, before: T, behind: T)
-        ensures { self.new ≡ record { items = self.old.items; before = before; behind = behind } }
+        ensures { self.new
+            ≡ record { items = self.old.items; before = before; behind = behind; note = self.old.note } }
     {
         self.before = before;
         self.behind = behind;
@@ -78,7 +91,7 @@ impl<T: Drop> Strip<T> {
 }
 
 // The first item of the strips from one on, or what stands behind all where there is none.
-fn first_item<T: Copy>(strips: &[Strip<T>], from: usize, behind: T) -> T
+fn first_item<T: Copy, N>(strips: &[Strip<T, N>], from: usize, behind: T) -> T
     ensures { result ≡ first_of (items_of (drop from strips.now)) behind }
 {
     for at in from..strips.len() {
@@ -104,7 +117,10 @@ fn item_at<T: Copy + Drop>(items: &[T], at: usize, other: T) -> T
 }
 
 /// The items of all strips, one behind the other.
-pub fn joined_strips<T: Drop>(alloc: Global, strips: Vec<Strip<T>>) -> Result<Vec<T>, AllocError>
+pub fn joined_strips<T: Drop, N: Drop>(
+    alloc: Global,
+    strips: Vec<Strip<T, N>>,
+) -> Result<Vec<T>, AllocError>
     ensures { IfOk result (λ items. items.items ≡ items_of strips.items) }
 {
     let mut items = Vec::new(alloc);

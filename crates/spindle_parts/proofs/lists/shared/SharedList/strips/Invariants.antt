@@ -7,4 +7,5 @@ invariant-loop-run g l = record {
   items : map (λ strip. strip.items.items) l.strips.items ≡ l.yielded;
   lengths : map (λ strip. length strip.items.items) l.strips.items ≡ map (λ run. length run) l.yielded;
   edges : All (λ strip. (strip.before ≡ l.fn.edge) × (strip.behind ≡ l.fn.edge)) l.strips.items;
+  notes : All (λ strip. strip.note ≡ l.fn.note) l.strips.items;
 }

@@ -1,7 +1,7 @@
 -- There are two jobs or more, and no more than there are items or slots.
 use Rattle.std.proofs.Common.{refl, rules}
 use Rattle.spindle.proofs.Jobs.{some_jobs, two_jobs}
-use Rattle.spindle.proofs.lock.slot_leader.SlotLeader.update_each.Goals as goal
+use Rattle.spindle.proofs.lock.place_rounds.update.Goals as goal
 
 pub play_in_place-played-requires-clause-jobs : goal.play_in_place-played-requires-clause-jobs
 play_in_place-played-requires-clause-jobs g c =
@@ -11,8 +11,8 @@ play_in_place-played-requires-clause-jobs g c =
 pub returns-clause-updated : goal.returns-clause-updated
 returns-clause-updated g c = search rules
 
-pub returns-clause-trail : goal.returns-clause-trail
-returns-clause-trail g c = search rules
+pub returns-clause-played : goal.returns-clause-played
+returns-clause-played g c = search rules
 
 pub returns-clause-kept : goal.returns-clause-kept
 returns-clause-kept g c = search rules

@@ -1,0 +1,73 @@
+//! Calls over whole lists: decimals, and a solver, against the same computed plainly.
+
+use crate::tests::next;
+use spindle::Fault;
+use spindle::lock::{Limits, NoGate, Pool};
+use spindle_examples::{decimals, solver};
+use std::alloc::Global;
+
+#[test]
+fn the_first_text_that_is_no_decimal_is_told(rt: HostRuntime) -> Result<(), Fault> {
+    let alloc = rt.alloc();
+    let pool = Pool::new(4, Limits::new(), NoGate);
+    for wrong in [0, 7, 99, 100] {
+        let mut texts = Vec::new(alloc);
+        let mut plain = Vec::new(alloc);
+        for place in 0..100u64 {
+            let number = place * place;
+            texts.push(if place == wrong {
+                format!(in alloc; "{number}x")?
+            } else {
+                format!(in alloc; "{number}")?
+            })?;
+            if place < wrong {
+                plain.push(number)?;
+            }
+        }
+        match decimals::numbers(&rt, alloc, &pool, texts)? {
+            Ok(numbers) => assert_eq!(rt; (numbers, wrong), (plain, 100)),
+            Err(failed) => {
+                assert_eq!(rt; failed.place as u64, wrong);
+                assert_eq!(rt; failed.before, plain);
+            }
+        }
+    }
+    Ok(())
+}
+
+// The values after one pass of the solver.
+fn relaxed(alloc: Global, edge: u32, values: &[u32]) -> Result<Vec<u32>, Fault> {
+    let mut new = Vec::new(alloc);
+    let mut before = edge;
+    for (place, here) in values.iter().enumerate() {
+        let behind = values.get(place + 1).copied().unwrap_or(edge);
+        let sum = u64::from(before) + 2 * u64::from(*here) + u64::from(behind);
+        new.push((sum / 4) as u32)?;
+        before = *here;
+    }
+    Ok(new)
+}
+
+#[test]
+fn a_solver_ends_where_nothing_changes(rt: HostRuntime) -> Result<(), Fault> {
+    let alloc = rt.alloc();
+    let mut state = 19;
+    for count in [0, 1, 2, 30] {
+        let mut values = Vec::new(alloc);
+        for _ in 0..count {
+            values.push(next(&mut state) % 1000)?;
+        }
+        for threads in [1, 4] {
+            let pool = Pool::new(threads, Limits::new(), NoGate);
+            let solved = solver::solved(&rt, alloc, &pool, 500, values.clone()?, 100_000)?;
+            match solved {
+                Some(solved) => assert_eq!(rt; relaxed(alloc, 500, &solved)?, solved),
+                None => assert!(rt; count == 30),
+            }
+            if 1 < count {
+                assert!(rt; solver::solved(&rt, alloc, &pool, 500, values.clone()?, 1)?.is_none());
+            }
+        }
+    }
+    Ok(())
+}

@@ -1,0 +1,172 @@
+//! Rows of passes over lists: by a kernel, in a lock for one list and by a leader, and by a kind of job whose strips have notes of
+//! its own.
+ghost use Rattle.std.specs.Prelude.{◌≡◌, ◌==◌, min};
+
+use crate::checks::{are, holds, is};
+use crate::jobs::{Calls, Counting};
+use spindle::lock::{End, InPlace, JobCx, Limits, LockOf, NoGate, Pool, Update};
+use spindle::{Fault, Passes, PassesOf, Shared, SharedList, Stencil, Strip, passes_until};
+use std::alloc::Global;
+use std::sync::Wait;
+use std::thread::Threads;
+
+// Each value becomes the least of itself and its neighbours, until none changes.
+#[derive(Drop)]
+struct Least;
+
+impl Stencil for Least {
+    type Value = u32;
+
+    ghost becomes = { λ kernel before here behind. min before (min here behind) };
+
+    ghost settles = { λ kernel old new. old == new };
+
+    fn value(&self, before: u32, here: u32, behind: u32) -> u32 {
+        before.min(here.min(behind))
+    }
+
+    fn has_settled(&self, old: u32, new: u32) -> bool {
+        old == new
+    }
+}
+
+// Eight numbers; where memory for them is refused once, it is asked for again.
+fn eight_numbers(alloc: Global) -> Result<Vec<u32>, Fault> {
+    let numbers = [3, 1, 4, 1, 5, 9, 2, 6];
+    match Vec::from_array(alloc, numbers) {
+        Ok(list) => Ok(list),
+        Err(_) => Ok(Vec::from_array(alloc, numbers)?),
+    }
+}
+
+// The most passes over them, the values that these leave, how many there are, and whether the values have settled.
+const ROWS: [(usize, [u32; 8], usize, bool); 5] = [
+    (0, [3, 1, 4, 1, 5, 9, 2, 6], 0, false),
+    (1, [1, 1, 1, 1, 1, 2, 2, 2], 1, false),
+    (4, [1, 1, 1, 1, 1, 1, 1, 1], 4, false),
+    (5, [1, 1, 1, 1, 1, 1, 1, 1], 5, true),
+    (usize::MAX, [1, 1, 1, 1, 1, 1, 1, 1], 5, true),
+];
+
+#[test]
+fn passes_end_where_all_values_have_settled(rt: HostRuntime) -> Result<(), Fault> {
+    let alloc = rt.alloc();
+    for threads in [1, 2, 4] {
+        let pool = Pool::new(threads, Limits::new(), NoGate);
+        for (most, values, count, settled) in ROWS {
+            let list = eight_numbers(alloc)?;
+            let passes = passes_until(&rt, alloc, &pool, &Least, list, u32::MAX, most)?;
+            are(&rt, &passes.values, &values);
+            is(&rt, (passes.count, passes.settled), (count, settled));
+        }
+    }
+    Ok(())
+}
+
+#[test]
+fn refused_passes_have_run_no_job(rt: HostRuntime) -> Result<(), Fault> {
+    let alloc = rt.alloc();
+    let calls = Calls::new();
+    let pool = Pool::new(4, Limits::new(), Counting { calls: &calls });
+    let passes = match passes_until(&rt, alloc, &pool, &Least, eight_numbers(alloc)?, 9, 9) {
+        Ok(passes) => passes,
+        Err(fault) => {
+            is(&rt, fault, Fault::Memory);
+            is(&rt, calls.in_all(), (0, 0));
+            passes_until(&rt, alloc, &pool, &Least, eight_numbers(alloc)?, 9, 9)?
+        }
+    };
+    are(&rt, &passes.values, &[1; 8]);
+    is(&rt, calls.in_all(), (40, 40));
+    Ok(())
+}
+
+// An empty list that took memory would be refused it once.
+#[test]
+fn refused_nothing_where_passes_have_no_values(rt: HostRuntime) -> Result<(), Fault> {
+    let alloc = rt.alloc();
+    let pool = Pool::new(4, Limits::new(), NoGate);
+    for (most, count) in [(0, 0), (1, 1), (9, 1)] {
+        let passes = passes_until(&rt, alloc, &pool, &Least, Vec::new(alloc), 0, most)?;
+        is(&rt, (passes.values.len(), passes.count), (0, count));
+        holds(&rt, passes.settled == (0 < most));
+    }
+    Ok(())
+}
+
+#[test]
+fn a_leader_passes_over_a_list_again(rt: HostRuntime) -> Result<(), Fault> {
+    let alloc = rt.alloc();
+    let pool = Pool::new(4, Limits::new(), NoGate);
+    let kernel = Shared::new(alloc, Least)?;
+    let numbers = eight_numbers(alloc)?;
+    let passes = LockOf::<PassesOf<Least>>::with_slots_in_place(
+        &rt,
+        alloc,
+        &pool,
+        4,
+        5,
+        |leader| -> Result<Passes<u32>, Fault> {
+            let once = leader.passes_until(&rt, alloc, &kernel, numbers, 9, 1)?;
+            leader.passes_until(&rt, alloc, &kernel, once.values, 0, 9)
+        },
+    )??;
+    are(&rt, &passes.values, &[0; 8]);
+    is(&rt, (passes.count, passes.settled), (5, true));
+    Ok(())
+}
+
+// Lowers the first value of a strip to the one before it, and notes what the strip's first value was.
+struct LowerFirst;
+
+impl Update for LowerFirst {
+    type Item = Strip<u32, u32>;
+
+    type Inner = End;
+
+    ghost updated = { λ old new. new.before ≡ old.before };
+
+    fn run<H: Threads + Wait + Sync>(
+        _rt: &H,
+        _alloc: Global,
+        mut strip: Strip<u32, u32>,
+        _cx: &mut JobCx<End>,
+    ) -> Strip<u32, u32> {
+        let before = strip.before;
+        for first in strip.items.iter_mut().take(1) {
+            strip.note = *first;
+            *first = before.min(*first);
+        }
+        strip
+    }
+}
+
+#[test]
+fn a_pass_tells_each_strip_its_neighbours_first(rt: HostRuntime) -> Result<(), Fault> {
+    let alloc = rt.alloc();
+    let pool = Pool::new(4, Limits::new(), NoGate);
+    let list = SharedList::from_vec(alloc, eight_numbers(alloc)?)?;
+    let mut strips = list.strips(alloc, 3, 7, 0)?;
+    let strips = LockOf::<InPlace<LowerFirst>>::with_slots_in_place(
+        &rt,
+        alloc,
+        &pool,
+        4,
+        3,
+        |leader| -> Result<Vec<Strip<u32, u32>>, Fault> {
+            leader.pass(&rt, alloc, &mut strips, 2)?;
+            Ok(strips)
+        },
+    )??;
+    let found = strips
+        .iter()
+        .map(|strip| (strip.before, strip.note, strip.behind));
+    let found: Vec<(u32, u32, u32)> = found.collect(alloc)?;
+    are(&rt, &found, &[(2, 3, 1), (4, 1, 2), (9, 2, 2)]);
+    are(
+        &rt,
+        &spindle::joined_strips(alloc, strips)?,
+        &[2, 1, 4, 1, 5, 9, 2, 6],
+    );
+    Ok(())
+}

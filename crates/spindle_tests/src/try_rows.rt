@@ -1,0 +1,115 @@
+//! Rows of a map that may fail at an item.
+ghost use Rattle.spindle_tests.specs.Halves.{IsHalf};
+
+use crate::checks::{are, holds, is};
+use crate::jobs::{Calls, Counting};
+use spindle::lock::{Limits, NoGate, Pool};
+use spindle::{Failed, Fault, Kernel, try_map};
+use std::alloc::Global;
+use std::process::Abort;
+
+// Halves an even number, or fails with an odd one.
+#[derive(Drop)]
+struct Halve;
+
+impl Kernel for Halve {
+    type In = u32;
+
+    type Out = Result<u32, u32>;
+
+    ghost computes = { λ kernel. IsHalf };
+
+    fn compute(&self, number: &u32) -> Result<u32, u32> {
+        if *number % 2 == 0 {
+            Ok(*number / 2)
+        } else {
+            Err(*number)
+        }
+    }
+}
+
+// Eleven even numbers, with odd ones at two places, if these are below 11; where memory for them is refused once, it is asked for again.
+fn numbers_but(alloc: Global, first: usize, second: usize) -> Result<Vec<u32>, Fault> {
+    let mut numbers = [20, 18, 16, 14, 12, 10, 8, 6, 4, 2, 0];
+    for (place, number) in numbers.iter_mut().enumerate() {
+        if place == first {
+            *number = 31;
+        } else if place == second {
+            *number = 33;
+        }
+    }
+    match Vec::from_array(alloc, numbers) {
+        Ok(list) => Ok(list),
+        Err(_) => Ok(Vec::from_array(alloc, numbers)?),
+    }
+}
+
+const HALVES: [u32; 11] = [10, 9, 8, 7, 6, 5, 4, 3, 2, 1, 0];
+
+// Fails the test in which this isn't the failure at that place.
+fn failed_at(
+    rt: &impl Abort,
+    tried: Result<Vec<u32>, Failed<u32, u32>>,
+    place: usize,
+    failure: u32,
+) {
+    match tried {
+        Ok(_) => holds(rt, false),
+        Err(failed) => {
+            is(rt, (failed.place, failed.failure), (place, failure));
+            are(rt, &failed.before, &HALVES[..place.min(11)]);
+        }
+    }
+}
+
+#[test]
+fn the_first_failure_in_the_list_is_told(rt: HostRuntime) -> Result<(), Fault> {
+    let alloc = rt.alloc();
+    for threads in [1, 2, 4] {
+        let pool = Pool::new(threads, Limits::new(), NoGate);
+        for (first, second) in [(0, 10), (5, 6), (10, 11)] {
+            let tried = try_map(
+                &rt,
+                alloc,
+                &pool,
+                &Halve,
+                numbers_but(alloc, first, second)?,
+            )?;
+            failed_at(&rt, tried, first, 31);
+        }
+        let tried = try_map(&rt, alloc, &pool, &Halve, numbers_but(alloc, 11, 3)?)?;
+        failed_at(&rt, tried, 3, 33);
+    }
+    Ok(())
+}
+
+#[test]
+fn refused_trial_has_run_no_job(rt: HostRuntime) -> Result<(), Fault> {
+    let alloc = rt.alloc();
+    let calls = Calls::new();
+    let pool = Pool::new(4, Limits::new(), Counting { calls: &calls });
+    let halves = match try_map(&rt, alloc, &pool, &Halve, numbers_but(alloc, 11, 11)?) {
+        Ok(halves) => halves,
+        Err(fault) => {
+            is(&rt, fault, Fault::Memory);
+            is(&rt, calls.in_all(), (0, 0));
+            try_map(&rt, alloc, &pool, &Halve, numbers_but(alloc, 11, 11)?)?
+        }
+    };
+    match halves {
+        Ok(halves) => are(&rt, &halves, &HALVES),
+        Err(_) => holds(&rt, false),
+    }
+    is(&rt, calls.in_all(), (11, 11));
+    Ok(())
+}
+
+// An empty list that took memory would be refused it once.
+#[test]
+fn refused_nothing_where_a_trial_has_no_items(rt: HostRuntime) -> Result<(), Fault> {
+    let alloc = rt.alloc();
+    let pool = Pool::new(4, Limits::new(), NoGate);
+    let tried = try_map(&rt, alloc, &pool, &Halve, Vec::new(alloc))?;
+    holds(&rt, matches!(tried, Ok(halves) if halves.capacity() == 0));
+    Ok(())
+}
