@@ -3,6 +3,7 @@ pub mod Jobs
 pub mod FreeLists
 pub mod Folds
 mod KernelLists
+mod AttemptLists
 mod Pairs
 -- Those of the crates below that callers cite.
 pub use Rattle.spindle_parts.proofs.Deals

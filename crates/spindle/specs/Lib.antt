@@ -3,6 +3,7 @@ pub mod SlotLeaders
 pub mod OneRound
 pub mod Folds
 pub mod Kernels
+pub mod Attempts
 -- Those of the crates below that the clauses of what is given out here name: of jobs and locks,
 pub use Rattle.spindle_trays.specs.ChunkRounds
 pub use Rattle.spindle_trays.specs.Done

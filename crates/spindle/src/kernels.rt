@@ -18,6 +18,7 @@ pub use self::pairs::{PairRun, map_pairs, reduce_pairs};
 pub use self::source::Source;
 pub(crate) use self::source::parts_of;
 pub use self::tasks::Task;
+pub(crate) use self::updates::change_each;
 pub use self::updates::{Updating, update};
 
 /// A kernel: what a call over a list computes of each item. It holds what it reads beside the item, as a closure holds what it

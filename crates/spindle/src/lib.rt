@@ -13,7 +13,8 @@ pub mod prelude;
 pub use free::{for_each, for_each_raw};
 pub use kernels::{Change, Kernel, Shared, UpdatesOf, map, map_pairs, reduce_pairs, update};
 pub use lock::{
-    nested, play_in_place, reduce, run_one, update_one, with_lock, with_slots, with_slots_in_place,
+    nested, play_in_place, reduce, run_one, try_one, update_one, with_lock, with_slots,
+    with_slots_in_place,
 };
 pub use spindle_parts::fault::Fault;
 pub use spindle_parts::lists::{

@@ -7,6 +7,8 @@
 //! kind of job. Locks for one call: `one_round` opens one for a round, `folds` for the total of a list, `place_once` for rounds
 //! in place.
 
+mod attempt;
+mod attempts;
 mod folds;
 mod lock_of;
 pub mod nested;
@@ -19,6 +21,8 @@ mod slot_opening;
 mod slot_root;
 mod slot_rounds;
 
+pub use self::attempt::Attempt;
+pub use self::attempts::{Attempting, AttemptsOf, try_one};
 pub(crate) use self::folds::reduce_once;
 pub use self::folds::{Combine, Folds, Part, reduce};
 pub use self::lock_of::LockOf;

@@ -2,9 +2,9 @@
 
 pub use crate::kernels::{Change, Kernel, Shared, UpdatesOf, map, map_pairs, reduce_pairs, update};
 pub use crate::lock::{
-    ChunkRounds, End, Gate, InPlace, Job, JobCx, Leader, Limits, LockOf, NoGate, PlaceLeader, Pool,
-    Report, RunsRounds, SlotLeader, TellsFailures, Under, UnderInPlace, UnderSlots, Update, reduce,
-    run_one, update_one,
+    Attempt, AttemptsOf, ChunkRounds, End, Gate, InPlace, Job, JobCx, Leader, Limits, LockOf,
+    NoGate, PlaceLeader, Pool, Report, RunsRounds, SlotLeader, TellsFailures, Under, UnderInPlace,
+    UnderSlots, Update, reduce, run_one, try_one, update_one,
 };
 pub use spindle_parts::fault::Fault;
 pub use spindle_parts::lists::{

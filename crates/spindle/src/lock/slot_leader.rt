@@ -12,6 +12,7 @@ use spindle_trays::job::Job;
 use spindle_trays::job::gate::Gate;
 use spindle_trays::lock::nested::Leads;
 use spindle_trays::running::runner::Runner;
+use std::marker::PhantomData;
 use std::sync::Wait;
 
 /// The leader of a lock with slots over jobs of kind J, lent to the closure that the lock was opened for.
@@ -20,6 +21,8 @@ pub struct SlotLeader<'a, J: Job, G: Gate, P = SlotLeaderState<J>> {
     pub(crate) counts: ThreadCounts,
     pub(crate) runner: Runner<'a, J, G>,
     pub(crate) post: P,
+    // What P names outlives the borrow, as a call needs by a leader whose kind of job is a parameter.
+    outlives: PhantomData<&'a P>,
 }
 
 impl<'a, J: OpensSlots<P>, G: Gate, P> SlotLeader<'a, J, G, P> {
@@ -32,6 +35,7 @@ impl<'a, J: OpensSlots<P>, G: Gate, P> SlotLeader<'a, J, G, P> {
             counts: runner.site.counts,
             runner,
             post,
+            outlives: PhantomData,
         }
     }
 
