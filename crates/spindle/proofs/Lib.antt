@@ -4,6 +4,7 @@ pub mod FreeLists
 pub mod Folds
 mod KernelLists
 pub mod PassLists
+mod AttemptLists
 mod Pairs
 mod TryLists
 -- Those of the crates below that callers cite.

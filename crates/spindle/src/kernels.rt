@@ -25,6 +25,7 @@ pub use self::source::Source;
 pub(crate) use self::source::parts_of;
 pub use self::tasks::Task;
 pub use self::tries::{Failed, Trial, Trying, try_map};
+pub(crate) use self::updates::change_each;
 pub use self::updates::{Updating, update};
 
 /// A kernel: what a call over a list computes of each item. It holds what it reads beside the item, as a closure holds what it

@@ -5,8 +5,10 @@
 //! leader share, `slot_rounds` and `place_rounds` their rounds, which `spindle_slots` plays. `nested` has the calls by which a job
 //! opens them, and `slot_nest` what stands in a child slot then. `lock_of` has the calls that open a lock under the name of their
 //! kind of job. Locks for one call: `one_round` opens one for a round, `folds` for the total of a list, `place_once` for rounds
-//! in place.
+//! in place. `attempts` has the rounds in place that may stop.
 
+mod attempt;
+mod attempts;
 pub(crate) mod folds;
 mod lock_of;
 pub mod nested;
@@ -19,6 +21,8 @@ mod slot_opening;
 mod slot_root;
 mod slot_rounds;
 
+pub use self::attempt::Attempt;
+pub use self::attempts::{Attempting, AttemptsOf, try_one};
 pub(crate) use self::folds::reduce_once;
 pub use self::folds::{Combine, Folds, Part, reduce};
 pub use self::lock_of::LockOf;

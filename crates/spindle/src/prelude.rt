@@ -5,9 +5,9 @@ pub use crate::kernels::{
     map, map_pairs, passes_until, reduce_pairs, try_map, update,
 };
 pub use crate::lock::{
-    ChunkRounds, End, Gate, InPlace, Job, JobCx, Leader, Limits, LockOf, NoGate, PlaceLeader, Pool,
-    Report, RunsRounds, SlotLeader, TellsFailures, Under, UnderInPlace, UnderSlots, Update, reduce,
-    run_one, update_one,
+    Attempt, AttemptsOf, ChunkRounds, End, Gate, InPlace, Job, JobCx, Leader, Limits, LockOf,
+    NoGate, PlaceLeader, Pool, Report, RunsRounds, SlotLeader, TellsFailures, Under, UnderInPlace,
+    UnderSlots, Update, reduce, run_one, try_one, update_one,
 };
 pub use spindle_parts::fault::Fault;
 pub use spindle_parts::lists::{

@@ -4,6 +4,8 @@
 #![tactic(auto)]
 
 #[cfg(test)]
+mod attempt_rows;
+#[cfg(test)]
 mod call_rows;
 #[cfg(test)]
 mod caller_rows;

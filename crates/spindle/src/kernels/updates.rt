@@ -47,8 +47,8 @@ impl<K: Change + Drop> Update for Updating<K> {
     }
 }
 
-// Changes each item of the list.
-fn change_each<K: Change>(kernel: &K, items: &mut Vec<K::Item>)
+/// Changes each item of the list.
+pub(crate) fn change_each<K: Change>(kernel: &K, items: &mut Vec<K::Item>)
     ensures { AllZip (K.changes kernel.now) items.old.items items.new.items }
 {
     for item in items.iter_mut() {
