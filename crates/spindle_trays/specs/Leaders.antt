@@ -24,7 +24,7 @@ use Rattle.spindle_threads.specs.declared.ThreadCounts.{ThreadCounts}
 use Rattle.spindle_threads.specs.declared.leader_member.LeaderMember.{LeaderMember}
 use Rattle.spindle_trays.specs.Reports.{HasFailed, IsAnswered, IsNoted}
 use Rattle.spindle_trays.specs.declared.lock.leader.Leader.{Leader}
-use Rattle.spindle_trays.specs.declared.running.tally.Tally.{Tally}
+use Rattle.spindle_trays.specs.declared.pieces.tally.Tally.{Tally}
 use Rattle.spindle_rounds.specs.declared.round_table.view.View.{View}
 use Rattle.spindle_rounds.specs.Leftovers.{AreUnbegun, IsFoundLeft, IsMarked}
 use Rattle.spindle_rounds.specs.RoundConditions.{MayFill}
