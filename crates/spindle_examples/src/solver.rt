@@ -1,7 +1,7 @@
 //! A solver that runs until nothing changes: each value becomes the mean of itself, twice, and of its two neighbours, with one value
 //! on both sides of all.
 ghost use Rattle.std.specs.Prelude.{◌≡◌, ◌==◌, ◌+◌, ◌*◌, ◌/◌, IfOk};
-ghost use Rattle.std.specs.Option.{ForSome};
+ghost use Rattle.std.specs.Option.{IfSome};
 ghost use Rattle.spindle_examples.specs.Solver.{IsSolved};
 
 use spindle::prelude::*;
@@ -35,7 +35,7 @@ pub fn solved<G: Gate + Sync, H: Threads + Wait + Sync>(
     values: Vec<u32>,
     most: usize,
 ) -> Result<Option<Vec<u32>>, Fault>
-    ensures { IfOk result (λ solved. ForSome solved (λ values. IsSolved edge values.items)) }
+    ensures { IfOk result (λ solved. IfSome solved (λ values. IsSolved edge values.items)) }
 {
     let passes = passes_until(rt, alloc, pool, &Relax, values, edge, most)?;
     if !passes.settled {

@@ -115,7 +115,8 @@ pub(crate) fn strips_of<K: Again, V: Copy + Drop>(
     edge: V,
 ) -> Result<Vec<Strip<V, Note<K>>>, AllocError>
     ensures items { IfOk result (λ strips.
-        map (λ strip. strip.items.items) strips.items ≡ map (λ piece. piece.items.items) pieces.items) }
+        map (λ strip. strip.items.items) strips.items
+        ≡ map (λ piece. piece.items.items) pieces.items) }
     ensures kernel { IfOk result (λ strips. All (IsNotedBy kernel.now) strips.items) }
 {
     let mut strips = Vec::with_capacity(alloc, pieces.len())?;
@@ -161,7 +162,8 @@ fn pass<K: Stencil + Drop, G: Gate, H: Threads + Wait + Sync>(
 ) -> Result<bool, Fault>
     requires { IsSync H.row }
     ensures passed { OnOk result
-        (AllZip (IsPassedOver K.becomes K.settles) (told edge strips.old.items edge) strips.new.items) }
+        (AllZip (IsPassedOver K.becomes K.settles)
+        (told edge strips.old.items edge) strips.new.items) }
     ensures settled { IfOk result (λ settled. settled ≡ all_settled strips.new.items) }
     ensures memory { OnErr result (IsErrOf result Fault.Memory) }
     ensures slots { post.new.post.slots ≡ post.old.post.slots }

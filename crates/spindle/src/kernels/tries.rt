@@ -58,7 +58,8 @@ impl<T: Drop, V: Drop, E: Drop> Trial<T, V, E> {
     // The piece, with its values up to its first failure.
     fn tried<K: Kernel<In = T, Out = Result<V, E>>>(self, kernel: &K) -> Trial<T, V, E>
         ensures run { result.run ≡ self.run }
-        ensures tried { AreUpTo (K.computes kernel.now) result.run result.values.items result.failure }
+        ensures tried { AreUpTo (K.computes kernel.now)
+            result.run result.values.items result.failure }
     {
         let Trial {
             run,

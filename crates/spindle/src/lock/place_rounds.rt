@@ -65,7 +65,8 @@ where
         strips: &mut Vec<Strip<T, N>>,
         edge: T,
     ) -> Result<(), Fault>
-        ensures updated { OnOk result (AllZip J.updated (told edge strips.old.items edge) strips.new.items) }
+        ensures updated { OnOk result
+            (AllZip J.updated (told edge strips.old.items edge) strips.new.items) }
         ensures kept { OnErr result (strips.new.items ≡ told edge strips.old.items edge) }
         ensures refused { IsForMemory (vec_len strips.old) result }
         ensures trail { PlayedAs J.OpensSlots.view
