@@ -41,8 +41,9 @@ fn relaxed(alloc: Global, edge: u32, values: &[u32]) -> Result<Vec<u32>, Fault> 
     let mut before = edge;
     for (place, here) in values.iter().enumerate() {
         let behind = values.get(place + 1).copied().unwrap_or(edge);
-        let sum = u64::from(before) + 2 * u64::from(*here) + u64::from(behind);
-        new.push((sum / 4) as u32)?;
+        let sum = u64::from(before).wrapping_add(u64::from(behind));
+        let sum = sum.wrapping_add(u64::from(*here).wrapping_mul(2));
+        new.push(u32::try_from(sum / 4).unwrap_or(edge))?;
         before = *here;
     }
     Ok(new)
