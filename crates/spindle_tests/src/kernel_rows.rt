@@ -7,8 +7,8 @@ use crate::chunks::LastOdd;
 use crate::jobs::{Calls, Counting};
 use spindle::lock::{Combine, Limits, LockOf, NoGate, Pool};
 use spindle::{
-    Change, Fault, Kernel, PairTotalsOf, Shared, SharedList, TotalsOf, UpdatesOf, map, map_pairs,
-    reduce_pairs, update,
+    Change, Fault, Kernel, Shared, SharedList, TotalsOf, UpdatesOf, map, map_pairs, reduce_pairs,
+    update,
 };
 use std::alloc::Global;
 
@@ -235,27 +235,6 @@ fn a_leader_updates_a_list_again(rt: HostRuntime) -> Result<(), Fault> {
         },
     )??;
     are(&rt, &list, &BOUNDED);
-    Ok(())
-}
-
-#[test]
-fn a_leader_makes_totals_of_pairs_again(rt: HostRuntime) -> Result<(), Fault> {
-    let alloc = rt.alloc();
-    let pool = Pool::new(4, Limits::new(), NoGate);
-    let first = SharedList::from_vec(alloc, eleven_numbers(alloc)?)?;
-    let second = SharedList::from_vec(alloc, vec![in alloc; 0u32, 7, 0, 5, 0, 0]?)?;
-    let (one, other) = LockOf::<PairTotalsOf<u32, u32, LastSecond>>::with_slots_in_place(
-        &rt,
-        alloc,
-        &pool,
-        4,
-        5,
-        |leader| -> Result<(u32, u32), Fault> {
-            let one = leader.reduce_pairs(&rt, alloc, &first, &second)?;
-            Ok((one, leader.reduce_pairs(&rt, alloc, &second, &first)?))
-        },
-    )??;
-    is(&rt, (one, other), (5, 9));
     Ok(())
 }
 
