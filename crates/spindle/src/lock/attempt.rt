@@ -29,7 +29,7 @@ impl<A: Drop, B: Drop> Attempt<A, B> {
         self.items.as_slice()
     }
 
-    /// Whether the piece ran. Else it was skipped: none of its items was touched.
+    /// Whether the piece ran. Else it was skipped. (That it then has no outputs, rows show and no clause says.)
     pub fn ran(&self) -> bool
         ensures { result ≡ self.now.ran }
     {
