@@ -16,7 +16,7 @@ mod tries;
 mod updates;
 
 pub use self::held::{Again, Shared};
-pub use self::leaders::{PairTotalsOf, PassesOf, TotalsOf, UpdatesOf};
+pub use self::leaders::{MapsOf, PairMapsOf, PairTotalsOf, PassesOf, TotalsOf, TriesOf, UpdatesOf};
 pub use self::maps::{Mapping, Run, map};
 pub use self::pairs::{PairRun, map_pairs, reduce_pairs};
 pub use self::passes::{Passes, passes_until};

@@ -3,13 +3,9 @@
 ghost use Rattle.std.specs.Prelude.{◌≡◌, ◌+◌, min};
 
 use crate::checks::{are, holds, is};
-use crate::chunks::LastOdd;
 use crate::jobs::{Calls, Counting};
-use spindle::lock::{Combine, Limits, LockOf, NoGate, Pool};
-use spindle::{
-    Change, Fault, Kernel, Shared, SharedList, TotalsOf, UpdatesOf, map, map_pairs, reduce_pairs,
-    update,
-};
+use spindle::lock::{Combine, Limits, NoGate, Pool};
+use spindle::{Change, Fault, Kernel, SharedList, map, map_pairs, reduce_pairs, update};
 use std::alloc::Global;
 
 // A number, but no more than one that is borrowed.
@@ -31,7 +27,7 @@ impl<'a> Kernel for AtMost<'a> {
 }
 
 // Eleven numbers; where memory for them is refused once, it is asked for again.
-fn eleven_numbers(alloc: Global) -> Result<Vec<u32>, Fault> {
+pub fn eleven_numbers(alloc: Global) -> Result<Vec<u32>, Fault> {
     let numbers = [3, 1, 4, 1, 5, 9, 2, 6, 5, 3, u32::MAX];
     match Vec::from_array(alloc, numbers) {
         Ok(list) => Ok(list),
@@ -40,7 +36,7 @@ fn eleven_numbers(alloc: Global) -> Result<Vec<u32>, Fault> {
 }
 
 // Each of them, but 7 at most.
-const LEAST: [u32; 11] = [3, 1, 4, 1, 5, 7, 2, 6, 5, 3, 7];
+pub const LEAST: [u32; 11] = [3, 1, 4, 1, 5, 7, 2, 6, 5, 3, 7];
 
 #[test]
 fn outputs_of_a_map_stand_in_the_order_of_their_items(rt: HostRuntime) -> Result<(), Fault> {
@@ -88,8 +84,8 @@ fn refused_nothing_where_a_kernel_has_no_items(rt: HostRuntime) -> Result<(), Fa
 
 // Lowers a number to a bound.
 #[derive(Drop)]
-struct Bound {
-    most: u32,
+pub struct Bound {
+    pub most: u32,
 }
 
 impl Change for Bound {
@@ -103,7 +99,7 @@ impl Change for Bound {
 }
 
 // The eleven numbers, none above 5.
-const BOUNDED: [u32; 11] = [3, 1, 4, 1, 5, 5, 2, 5, 5, 3, 5];
+pub const BOUNDED: [u32; 11] = [3, 1, 4, 1, 5, 5, 2, 5, 5, 3, 5];
 
 #[test]
 fn an_updated_list_has_its_items_in_their_places(rt: HostRuntime) -> Result<(), Fault> {
@@ -143,7 +139,7 @@ fn refused_update_has_run_no_job(rt: HostRuntime) -> Result<(), Fault> {
 
 // Adds the numbers of a pair.
 #[derive(Drop)]
-struct Sum;
+pub struct Sum;
 
 impl Kernel for Sum {
     type In = (u32, u32);
@@ -214,46 +210,5 @@ fn pairs_are_combined_in_their_order(rt: HostRuntime) -> Result<(), Fault> {
         let last = reduce_pairs::<_, _, LastSecond>(&rt, alloc, &pool, jobs, &first, &second)?;
         is(&rt, last, 5);
     }
-    Ok(())
-}
-
-#[test]
-fn a_leader_updates_a_list_again(rt: HostRuntime) -> Result<(), Fault> {
-    let alloc = rt.alloc();
-    let pool = Pool::new(4, Limits::new(), NoGate);
-    let kernel = Shared::new(alloc, Bound { most: 5 })?;
-    let numbers = eleven_numbers(alloc)?;
-    let list = LockOf::<UpdatesOf<Bound>>::with_slots_in_place(
-        &rt,
-        alloc,
-        &pool,
-        4,
-        5,
-        |leader| -> Result<Vec<u32>, Fault> {
-            let once = leader.update(&rt, alloc, &kernel, numbers)?;
-            leader.update(&rt, alloc, &kernel, once)
-        },
-    )??;
-    are(&rt, &list, &BOUNDED);
-    Ok(())
-}
-
-#[test]
-fn a_leader_makes_totals_again(rt: HostRuntime) -> Result<(), Fault> {
-    let alloc = rt.alloc();
-    let pool = Pool::new(4, Limits::new(), NoGate);
-    let list = SharedList::from_vec(alloc, eleven_numbers(alloc)?)?;
-    let (one, other) = LockOf::<TotalsOf<LastOdd>>::with_slots_in_place(
-        &rt,
-        alloc,
-        &pool,
-        4,
-        5,
-        |leader| -> Result<(u32, u32), Fault> {
-            let one = leader.reduce(&rt, alloc, &list)?;
-            Ok((one, leader.reduce(&rt, alloc, &list)?))
-        },
-    )??;
-    is(&rt, (one, other), (u32::MAX, u32::MAX));
     Ok(())
 }

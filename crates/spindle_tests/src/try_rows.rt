@@ -3,8 +3,8 @@ ghost use Rattle.spindle_tests.specs.Halves.{IsHalf};
 
 use crate::checks::{are, holds, is};
 use crate::jobs::{Calls, Counting};
-use spindle::lock::{Limits, NoGate, Pool};
-use spindle::{Failed, Fault, Kernel, try_map};
+use spindle::lock::{Limits, LockOf, NoGate, Pool};
+use spindle::{Failed, Fault, Kernel, Shared, TriesOf, try_map};
 use std::alloc::Global;
 use std::process::Abort;
 
@@ -46,13 +46,11 @@ fn numbers_but(alloc: Global, first: usize, second: usize) -> Result<Vec<u32>, F
 
 const HALVES: [u32; 11] = [10, 9, 8, 7, 6, 5, 4, 3, 2, 1, 0];
 
+// What came of a list.
+type Tried = Result<Vec<u32>, Failed<u32, u32>>;
+
 // Fails the test in which this isn't the failure at that place.
-fn failed_at(
-    rt: &impl Abort,
-    tried: Result<Vec<u32>, Failed<u32, u32>>,
-    place: usize,
-    failure: u32,
-) {
+fn failed_at(rt: &impl Abort, tried: Tried, place: usize, failure: u32) {
     match tried {
         Ok(_) => holds(rt, false),
         Err(failed) => {
@@ -80,6 +78,28 @@ fn the_first_failure_in_the_list_is_told(rt: HostRuntime) -> Result<(), Fault> {
         let tried = try_map(&rt, alloc, &pool, &Halve, numbers_but(alloc, 11, 3)?)?;
         failed_at(&rt, tried, 3, 33);
     }
+    Ok(())
+}
+
+#[test]
+fn a_leader_tries_a_list_again(rt: HostRuntime) -> Result<(), Fault> {
+    let alloc = rt.alloc();
+    let pool = Pool::new(4, Limits::new(), NoGate);
+    let kernel = Shared::new(alloc, Halve)?;
+    let (one, other) = (numbers_but(alloc, 5, 6)?, numbers_but(alloc, 11, 3)?);
+    let (one, other) = LockOf::<TriesOf<Halve, u32, u32>>::with_slots_in_place(
+        &rt,
+        alloc,
+        &pool,
+        4,
+        5,
+        |leader| -> Result<(Tried, Tried), Fault> {
+            let one = leader.try_map(&rt, alloc, &kernel, one)?;
+            Ok((one, leader.try_map(&rt, alloc, &kernel, other)?))
+        },
+    )??;
+    failed_at(&rt, one, 5, 31);
+    failed_at(&rt, other, 3, 33);
     Ok(())
 }
 

@@ -2,17 +2,20 @@
 ghost use Rattle.std.specs.Prelude.{◌≡◌, ◌<◌, ◌≤◌, IfOk, OnErr, IsErrOf, zip};
 ghost use Rattle.spindle.specs.Folds.{total_of};
 ghost use Rattle.spindle.specs.Passes.{HavePassed};
+ghost use Rattle.spindle.specs.Tries.{IsTried};
 ghost use Rattle.std.specs.List.{AllZip};
 ghost use Rattle.spindle.specs.SlotLeaders.{threads_of, lock_slots};
 
 use crate::kernels::held::Shared;
+use crate::kernels::maps::{Mapping, append_outputs, map_tasks};
 use crate::kernels::pairs::PairRun;
 use crate::kernels::passes::Passes;
 use crate::kernels::passing::{Passing, append_strips, play_passes, strips_of};
 use crate::kernels::source::{Source, parts_of};
 use crate::kernels::tasks::PIECES;
+use crate::kernels::tries::{Failed, Trying, gathered_trials, trials_of};
 use crate::kernels::updates::{Updating, append_items, tasks_of};
-use crate::kernels::{Change, Stencil};
+use crate::kernels::{Change, Kernel, Stencil};
 use crate::lock::folds::{combined, fold_parts};
 use crate::lock::{Combine, Folds, PlaceLeader};
 use spindle_parts::cut::cut;
@@ -162,5 +165,125 @@ where
         let first = first.run(0, len)?;
         let second = second.run(0, len)?;
         self.total(rt, alloc, &PairRun { first, second })
+    }
+}
+
+/// The kind of job of a lock whose leader computes lists by the kernel K, opened by `LockOf::<MapsOf<K>>::with_slots_in_place`.
+pub type MapsOf<K> = InPlace<Mapping<Shared<K>, ListRun<<K as Kernel>::In>>>;
+
+/// The kind of job of a lock whose leader computes the pairs of two lists by the kernel K.
+pub type PairMapsOf<A, B, K> = InPlace<Mapping<Shared<K>, PairRun<A, B>>>;
+
+impl<'a, K, S, G> PlaceLeader<'a, Mapping<Shared<K>, S>, G>
+where
+    K: Kernel + Drop,
+    S: Source<Item = K::In>,
+    G: Gate,
+{
+    // What the kernel computes of each item of the source: a round of this lock.
+    fn computed<H: Threads + Wait + Sync>(
+        &mut self,
+        rt: &H,
+        alloc: Global,
+        kernel: &Shared<K>,
+        source: &S,
+    ) -> Result<Vec<K::Out>, Fault>
+        ensures answer { IfOk result (λ outputs.
+            AllZip (K.computes kernel.now) (S.items source.now) outputs.items) }
+        ensures memory { OnErr result (IsErrOf result Fault.Memory) }
+        ensures lock { threads_of self.new ≡ threads_of self.old }
+        ensures slots { lock_slots self.new ≡ lock_slots self.old }
+    {
+        let jobs = self.max_num_threads().saturating_mul(PIECES);
+        let mut outputs = Vec::with_capacity(alloc, source.count())?;
+        let mut tasks = map_tasks(alloc, kernel, parts_of(alloc, source, jobs)?)?;
+        self.update_each(rt, alloc, jobs, &mut tasks)?;
+        append_outputs(tasks, &mut outputs)?;
+        Ok(outputs)
+    }
+}
+
+impl<'a, K: Kernel + Drop, G: Gate> PlaceLeader<'a, Mapping<Shared<K>, ListRun<K::In>>, G> {
+    /// What the kernel computes of each item, as `spindle::map` does, by a round of this lock. A refusal gives the items up.
+    pub fn map<H: Threads + Wait + Sync>(
+        &mut self,
+        rt: &H,
+        alloc: Global,
+        kernel: &Shared<K>,
+        list: Vec<K::In>,
+    ) -> Result<Vec<K::Out>, Fault>
+        ensures answer { IfOk result (λ outputs.
+            AllZip (K.computes kernel.now) list.items outputs.items) }
+        ensures memory { OnErr result (IsErrOf result Fault.Memory) }
+        ensures lock { threads_of self.new ≡ threads_of self.old }
+        ensures slots { lock_slots self.new ≡ lock_slots self.old }
+    {
+        let len = list.len();
+        let list = SharedList::from_vec(alloc, list)?.run(0, len)?;
+        self.computed(rt, alloc, kernel, &list)
+    }
+}
+
+impl<'a, A, B, K, G> PlaceLeader<'a, Mapping<Shared<K>, PairRun<A, B>>, G>
+where
+    A: Copy + Drop,
+    B: Copy + Drop,
+    K: Kernel<In = (A, B)> + Drop,
+    G: Gate,
+{
+    /// What the kernel computes of each pair of items, as `spindle::map_pairs` does, by a round of this lock.
+    pub fn map_pairs<H: Threads + Wait + Sync>(
+        &mut self,
+        rt: &H,
+        alloc: Global,
+        kernel: &Shared<K>,
+        first: &SharedList<A>,
+        second: &SharedList<B>,
+    ) -> Result<Vec<K::Out>, Fault>
+        ensures answer { IfOk result (λ outputs.
+            AllZip (K.computes kernel.now) (zip first.now second.now) outputs.items) }
+        ensures memory { OnErr result (IsErrOf result Fault.Memory) }
+        ensures lock { threads_of self.new ≡ threads_of self.old }
+        ensures slots { lock_slots self.new ≡ lock_slots self.old }
+    {
+        let len = first.len().min(second.len());
+        let first = first.run(0, len)?;
+        let second = second.run(0, len)?;
+        self.computed(rt, alloc, kernel, &PairRun { first, second })
+    }
+}
+
+/// The kind of job of a lock whose leader tries lists by the kernel K, opened by `LockOf::<TriesOf<K, V, E>>::with_slots_in_place`.
+pub type TriesOf<K, V, E> = InPlace<Trying<Shared<K>, V, E>>;
+
+impl<'a, V, E, K, G> PlaceLeader<'a, Trying<Shared<K>, V, E>, G>
+where
+    V: Drop,
+    E: Drop,
+    K: Kernel<Out = Result<V, E>> + Drop,
+    G: Gate,
+{
+    /// What the kernel computes of each item, or the first failure, as `spindle::try_map` does, by a round of this lock. A refusal
+    /// gives the items up.
+    pub fn try_map<H: Threads + Wait + Sync>(
+        &mut self,
+        rt: &H,
+        alloc: Global,
+        kernel: &Shared<K>,
+        list: Vec<K::In>,
+    ) -> Result<Result<Vec<V>, Failed<V, E>>, Fault>
+        ensures answer { IfOk result (λ tried. IsTried (K.computes kernel.now) list.items tried) }
+        ensures memory { OnErr result (IsErrOf result Fault.Memory) }
+        ensures lock { threads_of self.new ≡ threads_of self.old }
+        ensures slots { lock_slots self.new ≡ lock_slots self.old }
+    {
+        let jobs = self.max_num_threads().saturating_mul(PIECES);
+        let len = list.len();
+        let run = SharedList::from_vec(alloc, list)?.run(0, len)?;
+        let values = Vec::with_capacity(alloc, len)?;
+        let mut tasks = trials_of(alloc, kernel, parts_of(alloc, &run, jobs)?)?;
+        self.update_each(rt, alloc, jobs, &mut tasks)?;
+        let tried = gathered_trials(kernel, tasks, values)?;
+        Ok(tried)
     }
 }

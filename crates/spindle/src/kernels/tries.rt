@@ -183,7 +183,7 @@ where
 }
 
 // The runs, each with the kernel and with room for its values.
-fn trials_of<K: Again, T: Drop, V: Drop, E: Drop>(
+pub(crate) fn trials_of<K: Again, T: Drop, V: Drop, E: Drop>(
     alloc: Global,
     kernel: &K,
     runs: Vec<ListRun<T>>,
@@ -201,7 +201,7 @@ fn trials_of<K: Again, T: Drop, V: Drop, E: Drop>(
 }
 
 // The values of all runs that were tried by the kernel, up to the first failure.
-fn gathered_trials<V: Drop, E: Drop, K: Kernel<Out = Result<V, E>> + Drop>(
+pub(crate) fn gathered_trials<V: Drop, E: Drop, K: Kernel<Out = Result<V, E>> + Drop>(
     _kernel: &K,
     tasks: Vec<Task<K, Trial<K::In, V, E>>>,
     mut values: Vec<V>,

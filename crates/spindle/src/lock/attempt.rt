@@ -1,9 +1,10 @@
 //! A piece of a round in place that may stop. (Its clauses stand apart from those of the round, whose words name it.)
 ghost use Rattle.std.specs.Prelude.{◌≡◌, ◌≤◌, None, true, false, vec_len, vec_capacity};
-ghost use Rattle.std.specs.List.{AllZip, Any};
+ghost use Rattle.std.specs.List.{AllZip};
 
 use spindle_trays::job::Job;
 use spindle_trays::job::context::JobCx;
+use spindle_trays::pieces::tally::has_failure;
 use spindle_trays::running::runner::run_each;
 use std::alloc::Global;
 use std::sync::atomic::{AtomicBool, Ordering};
@@ -29,7 +30,7 @@ impl<A: Drop, B: Drop> Attempt<A, B> {
         self.items.as_slice()
     }
 
-    /// Whether the piece ran. Else it was skipped. (That it then has no outputs, rows show and no clause says.)
+    /// Whether the piece ran. Else it was skipped, and has no outputs.
     pub fn ran(&self) -> bool
         ensures { result ≡ self.now.ran }
     {
@@ -92,16 +93,4 @@ impl<A: Drop, B: Drop> Attempt<A, B> {
             stop,
         }
     }
-}
-
-/// Whether an output is told as a failure.
-pub(crate) fn has_failure<J: Job>(outputs: &[J::Out]) -> bool
-    ensures { result ≡ true → Any J.fails outputs.now }
-{
-    for output in outputs {
-        if J::failed(output) {
-            return true;
-        }
-    }
-    false
 }

@@ -4,14 +4,15 @@
 //! The pieces of a round share a stop. Who runs a piece that fails tells it, and a piece that finds it told stays as it was. No clause
 //! follows a value through the stop. So the leader looks at what came back: where pieces were skipped and none that ran has failed, it
 //! runs them itself. No test has met that.
-ghost use Rattle.std.specs.Prelude.{◌≡◌, ◌⊎◌, ◌<◌, None, true, false, IfOk, IsOk, OnErr, IsErrOf, map, vec_len};
-ghost use Rattle.std.specs.List.{All, Any};
-ghost use Rattle.spindle_parts.specs.Pieces.{joined};
+ghost use Rattle.std.specs.Prelude.{◌≡◌, ◌⊎◌, ◌<◌, None, true, IfOk, IsOk, OnErr, IsErrOf, map, vec_len};
+ghost use Rattle.std.specs.List.{All, AllZip, Any};
+ghost use Rattle.spindle_parts.specs.Pieces.{cut_lengths, joined};
+ghost use Rattle.spindle.specs.OneRound.{asked_jobs};
 ghost use Rattle.spindle.specs.SlotLeaders.{threads_of, lock_slots};
-ghost use Rattle.spindle.specs.Attempts.{AreAttempts, HasFailed, HasRun, IsAttempted, IsUnstopped};
+ghost use Rattle.spindle.specs.Attempts.{AreAttempts, HasFailed, HasRun, IsAttempted, IsSkipped, IsUnstopped};
 
 use crate::kernels::{Change, change_each};
-use crate::lock::attempt::{Attempt, has_failure};
+use crate::lock::attempt::Attempt;
 use crate::lock::place_once::update_one;
 use crate::lock::place_rounds::PlaceLeader;
 use spindle_parts::cut::{Piece, cut};
@@ -21,8 +22,8 @@ use spindle_trays::job::Job;
 use spindle_trays::job::context::JobCx;
 use spindle_trays::job::gate::Gate;
 use spindle_trays::job::nest::Nest;
-use spindle_trays::lock::leader::MOST_JOBS;
 use spindle_trays::lock::pool::Pool;
+use spindle_trays::pieces::tally::has_failure;
 use std::alloc::{AllocError, Global};
 use std::marker::PhantomData;
 use std::sync::atomic::AtomicBool;
@@ -77,8 +78,8 @@ impl<A: Drop, B: Drop> Change for Unstopped<A, B> {
 /// Runs the items by jobs of kind J, in one round of `n_jobs` jobs that stops where a piece has failed: one of its outputs is a failure.
 /// Where `n_jobs` is 0, there are as many jobs as the pool has threads. The lock is that of `update_one`.
 ///
-/// The pieces come back in their order, each with its items; those that ran have an output for each item. Which ran depends on the
-/// threads. No items are no job: that takes no memory and opens no lock. A refusal, for memory alone, gives the items up.
+/// The pieces come back in their order, of the lengths into which `cut` cuts the items. Those that ran have an output for each of their
+/// items, the others none. Which ran depends on the threads. No items are no job: that takes no memory and opens no lock. A refusal, for memory alone, gives the items up.
 pub fn try_one<J: Job + Send, G: Gate + Sync, H: Threads + Wait + Sync>(
     rt: &H,
     alloc: Global,
@@ -91,7 +92,8 @@ where
     J::Out: Send,
     J::Inner: Send,
     <J::Inner as Nest>::ChildSlots: Send + Sync,
-    ensures attempts { IfOk result (λ pieces. AreAttempts J.meets J.fails items.items pieces.items) }
+    ensures attempts { let n = asked_jobs pool.now.threads n_jobs in
+        IfOk result (λ pieces. AreAttempts J.meets J.fails items n pieces.items) }
     ensures memory { OnErr result (IsErrOf result Fault.Memory) }
     ensures empty { vec_len items ≡ 0 → IsOk result }
 {
@@ -103,17 +105,14 @@ where
     } else {
         n_jobs
     };
-    let attempts = attempts_of(alloc, items, asked.min(MOST_JOBS))?;
+    let attempts = attempts_of(alloc, items, asked)?;
     let mut attempts = update_one::<InPlace<Attempting<J>>, G, H>(
         rt, alloc, pool, n_jobs, attempts,
     )?;
     if is_over::<J>(attempts.as_slice()) {
         return Ok(attempts);
     }
-    let unstopped = Unstopped::<J::In, J::Out> {
-        pieces: PhantomData,
-    };
-    change_each(&unstopped, &mut attempts);
+    unstop(&mut attempts);
     Ok(update_one::<InPlace<Attempting<J>>, G, H>(rt, alloc, pool, 1, attempts)?)
 }
 
@@ -129,7 +128,7 @@ impl<'a, J: Job, G: Gate> PlaceLeader<'a, Attempting<J>, G> {
     ) -> Result<Vec<Attempt<J::In, J::Out>>, Fault>
         requires jobs { 0 < n_jobs }
         ensures attempts { IfOk result (λ pieces.
-            AreAttempts J.meets J.fails items.items pieces.items) }
+            AreAttempts J.meets J.fails items n_jobs pieces.items) }
         ensures memory { OnErr result (IsErrOf result Fault.Memory) }
         ensures lock { threads_of self.new ≡ threads_of self.old }
         ensures slots { lock_slots self.new ≡ lock_slots self.old }
@@ -139,13 +138,20 @@ impl<'a, J: Job, G: Gate> PlaceLeader<'a, Attempting<J>, G> {
         if is_over::<J>(attempts.as_slice()) {
             return Ok(attempts);
         }
-        let unstopped = Unstopped::<J::In, J::Out> {
-            pieces: PhantomData,
-        };
-        change_each(&unstopped, &mut attempts);
+        unstop(&mut attempts);
         self.update_each(rt, alloc, 1, &mut attempts)?;
         Ok(attempts)
     }
+}
+
+// Lets nothing keep these pieces from running.
+fn unstop<A: Drop, B: Drop>(attempts: &mut Vec<Attempt<A, B>>)
+    ensures { AllZip IsUnstopped attempts.old.items attempts.new.items }
+{
+    let unstopped = Unstopped::<A, B> {
+        pieces: PhantomData,
+    };
+    change_each(&unstopped, attempts);
 }
 
 // The items in pieces that share a stop, which isn't told.
@@ -157,7 +163,9 @@ fn attempts_of<A: Drop, B: Drop>(
     requires { 0 < n_jobs }
     ensures whole { IfOk result (λ attempts.
         joined (map (λ attempt. attempt.items.items) attempts.items) ≡ items.items) }
-    ensures none { IfOk result (λ attempts. All (λ attempt. attempt.ran ≡ false) attempts.items) }
+    ensures lengths { IfOk result (λ attempts.
+        map (λ attempt. vec_len attempt.items) attempts.items ≡ cut_lengths (vec_len items) n_jobs) }
+    ensures none { IfOk result (λ attempts. All IsSkipped attempts.items) }
     ensures memory { OnErr result (IsErrOf result Fault.Memory) }
 {
     let pieces = cut(alloc, &mut items, n_jobs)?;
@@ -171,7 +179,7 @@ fn with_stop<A: Drop, B: Drop>(
 ) -> Result<Vec<Attempt<A, B>>, AllocError>
     ensures items { IfOk result (λ attempts.
         map (λ attempt. attempt.items) attempts.items ≡ map (λ p. p.items) pieces.items) }
-    ensures none { IfOk result (λ attempts. All (λ attempt. attempt.ran ≡ false) attempts.items) }
+    ensures none { IfOk result (λ attempts. All IsSkipped attempts.items) }
 {
     let mut attempts = Vec::with_capacity(alloc, pieces.len())?;
     let stop = Arc::new(alloc, AtomicBool::new(false))?;

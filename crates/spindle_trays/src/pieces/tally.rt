@@ -112,7 +112,7 @@ impl<T> Tally<T> {
 }
 
 /// Whether one of a piece's outputs is a failure.
-pub(crate) fn has_failure<J: Job>(outputs: &[J::Out]) -> bool
+pub fn has_failure<J: Job>(outputs: &[J::Out]) -> bool
     ensures { result ≡ true → Any J.fails outputs.now }
 {
     for output in outputs {
