@@ -5,7 +5,9 @@ use crate::checks::{are, is};
 use crate::chunks::LastOdd;
 use crate::kernel_rows::{BOUNDED, Bound, LEAST, Sum, eleven_numbers};
 use spindle::lock::{Limits, LockOf, NoGate, Pool};
-use spindle::{Fault, Kernel, MapsOf, PairMapsOf, Shared, SharedList, TotalsOf, UpdatesOf};
+use spindle::{
+    Fault, Kernel, MapsOf, PairMapsOf, PairRun, Shared, SharedList, TotalsOf, UpdatesOf,
+};
 
 // A number, but no more than 7.
 #[derive(Drop)]
@@ -49,6 +51,7 @@ fn a_leader_makes_totals_again(rt: HostRuntime) -> Result<(), Fault> {
     let alloc = rt.alloc();
     let pool = Pool::new(4, Limits::new(), NoGate);
     let list = SharedList::from_vec(alloc, eleven_numbers(alloc)?)?;
+    let list = list.run(0, list.len())?;
     let (one, other) = LockOf::<TotalsOf<LastOdd>>::with_slots_in_place(
         &rt,
         alloc,
@@ -69,19 +72,21 @@ fn a_leader_maps_a_list_again(rt: HostRuntime) -> Result<(), Fault> {
     let alloc = rt.alloc();
     let pool = Pool::new(4, Limits::new(), NoGate);
     let kernel = Shared::new(alloc, Least)?;
-    let numbers = eleven_numbers(alloc)?;
-    let least = LockOf::<MapsOf<Least>>::with_slots_in_place(
+    let list = SharedList::from_vec(alloc, eleven_numbers(alloc)?)?;
+    let (all, last) = (list.run(0, list.len())?, list.run(4, list.len())?);
+    let (least, last) = LockOf::<MapsOf<Least>>::with_slots_in_place(
         &rt,
         alloc,
         &pool,
         4,
         5,
-        |leader| -> Result<Vec<u32>, Fault> {
-            let once = leader.map(&rt, alloc, &kernel, numbers)?;
-            leader.map(&rt, alloc, &kernel, once)
+        |leader| -> Result<(Vec<u32>, Vec<u32>), Fault> {
+            let least = leader.map(&rt, alloc, &kernel, &all)?;
+            Ok((least, leader.map(&rt, alloc, &kernel, &last)?))
         },
     )??;
     are(&rt, &least, &LEAST);
+    are(&rt, &last, &LEAST[4..]);
     Ok(())
 }
 
@@ -92,6 +97,10 @@ fn a_leader_maps_pairs_again(rt: HostRuntime) -> Result<(), Fault> {
     let kernel = Shared::new(alloc, Sum)?;
     let first = SharedList::from_vec(alloc, eleven_numbers(alloc)?)?;
     let second = SharedList::from_vec(alloc, vec![in alloc; 100u32; 3]?)?;
+    let (pairs, turned) = (
+        PairRun::new(&first, &second)?,
+        PairRun::new(&second, &first)?,
+    );
     let (one, other) = LockOf::<PairMapsOf<u32, u32, Sum>>::with_slots_in_place(
         &rt,
         alloc,
@@ -99,8 +108,8 @@ fn a_leader_maps_pairs_again(rt: HostRuntime) -> Result<(), Fault> {
         4,
         5,
         |leader| -> Result<(Vec<u64>, Vec<u64>), Fault> {
-            let one = leader.map_pairs(&rt, alloc, &kernel, &first, &second)?;
-            Ok((one, leader.map_pairs(&rt, alloc, &kernel, &second, &first)?))
+            let one = leader.map(&rt, alloc, &kernel, &pairs)?;
+            Ok((one, leader.map(&rt, alloc, &kernel, &turned)?))
         },
     )??;
     are(&rt, &one, &[103, 101, 104]);

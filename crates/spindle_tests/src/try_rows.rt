@@ -4,7 +4,7 @@ ghost use Rattle.spindle_tests.specs.Halves.{IsHalf};
 use crate::checks::{are, holds, is};
 use crate::jobs::{Calls, Counting};
 use spindle::lock::{Limits, LockOf, NoGate, Pool};
-use spindle::{Failed, Fault, Kernel, Shared, TriesOf, try_map};
+use spindle::{Failed, Fault, Kernel, Shared, SharedList, TriesOf, try_map};
 use std::alloc::Global;
 use std::process::Abort;
 
@@ -86,7 +86,9 @@ fn a_leader_tries_a_list_again(rt: HostRuntime) -> Result<(), Fault> {
     let alloc = rt.alloc();
     let pool = Pool::new(4, Limits::new(), NoGate);
     let kernel = Shared::new(alloc, Halve)?;
-    let (one, other) = (numbers_but(alloc, 5, 6)?, numbers_but(alloc, 11, 3)?);
+    let one = SharedList::from_vec(alloc, numbers_but(alloc, 5, 6)?)?;
+    let other = SharedList::from_vec(alloc, numbers_but(alloc, 11, 3)?)?;
+    let (one, other) = (one.run(0, one.len())?, other.run(0, other.len())?);
     let (one, other) = LockOf::<TriesOf<Halve, u32, u32>>::with_slots_in_place(
         &rt,
         alloc,
@@ -94,8 +96,8 @@ fn a_leader_tries_a_list_again(rt: HostRuntime) -> Result<(), Fault> {
         4,
         5,
         |leader| -> Result<(Tried, Tried), Fault> {
-            let one = leader.try_map(&rt, alloc, &kernel, one)?;
-            Ok((one, leader.try_map(&rt, alloc, &kernel, other)?))
+            let one = leader.try_map(&rt, alloc, &kernel, &one)?;
+            Ok((one, leader.try_map(&rt, alloc, &kernel, &other)?))
         },
     )??;
     failed_at(&rt, one, 5, 31);

@@ -1,5 +1,5 @@
 //! Calls over whole lists in a lock that stays open: round after round by one leader, whose kernel its lists share.
-ghost use Rattle.std.specs.Prelude.{◌≡◌, ◌<◌, ◌≤◌, IfOk, OnErr, IsErrOf, zip};
+ghost use Rattle.std.specs.Prelude.{◌≡◌, ◌<◌, ◌≤◌, IfOk, OnErr, IsErrOf};
 ghost use Rattle.spindle.specs.Folds.{total_of};
 ghost use Rattle.spindle.specs.Passes.{HavePassed};
 ghost use Rattle.spindle.specs.Tries.{IsTried};
@@ -20,7 +20,7 @@ use crate::lock::folds::{combined, fold_parts};
 use crate::lock::{Combine, Folds, PlaceLeader};
 use spindle_parts::cut::cut;
 use spindle_parts::fault::Fault;
-use spindle_parts::lists::{ListRun, SharedList};
+use spindle_parts::lists::ListRun;
 use spindle_slots::job::update::InPlace;
 use spindle_trays::job::gate::Gate;
 use std::alloc::Global;
@@ -101,8 +101,8 @@ pub type TotalsOf<C> = InPlace<Folds<C, ListRun<<C as Combine>::Item>>>;
 pub type PairTotalsOf<A, B, C> = InPlace<Folds<C, PairRun<A, B>>>;
 
 impl<'a, C: Combine, S: Source<Item = C::Item>, G: Gate> PlaceLeader<'a, Folds<C, S>, G> {
-    // The total of what the source has: a round of this lock.
-    fn total<H: Threads + Wait + Sync>(
+    /// The total of a run of a list, or of the pairs of two, as `spindle::reduce` makes it, by a round of this lock.
+    pub fn reduce<H: Threads + Wait + Sync>(
         &mut self,
         rt: &H,
         alloc: Global,
@@ -121,53 +121,6 @@ impl<'a, C: Combine, S: Source<Item = C::Item>, G: Gate> PlaceLeader<'a, Folds<C
     }
 }
 
-impl<'a, C: Combine, G: Gate> PlaceLeader<'a, Folds<C, ListRun<C::Item>>, G> {
-    /// The total of a list as `spindle::reduce` makes it, by a round of this lock.
-    pub fn reduce<H: Threads + Wait + Sync>(
-        &mut self,
-        rt: &H,
-        alloc: Global,
-        list: &SharedList<C::Item>,
-    ) -> Result<C::Total, Fault>
-        ensures answer { IfOk result (λ total.
-            total ≡ total_of C.combine C.neutral C.of list.now) }
-        ensures memory { OnErr result (IsErrOf result Fault.Memory) }
-        ensures lock { threads_of self.new ≡ threads_of self.old }
-        ensures slots { lock_slots self.new ≡ lock_slots self.old }
-    {
-        let run = list.run(0, list.len())?;
-        self.total(rt, alloc, &run)
-    }
-}
-
-impl<'a, A, B, C, G> PlaceLeader<'a, Folds<C, PairRun<A, B>>, G>
-where
-    A: Copy + Drop,
-    B: Copy + Drop,
-    C: Combine<Item = (A, B)>,
-    G: Gate,
-{
-    /// The total of the pairs of two lists as `spindle::reduce_pairs` makes it, by a round of this lock.
-    pub fn reduce_pairs<H: Threads + Wait + Sync>(
-        &mut self,
-        rt: &H,
-        alloc: Global,
-        first: &SharedList<A>,
-        second: &SharedList<B>,
-    ) -> Result<C::Total, Fault>
-        ensures answer { IfOk result (λ total.
-            total ≡ total_of C.combine C.neutral C.of (zip first.now second.now)) }
-        ensures memory { OnErr result (IsErrOf result Fault.Memory) }
-        ensures lock { threads_of self.new ≡ threads_of self.old }
-        ensures slots { lock_slots self.new ≡ lock_slots self.old }
-    {
-        let len = first.len().min(second.len());
-        let first = first.run(0, len)?;
-        let second = second.run(0, len)?;
-        self.total(rt, alloc, &PairRun { first, second })
-    }
-}
-
 /// The kind of job of a lock whose leader computes lists by the kernel K, opened by `LockOf::<MapsOf<K>>::with_slots_in_place`.
 pub type MapsOf<K> = InPlace<Mapping<Shared<K>, ListRun<<K as Kernel>::In>>>;
 
@@ -180,8 +133,9 @@ where
     S: Source<Item = K::In>,
     G: Gate,
 {
-    // What the kernel computes of each item of the source: a round of this lock.
-    fn computed<H: Threads + Wait + Sync>(
+    /// What the kernel computes of each item of a run of a list, or of each pair of two, as `spindle::map` does, by a round of this
+    /// lock.
+    pub fn map<H: Threads + Wait + Sync>(
         &mut self,
         rt: &H,
         alloc: Global,
@@ -203,56 +157,6 @@ where
     }
 }
 
-impl<'a, K: Kernel + Drop, G: Gate> PlaceLeader<'a, Mapping<Shared<K>, ListRun<K::In>>, G> {
-    /// What the kernel computes of each item, as `spindle::map` does, by a round of this lock. A refusal gives the items up.
-    pub fn map<H: Threads + Wait + Sync>(
-        &mut self,
-        rt: &H,
-        alloc: Global,
-        kernel: &Shared<K>,
-        list: Vec<K::In>,
-    ) -> Result<Vec<K::Out>, Fault>
-        ensures answer { IfOk result (λ outputs.
-            AllZip (K.computes kernel.now) list.items outputs.items) }
-        ensures memory { OnErr result (IsErrOf result Fault.Memory) }
-        ensures lock { threads_of self.new ≡ threads_of self.old }
-        ensures slots { lock_slots self.new ≡ lock_slots self.old }
-    {
-        let len = list.len();
-        let list = SharedList::from_vec(alloc, list)?.run(0, len)?;
-        self.computed(rt, alloc, kernel, &list)
-    }
-}
-
-impl<'a, A, B, K, G> PlaceLeader<'a, Mapping<Shared<K>, PairRun<A, B>>, G>
-where
-    A: Copy + Drop,
-    B: Copy + Drop,
-    K: Kernel<In = (A, B)> + Drop,
-    G: Gate,
-{
-    /// What the kernel computes of each pair of items, as `spindle::map_pairs` does, by a round of this lock.
-    pub fn map_pairs<H: Threads + Wait + Sync>(
-        &mut self,
-        rt: &H,
-        alloc: Global,
-        kernel: &Shared<K>,
-        first: &SharedList<A>,
-        second: &SharedList<B>,
-    ) -> Result<Vec<K::Out>, Fault>
-        ensures answer { IfOk result (λ outputs.
-            AllZip (K.computes kernel.now) (zip first.now second.now) outputs.items) }
-        ensures memory { OnErr result (IsErrOf result Fault.Memory) }
-        ensures lock { threads_of self.new ≡ threads_of self.old }
-        ensures slots { lock_slots self.new ≡ lock_slots self.old }
-    {
-        let len = first.len().min(second.len());
-        let first = first.run(0, len)?;
-        let second = second.run(0, len)?;
-        self.computed(rt, alloc, kernel, &PairRun { first, second })
-    }
-}
-
 /// The kind of job of a lock whose leader tries lists by the kernel K, opened by `LockOf::<TriesOf<K, V, E>>::with_slots_in_place`.
 pub type TriesOf<K, V, E> = InPlace<Trying<Shared<K>, V, E>>;
 
@@ -263,25 +167,23 @@ where
     K: Kernel<Out = Result<V, E>> + Drop,
     G: Gate,
 {
-    /// What the kernel computes of each item, or the first failure, as `spindle::try_map` does, by a round of this lock. A refusal
-    /// gives the items up.
+    /// What the kernel computes of each item of a run of a list, or the first failure, as `spindle::try_map` does, by a round of this
+    /// lock.
     pub fn try_map<H: Threads + Wait + Sync>(
         &mut self,
         rt: &H,
         alloc: Global,
         kernel: &Shared<K>,
-        list: Vec<K::In>,
+        run: &ListRun<K::In>,
     ) -> Result<Result<Vec<V>, Failed<V, E>>, Fault>
-        ensures answer { IfOk result (λ tried. IsTried (K.computes kernel.now) list.items tried) }
+        ensures answer { IfOk result (λ tried. IsTried (K.computes kernel.now) run.now tried) }
         ensures memory { OnErr result (IsErrOf result Fault.Memory) }
         ensures lock { threads_of self.new ≡ threads_of self.old }
         ensures slots { lock_slots self.new ≡ lock_slots self.old }
     {
         let jobs = self.max_num_threads().saturating_mul(PIECES);
-        let len = list.len();
-        let run = SharedList::from_vec(alloc, list)?.run(0, len)?;
-        let values = Vec::with_capacity(alloc, len)?;
-        let mut tasks = trials_of(alloc, kernel, parts_of(alloc, &run, jobs)?)?;
+        let values = Vec::with_capacity(alloc, run.len())?;
+        let mut tasks = trials_of(alloc, kernel, parts_of(alloc, run, jobs)?)?;
         self.update_each(rt, alloc, jobs, &mut tasks)?;
         let tried = gathered_trials(kernel, tasks, values)?;
         Ok(tried)

@@ -22,6 +22,18 @@ pub struct PairRun<A, B> {
     pub(crate) second: ListRun<B>,
 }
 
+impl<A: Drop, B: Drop> PairRun<A, B> {
+    /// The pairs of two lists, as far as both go.
+    pub fn new(first: &SharedList<A>, second: &SharedList<B>) -> Result<PairRun<A, B>, AllocError>
+        ensures { IfOk result (λ run. zip run.first run.second ≡ zip first.now second.now) }
+    {
+        let len = first.len().min(second.len());
+        let first = first.run(0, len)?;
+        let second = second.run(0, len)?;
+        Ok(PairRun { first, second })
+    }
+}
+
 impl<A: Copy + Drop, B: Copy + Drop> Source for PairRun<A, B> {
     type Item = (A, B);
 
@@ -84,9 +96,10 @@ where
     if len == 0 {
         return Ok(Vec::new(alloc));
     }
-    let first = SharedList::from_vec(alloc, first)?.run(0, len)?;
-    let second = SharedList::from_vec(alloc, second)?.run(0, len)?;
-    map_once(rt, alloc, pool, kernel, &PairRun { first, second })
+    let first = SharedList::from_vec(alloc, first)?;
+    let second = SharedList::from_vec(alloc, second)?;
+    let pairs = PairRun::new(&first, &second)?;
+    map_once(rt, alloc, pool, kernel, &pairs)
 }
 
 /// The total of the pairs of two lists, as far as both go: as `reduce`, without a list of pairs.
@@ -111,7 +124,6 @@ where
     if len == 0 {
         return Ok(C::neutral());
     }
-    let first = first.run(0, len)?;
-    let second = second.run(0, len)?;
-    reduce_once::<C, _, _, _>(rt, alloc, pool, n_jobs, &PairRun { first, second })
+    let pairs = PairRun::new(first, second)?;
+    reduce_once::<C, _, _, _>(rt, alloc, pool, n_jobs, &pairs)
 }

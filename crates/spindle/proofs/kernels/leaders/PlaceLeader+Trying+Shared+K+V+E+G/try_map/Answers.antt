@@ -1,5 +1,5 @@
 -- The runs are the list, and each was tried by the kernel.
-use Rattle.std.proofs.Common.{◌≡◌, rules, map, ap, subst, sym, ◌∙◌}
+use Rattle.std.proofs.Common.{◌≡◌, map, ap, subst, sym, ◌∙◌}
 use Rattle.spindle_parts.specs.Pieces.{joined}
 use Rattle.spindle.specs.Tries.{IsTried}
 use Rattle.spindle.proofs.TryLists.{tried_by, same_parts}
@@ -17,7 +17,6 @@ returns-clause-answer g c =
     let old = c.in_ok-tasks.tasks.items in let new = c.update_each.new.items.items in
     let tried = tried_by g.K.Kernel.computes c.args.kernel.now (λ task. task.kernel) (λ task. task.part.run) (λ task. task.part.values.items)
     (λ task. task.part.failure) old new c.in_ok-tasks.ensures.kernel c.in_ok-update_each.ensures.updated in
-    let run : c.in_ok-run.run' ≡ c.args.list.items = search rules in
-    let whole : joined (map (λ task. task.part.run) new) ≡ c.args.list.items =
-    ap joined (tried.1 ∙ c.in_ok-tasks.ensures.runs ∙ sym (same_parts c.in_ok-parts_of.field-0.items)) ∙ c.in_ok-parts_of.ensures.joined ∙ run in
+    let whole : joined (map (λ task. task.part.run) new) ≡ c.args.run.now =
+    ap joined (tried.1 ∙ c.in_ok-tasks.ensures.runs ∙ sym (same_parts c.in_ok-parts_of.field-0.items)) ∙ c.in_ok-parts_of.ensures.joined in
     subst (λ items. IsTried R items c.in_ok-tried.tried) whole c.in_ok-tried.ensures

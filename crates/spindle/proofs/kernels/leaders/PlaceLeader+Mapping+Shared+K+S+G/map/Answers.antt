@@ -4,7 +4,7 @@ use Rattle.std.specs.List.{AllZip}
 use Rattle.std.proofs.lemmas.Simd.{map-map}
 use Rattle.spindle_parts.specs.Pieces.{joined}
 use Rattle.spindle.proofs.KernelLists.{joined_tasks}
-use Rattle.spindle.proofs.kernels.leaders.PlaceLeader+Mapping+Shared+K+S+G.computed.Goals as goal
+use Rattle.spindle.proofs.kernels.leaders.PlaceLeader+Mapping+Shared+K+S+G.map.Goals as goal
 
 pub returns-clause-answer : goal.returns-clause-answer
 returns-clause-answer g c =

@@ -6,7 +6,7 @@ use Rattle.spindle.specs.Folds.{total_of}
 use Rattle.spindle.specs.declared.lock.folds.Part.{Part}
 use Rattle.spindle.proofs.Folds.{total_of_chunks}
 use Rattle.spindle.proofs.KernelLists.{all_zip_map}
-use Rattle.spindle.proofs.kernels.leaders.PlaceLeader+Folds+C+S+G.total.Goals as goal
+use Rattle.spindle.proofs.kernels.leaders.PlaceLeader+Folds+C+S+G.reduce.Goals as goal
 
 pub returns-clause-answer : goal.returns-clause-answer
 returns-clause-answer g c =
