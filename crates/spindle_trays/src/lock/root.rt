@@ -6,9 +6,8 @@ ghost use Rattle.spindle_threads.specs.ThreadCounts.{lock_threads};
 
 use crate::job::gate::Gate;
 use crate::job::nest::Nest;
-use crate::lock::helpers::HelperRoom;
 use crate::lock::leader::Leader;
-use crate::lock::opening::{LeaderStart, lead};
+use crate::lock::opening::LeaderStart;
 use crate::lock::pool::Pool;
 use crate::lock::workspace::Opens;
 use spindle_parts::fault::Fault;
@@ -51,14 +50,7 @@ where
     let (round, seat) = Round::new(alloc, counts.threads())?;
     let child_slots = J::Inner::slot_count(counts.threads());
     let (tables, seats) = Tables::new(alloc, counts, pool.idling(), child_slots, round, seat)?;
-    let room = HelperRoom::new(alloc, pool.helpers(counts.threads()))?;
-    let leader_start = LeaderStart {
-        tables: &tables,
-        workspace: &workspace,
-        pool,
-        seats,
-        room,
-    };
+    let leader_start = LeaderStart::new(alloc, &tables, &workspace, pool, seats)?;
     Ok(scoped(rt, alloc, leader_start, f))
 }
 
@@ -87,6 +79,6 @@ where
             requires callable { F.IsAlwaysCallable f }
             ensures { let counts = leader_start.entry.tables.now.counts in
                 WasLed counts.most counts.threads F.FnOnce f result }
-        { lead::<_, J, G, R, F, L, H>(scope, rt, alloc, leader_start, f) },
+        { leader_start.lead::<_, J, R, F, H>(scope, rt, alloc, f) },
     )
 }
