@@ -16,8 +16,7 @@ pub use kernels::{
     map, map_pairs, passes_until, reduce_pairs, try_map, update,
 };
 pub use lock::{
-    nested, play_in_place, reduce, run_one, try_one, update_one, with_lock, with_slots,
-    with_slots_in_place,
+    play_in_place, reduce, run_one, try_one, update_one, with_lock, with_slots, with_slots_in_place,
 };
 pub use spindle_parts::fault::Fault;
 pub use spindle_parts::lists::{
