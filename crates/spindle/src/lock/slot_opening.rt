@@ -128,44 +128,46 @@ where
             requires sync { IsSync H.row }
             ensures { let of = leader_start.entry in
                 WasLed J.OpensSlots.slot_count of.start.tables.now.counts.most of.slots F.FnOnce f result }
-        { leader_start.lead::<_, J, R, F, P, H>(scope, rt, alloc, f) },
+        { lead::<_, J, A, L, G, R, F, P, H>(scope, rt, alloc, leader_start, f) },
     )
 }
 
-impl<'s, A: PieceKind + Send + 's, G: Gate + Sync, L: Send + Sync> SlotLeaderStart<
+// Starts the helpers, runs f, and dismisses and joins them.
+fn lead<
     's,
-    PieceSlots<A>,
-    G,
-    L,
-> {
-    // Starts the helpers, runs f, and dismisses and joins them.
-    fn lead<
-        E,
-        J: MakesSlots<P, PieceSlots<A>, L> + Send + 's,
-        R,
-        F: FnOnce(&mut SlotLeader<J, G, P>) -> R,
-        P: Drop,
-        H: Threads + Wait + Sync + 's,
-    >(self, scope: &Scope<'s, E>, rt: &'s H, alloc: Global, f: F) -> R
-    where
-        A::Piece: Send,
-        A::Answer: Send,
-        J::In: Send + Sync,
-        J::Out: Send,
-        J::Inner: Send,
-        <J::Inner as Nest>::ChildSlots: Send + Sync,
-        L: TakesPart<J, PieceSlots<A>>,
-        requires callable { TakesLeaders J.OpensSlots.slot_count self.slots F.FnOnce f }
-        ensures { let of = self.entry in
-            WasLed J.OpensSlots.slot_count of.start.tables.now.counts.most of.slots F.FnOnce f result }
-    {
-        let (start, share, slots) = (self.start, self.share, self.slots);
-        let (post, runner, helpers) = start.muster::<E, J, H>(scope, rt, alloc);
-        let mut leader_seats = Some(LeaderSeats::new(share, post, slots));
-        let mut leader = SlotLeader::new(runner, J::settle(&mut leader_seats));
-        let answer = f(&mut leader);
-        leader.dismiss(rt);
-        helpers.join(rt);
-        answer
-    }
+    E,
+    J: MakesSlots<P, PieceSlots<A>, L> + Send + 's,
+    A: PieceKind + Send + 's,
+    L: TakesPart<J, PieceSlots<A>> + Send + Sync,
+    G: Gate + Sync,
+    R,
+    F: FnOnce(&mut SlotLeader<J, G, P>) -> R,
+    P: Drop,
+    H: Threads + Wait + Sync + 's,
+>(
+    scope: &Scope<'s, E>,
+    rt: &'s H,
+    alloc: Global,
+    leader_start: SlotLeaderStart<'s, PieceSlots<A>, G, L>,
+    f: F,
+) -> R
+where
+    A::Piece: Send,
+    A::Answer: Send,
+    J::In: Send + Sync,
+    J::Out: Send,
+    J::Inner: Send,
+    <J::Inner as Nest>::ChildSlots: Send + Sync,
+    requires callable { TakesLeaders J.OpensSlots.slot_count leader_start.slots F.FnOnce f }
+    ensures { let of = leader_start.entry in
+        WasLed J.OpensSlots.slot_count of.start.tables.now.counts.most of.slots F.FnOnce f result }
+{
+    let (start, share, slots) = (leader_start.start, leader_start.share, leader_start.slots);
+    let (post, runner, helpers) = start.muster::<E, J, H>(scope, rt, alloc);
+    let mut leader_seats = Some(LeaderSeats::new(share, post, slots));
+    let mut leader = SlotLeader::new(runner, J::settle(&mut leader_seats));
+    let answer = f(&mut leader);
+    leader.dismiss(rt);
+    helpers.join(rt);
+    answer
 }

@@ -45,8 +45,8 @@ impl<'s, D: SlotContents + Send + 's, G: Gate + Sync, L: Send + Sync> LeaderStar
         pool: &'s Pool<G>,
         seats: Seats<D>,
     ) -> Result<LeaderStart<'s, D, G, L>, AllocError>
-        requires seats { AreSeatsAt tables.now seats }
-        ensures tables { IfOk result (λ start. start.tables.now ≡ tables.now) }
+        requires { AreSeatsAt tables.now seats }
+        ensures { IfOk result (λ start. start.tables.now ≡ tables.now) }
     {
         let room = HelperRoom::new(alloc, pool.helpers(tables.counts.threads()))?;
         Ok(LeaderStart {
@@ -91,34 +91,6 @@ impl<'s, D: SlotContents + Send + 's, G: Gate + Sync, L: Send + Sync> LeaderStar
         );
         let (post, runner) = take_post::<D, J, G, L, H>(rt, tables, workspace, gate, seats);
         (post, runner, helpers)
-    }
-}
-
-impl<'s, G: Gate + Sync, L: Send + Sync> LeaderStart<'s, Bare, G, L> {
-    /// Starts the helpers, runs f, and dismisses and joins them.
-    pub(crate) fn lead<
-        E,
-        J: Opens<L> + Send + 's,
-        R,
-        F: FnOnce(&mut Leader<J, G, L>) -> R,
-        H: Threads + Wait + Sync + 's,
-    >(self, scope: &Scope<'s, E>, rt: &'s H, alloc: Global, f: F) -> R
-    where
-        J::In: Send + Sync,
-        J::Out: Send,
-        J::Inner: Send,
-        <J::Inner as Nest>::ChildSlots: Send + Sync,
-        requires callable { F.IsAlwaysCallable f }
-        ensures { let counts = self.entry.tables.now.counts in
-            WasLed counts.most counts.threads F.FnOnce f result }
-    {
-        let workspace = self.workspace;
-        let (post, runner, helpers) = self.muster::<E, J, H>(scope, rt, alloc);
-        let mut leader = Leader::new(workspace, runner, post);
-        let answer = f(&mut leader);
-        leader.dismiss(rt);
-        helpers.join(rt);
-        answer
     }
 }
 
@@ -181,4 +153,39 @@ pub fn take_post<'s, D: SlotContents, J: Job, G: Gate, L: TakesPart<J, D>, H: Wa
     let site = tables.site(L::members(tables), 0);
     let runner = Runner::new(workspace.children(), gate, site, signals);
     (post, runner)
+}
+
+/// Starts the helpers, runs f, and dismisses and joins them.
+pub(crate) fn lead<
+    's,
+    E,
+    J: Opens<L> + Send + 's,
+    G: Gate + Sync,
+    R,
+    F: FnOnce(&mut Leader<J, G, L>) -> R,
+    L: Send + Sync,
+    H: Threads + Wait + Sync + 's,
+>(
+    scope: &Scope<'s, E>,
+    rt: &'s H,
+    alloc: Global,
+    leader_start: LeaderStart<'s, Bare, G, L>,
+    f: F,
+) -> R
+where
+    J::In: Send + Sync,
+    J::Out: Send,
+    J::Inner: Send,
+    <J::Inner as Nest>::ChildSlots: Send + Sync,
+    requires callable { F.IsAlwaysCallable f }
+    ensures { let counts = leader_start.entry.tables.now.counts in
+        WasLed counts.most counts.threads F.FnOnce f result }
+{
+    let workspace = leader_start.workspace;
+    let (post, runner, helpers) = leader_start.muster::<E, J, H>(scope, rt, alloc);
+    let mut leader = Leader::new(workspace, runner, post);
+    let answer = f(&mut leader);
+    leader.dismiss(rt);
+    helpers.join(rt);
+    answer
 }

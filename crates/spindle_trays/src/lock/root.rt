@@ -7,7 +7,7 @@ ghost use Rattle.spindle_threads.specs.ThreadCounts.{lock_threads};
 use crate::job::gate::Gate;
 use crate::job::nest::Nest;
 use crate::lock::leader::Leader;
-use crate::lock::opening::LeaderStart;
+use crate::lock::opening::{LeaderStart, lead};
 use crate::lock::pool::Pool;
 use crate::lock::workspace::Opens;
 use spindle_parts::fault::Fault;
@@ -79,6 +79,6 @@ where
             requires callable { F.IsAlwaysCallable f }
             ensures { let counts = leader_start.entry.tables.now.counts in
                 WasLed counts.most counts.threads F.FnOnce f result }
-        { leader_start.lead::<_, J, R, F, H>(scope, rt, alloc, f) },
+        { lead::<_, J, G, R, F, L, H>(scope, rt, alloc, leader_start, f) },
     )
 }
