@@ -17,8 +17,7 @@ pub use kernels::{
     update,
 };
 pub use lock::{
-    nested, play_in_place, reduce, run_one, try_one, update_one, with_lock, with_slots,
-    with_slots_in_place,
+    play_in_place, reduce, run_one, try_one, update_one, with_lock, with_slots, with_slots_in_place,
 };
 pub use spindle_parts::fault::Fault;
 pub use spindle_parts::lists::{

@@ -2,16 +2,16 @@
 //! out here.
 //!
 //! Locks with slots: `slot_root` has the calls that open them and `slot_opening` how, `slot_leader` what both kinds of their
-//! leader share, `slot_rounds` and `place_rounds` their rounds, which `spindle_slots` plays. `nested` has the calls by which a job
-//! opens them, and `slot_nest` what stands in a child slot then. `lock_of` has the calls that open a lock under the name of their
-//! kind of job. Locks for one call: `one_round` opens one for a round, `folds` for the total of a list, `place_once` for rounds
+//! leader share, `slot_rounds` and `place_rounds` their rounds, which `spindle_slots` plays. `nested` has how a job opens
+//! them, and `slot_nest` what stands in a child slot then. `lock_of` has the calls that open a lock under the name of their kind of
+//! job. Locks for one call: `one_round` opens one for a round, `folds` for the total of a list, `place_once` for rounds
 //! in place. `attempts` has the rounds in place that may stop.
 
 mod attempt;
 mod attempts;
 pub(crate) mod folds;
 mod lock_of;
-pub mod nested;
+mod nested;
 mod one_round;
 mod place_once;
 pub(crate) mod place_rounds;

@@ -7,8 +7,7 @@ use crate::kernels::{are_all, one_more_each};
 use crate::series::{PlaceSeries, Placed, Plays, Series};
 use crate::shape::{NESTED_PARTS, NESTED_ROUNDS, PART_LEN, Shape};
 use crate::stop::Stop;
-use spindle::lock::{ChunkOf, End, InPlace, JobCx, UnderPieces, Update};
-use spindle::nested::with_slots_in_place;
+use spindle::lock::{ChunkOf, End, InPlace, JobCx, LockOf, UnderPieces, Update};
 use std::alloc::Global;
 use std::marker::PhantomData;
 use std::sync::Wait;
@@ -67,7 +66,7 @@ impl<J: Placed> Update for InRounds<J> {
         cx: &mut JobCx<UnderPieces<J, ChunkOf<J>>>,
     ) -> PlaceSeries<J> {
         let threads = (cx.max_num_threads() / 2).max(1);
-        let played = with_slots_in_place::<J, _, _, _, _>(
+        let played = LockOf::<J>::nested_with_slots_in_place(
             rt,
             alloc,
             cx,

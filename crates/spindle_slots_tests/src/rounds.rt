@@ -3,7 +3,7 @@ ghost use Rattle.std.specs.Prelude.{◌<◌, ◌≤◌};
 ghost use denote.Param.Send.{IsSync};
 
 use crate::jobs::Seen;
-use spindle::lock::{Gate, Job, Nest, OpensSlots, Pool, RunsRounds, SlotLeader};
+use spindle::lock::{Gate, Job, Nest, PlaysPieces, Pool, RunsRounds, SlotLeader};
 use spindle::{Fault, with_slots};
 use std::alloc::Global;
 use std::sync::Wait;
@@ -39,38 +39,15 @@ where
         |leader|
             requires jobs { 0 < jobs }
             requires sync { IsSync H.row }
-        { play::<J, _, _>(rt, alloc, leader, jobs, rounds, items) },
+        { play(rt, alloc, leader, jobs, rounds, items) },
     )?
 }
 
-/// A leader that can be looked at, and that tells its helpers to rest.
-pub trait Seeing {
-    /// What it sees of its lock.
-    fn seen(&self) -> Seen;
-
-    /// Tells its helpers to rest.
-    fn relieve(&mut self);
-}
-
-impl<'a, J: OpensSlots<P>, G: Gate, P> Seeing for SlotLeader<'a, J, G, P> {
-    fn seen(&self) -> Seen {
-        (
-            self.current_thread_index(),
-            self.current_num_threads(),
-            self.max_num_threads(),
-        )
-    }
-
-    fn relieve(&mut self) {
-        self.relieve_workers();
-    }
-}
-
 // The rounds of a leader.
-fn play<J: Job, E: RunsRounds<J> + Seeing, H: Threads + Wait + Sync>(
+fn play<J: PlaysPieces<P>, G: Gate, P, H: Threads + Wait + Sync>(
     rt: &H,
     alloc: Global,
-    leader: &mut E,
+    leader: &mut SlotLeader<J, G, P>,
     jobs: usize,
     rounds: usize,
     items: &[J::In],
@@ -83,12 +60,16 @@ fn play<J: Job, E: RunsRounds<J> + Seeing, H: Threads + Wait + Sync>(
     let mut seen = Vec::new(alloc);
     for round in 0..rounds {
         if round % 2 == 1 {
-            leader.relieve();
+            leader.relieve_workers();
         }
         let mut inputs = items.to_vec(alloc)?;
         leader.for_each_into(rt, alloc, jobs, &mut inputs, &mut answered)?;
         answers.append(&mut answered)?;
-        seen.push(leader.seen())?;
+        seen.push((
+            leader.current_thread_index(),
+            leader.current_num_threads(),
+            leader.max_num_threads(),
+        ))?;
     }
     Ok((answers, seen))
 }

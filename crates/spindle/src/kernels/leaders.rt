@@ -75,16 +75,7 @@ impl<'a, K: Stencil + Drop, G: Gate> PlaceLeader<'a, Passing<Shared<K>>, G> {
     {
         let jobs = self.max_num_threads().saturating_mul(PIECES);
         let mut strips = strips_of(alloc, kernel, cut(alloc, &mut list, jobs)?, edge)?;
-        let (runner, post) = (&mut self.runner, &mut self.post);
-        let ended = play_passes::<Shared<K>, G, H>(
-            rt,
-            alloc,
-            runner,
-            post,
-            &mut strips,
-            edge,
-            most,
-        )?;
+        let ended = play_passes::<Shared<K>, G, H>(rt, alloc, self, &mut strips, edge, most)?;
         append_strips(strips, &mut list)?;
         Ok(Passes {
             values: list,

@@ -54,10 +54,8 @@ impl<K: Stencil + Drop> RoundsInPlace for Until<K::Value, K> {
         alloc: Global,
         leader: &mut SlotLeader<Self::Kind, G, PlaceLeaderState<Self::Kind>>,
     ) -> Result<(), Fault> {
-        let (runner, post) = (&mut leader.runner, &mut leader.post);
         let (edge, most) = (self.edge, self.most);
-        let strips = &mut self.strips;
-        let ended = play_passes::<K, G, H>(rt, alloc, runner, post, strips, edge, most)?;
+        let ended = play_passes::<K, G, H>(rt, alloc, leader, &mut self.strips, edge, most)?;
         self.count = ended.0;
         self.settled = ended.1;
         Ok(())

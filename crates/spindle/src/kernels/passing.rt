@@ -1,24 +1,22 @@
 //! Strips over which a kernel passes. A pass is one round. Before it the leader tells each strip what stands around it; a job notes
 //! whether the values of its strip have settled.
 ghost use Rattle.std.specs.Prelude.{◌≡◌, ◌<◌, ◌++◌, IfOk, OnOk, OnErr, IsErrOf, All, map, get_or};
-ghost use Rattle.std.specs.List.{AllZip};
 ghost use Rattle.std.specs.Cmp.Lexicographic.{pointwise};
 ghost use denote.Param.Send.{IsSync};
-ghost use Rattle.spindle_parts.specs.Strips.{items_of, told};
+ghost use Rattle.spindle_parts.specs.Strips.{items_of};
 ghost use Rattle.spindle.specs.Passes.{passed, all_settled, HavePassed, IsNotedBy, IsPassedOver};
+ghost use Rattle.spindle.specs.SlotLeaders.{threads_of, lock_slots};
 
 use crate::kernels::Stencil;
 use crate::kernels::held::Again;
-use crate::lock::place_rounds::update;
+use crate::lock::PlaceLeader;
 use spindle_parts::cut::{Piece, cut};
 use spindle_parts::fault::Fault;
-use spindle_parts::lists::{Strip, tell_neighbours};
-use spindle_slots::job::update::{InPlace, Update};
-use spindle_slots::leader_states::place_leader_state::PlaceLeaderState;
+use spindle_parts::lists::Strip;
+use spindle_slots::job::update::Update;
 use spindle_trays::job::context::JobCx;
 use spindle_trays::job::gate::Gate;
 use spindle_trays::job::nest::End;
-use spindle_trays::running::runner::Runner;
 use std::alloc::{AllocError, Global};
 use std::marker::PhantomData;
 use std::sync::Wait;
@@ -151,37 +149,11 @@ pub(crate) fn append_strips<V: Drop, N: Drop>(
     Ok(())
 }
 
-// One pass over all strips: whether the values of all have settled.
-fn pass<K: Stencil + Drop, G: Gate, H: Threads + Wait + Sync>(
-    rt: &H,
-    alloc: Global,
-    runner: &mut Runner<'_, InPlace<Passing<K>>, G>,
-    post: &mut PlaceLeaderState<InPlace<Passing<K>>>,
-    strips: &mut Vec<Strip<K::Value, Note<K>>>,
-    edge: K::Value,
-) -> Result<bool, Fault>
-    requires { IsSync H.row }
-    ensures passed { OnOk result
-        (AllZip (IsPassedOver K.becomes K.settles)
-        (told edge strips.old.items edge) strips.new.items) }
-    ensures settled { IfOk result (λ settled. settled ≡ all_settled strips.new.items) }
-    ensures memory { OnErr result (IsErrOf result Fault.Memory) }
-    ensures slots { post.new.post.slots ≡ post.old.post.slots }
-{
-    tell_neighbours(strips.as_mut_slice(), edge);
-    let jobs = strips.len();
-    update::<InPlace<Passing<K>>, PlaceLeaderState<InPlace<Passing<K>>>, G, H>(
-        rt, alloc, runner, post, jobs, strips,
-    )?;
-    Ok(have_settled(strips.as_slice()))
-}
-
 // Passes over the strips until all values have settled, so many at most: how many there were, and whether the values have settled.
 pub(crate) fn play_passes<K: Stencil + Drop, G: Gate, H: Threads + Wait + Sync>(
     rt: &H,
     alloc: Global,
-    runner: &mut Runner<'_, InPlace<Passing<K>>, G>,
-    post: &mut PlaceLeaderState<InPlace<Passing<K>>>,
+    leader: &mut PlaceLeader<'_, Passing<K>, G>,
     strips: &mut Vec<Strip<K::Value, Note<K>>>,
     edge: K::Value,
     most: usize,
@@ -191,11 +163,12 @@ pub(crate) fn play_passes<K: Stencil + Drop, G: Gate, H: Threads + Wait + Sync>(
         → HavePassed (K.becomes kernel) (K.settles kernel) edge most
         (items_of strips.old.items) ended.0 ended.1 (items_of strips.new.items)) }
     ensures memory { OnErr result (IsErrOf result Fault.Memory) }
-    ensures slots { post.new.post.slots ≡ post.old.post.slots }
+    ensures lock { threads_of leader.new ≡ threads_of leader.old }
+    ensures slots { lock_slots leader.new ≡ lock_slots leader.old }
 {
     for count in 0..most {
-        let settled = pass::<K, G, H>(rt, alloc, runner, post, strips, edge)?;
-        if settled {
+        leader.pass(rt, alloc, strips, edge)?;
+        if have_settled(strips.as_slice()) {
             return Ok((count + 1, true));
         }
     }

@@ -3,7 +3,7 @@ ghost use Rattle.std.specs.Prelude.{◌≡◌, ◌<◌, ◌≤◌, IfOk, OnErr, 
 ghost use Rattle.std.specs.Fn.{FnOnceReturnsAtMut};
 ghost use Rattle.spindle_threads.specs.ThreadCounts.{lock_threads};
 ghost use Rattle.spindle_trays.specs.Leaders.{hands_of, threads_of as tray_threads};
-ghost use Rattle.spindle.specs.SlotLeaders.{TakesLeaders, IsLeaderOf, threads_of};
+ghost use Rattle.spindle.specs.SlotLeaders.{TakesLeaders, IsLeaderOf};
 
 use crate::lock::slot_leader::SlotLeader;
 use crate::lock::slot_nest::UnderPieces;
@@ -27,7 +27,7 @@ use std::sync::Wait;
 use std::thread::Threads;
 
 /// The locks over jobs of kind J, as in `LockOf::<Bill>::with_slots(rt, alloc, pool, threads, slots, |leader| ..)`. No value of it is
-/// made. Each call is the function of its name, whose other types the compiler finds.
+/// made. The compiler finds the other types of each call.
 pub struct LockOf<J> {
     kind: PhantomData<J>,
 }
@@ -83,8 +83,8 @@ impl<J> LockOf<J> {
         requires slots { (1 ≤ slots) × (slots ≤ 4294967295) }
         requires callable { TakesLeaders J.OpensSlots.slot_count slots F.FnOnce f }
         ensures promise { IfOk result (λ r. (old : _) × (new : _)
-            × (threads_of old ≡ lock_threads pool.now.threads max_threads)
-            × (J.OpensSlots.slot_count old.post ≡ slots)
+            × IsLeaderOf J.OpensSlots.slot_count
+            (lock_threads pool.now.threads max_threads) slots old
             × FnOnceReturnsAtMut F.FnOnce f old r new) }
         ensures memory { OnErr result (IsErrOf result Fault.Memory) }
     {
@@ -117,15 +117,19 @@ impl<J> LockOf<J> {
         requires slots { (1 ≤ slots) × (slots ≤ 4294967295) }
         requires callable { TakesLeaders J.OpensSlots.slot_count slots F.FnOnce f }
         ensures promise { IfOk result (λ r. (old : _) × (new : _)
-            × (threads_of old ≡ lock_threads pool.now.threads max_threads)
-            × (J.OpensSlots.slot_count old.post ≡ slots)
+            × IsLeaderOf J.OpensSlots.slot_count
+            (lock_threads pool.now.threads max_threads) slots old
             × FnOnceReturnsAtMut F.FnOnce f old r new) }
         ensures memory { OnErr result (IsErrOf result Fault.Memory) }
     {
         slot_root::with_slots_in_place::<J, G, R, F, P, H>(rt, alloc, pool, max_threads, slots, f)
     }
 
-    /// Opens a lock with slots in a job: `spindle::nested::with_slots`. (A lock with trays is the context's, `JobCx::with_lock`.)
+    /// Opens a lock with slots in a job, whose rounds have at most so many jobs, runs f with its leader, and closes the lock. (A lock
+    /// with trays is the context's, `JobCx::with_lock`.)
+    ///
+    /// The lock has the least of the pool's threads, `max_threads` and 32767, its leader counted. With one thread, or where the
+    /// job's lock has no free child slot, its leader works alone. `Memory` hasn't run f, and is the only refusal.
     pub fn nested_with_slots<
         R,
         F: FnOnce(&mut SlotLeader<J, NoGate, P>) -> R,
@@ -150,10 +154,10 @@ impl<J> LockOf<J> {
         ensures memory { OnErr result (IsErrOf result Fault.Memory) }
         ensures same { cx.new ≡ cx.old }
     {
-        nested::with_slots::<J, R, F, P, H>(rt, alloc, cx, max_threads, slots, f)
+        nested::open::<J, PieceOf<J>, R, F, P, H>(rt, alloc, cx, max_threads, slots, f)
     }
 
-    /// The same for rounds in place, where J is `InPlace<M>`: `spindle::nested::with_slots_in_place`.
+    /// The same for rounds in place, where J is `InPlace<M>`.
     pub fn nested_with_slots_in_place<
         R,
         F: FnOnce(&mut SlotLeader<J, NoGate, P>) -> R,
@@ -178,6 +182,6 @@ impl<J> LockOf<J> {
         ensures memory { OnErr result (IsErrOf result Fault.Memory) }
         ensures same { cx.new ≡ cx.old }
     {
-        nested::with_slots_in_place::<J, R, F, P, H>(rt, alloc, cx, max_threads, slots, f)
+        nested::open::<J, ChunkOf<J>, R, F, P, H>(rt, alloc, cx, max_threads, slots, f)
     }
 }

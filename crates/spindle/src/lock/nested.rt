@@ -1,7 +1,5 @@
-//! Locks with slots that a job opens: over lists, and in place. Idle helpers of the job's lock move there, as to those that
-//! `JobCx::with_lock` opens, and no piece is lost in them.
-//!
-//! They are functions over the job's context, which is of the crate below.
+//! How a job opens a lock with slots, whatever they hold. Idle helpers of the job's lock move there, as to those that
+//! `JobCx::with_lock` opens.
 ghost use Rattle.std.specs.Prelude.{◌≡◌, ◌<◌, ◌≤◌, IfOk, OnErr, IsErrOf};
 ghost use Rattle.std.specs.Arc.{arc_value};
 ghost use Rattle.std.specs.Fn.{FnOnceReturnsAtMut};
@@ -12,9 +10,7 @@ use crate::lock::slot_leader::SlotLeader;
 use crate::lock::slot_nest::{NestedLeaderStart, NestedSlots, UnderPieces};
 use spindle_parts::fault::Fault;
 use spindle_rounds::round_table::pieces::PieceSlots;
-use spindle_slots::job::update::Updates;
 use spindle_slots::leader_states::slot_workspace::{MakesSlots, SlotWorkspace};
-use spindle_slots::pieces::of_kind::{ChunkOf, PieceOf};
 use spindle_slots::running::in_slots::RunsPieces;
 use spindle_slots::threads::slot_member::LeaderSeats;
 use spindle_threads::ThreadCounts;
@@ -28,68 +24,8 @@ use std::alloc::Global;
 use std::sync::Wait;
 use std::thread::Threads;
 
-/// Opens a lock with slots over jobs of kind J in a job, whose rounds have at most so many jobs, runs f with its leader, and closes the
-/// lock.
-///
-/// The lock has the least of the pool's threads, `max_threads` and 32767, its leader counted. With one thread, or where the
-/// job's lock has no free child slot, its leader works alone. `Memory` hasn't run f, and is the only refusal.
-pub fn with_slots<
-    J: MakesSlots<P, PieceSlots<PieceOf<J>>, SlotWorkspace<J>>,
-    R,
-    F: FnOnce(&mut SlotLeader<J, NoGate, P>) -> R,
-    P: Drop,
-    H: Threads + Wait + Sync,
->(
-    rt: &H,
-    alloc: Global,
-    cx: &mut JobCx<'_, UnderPieces<J, PieceOf<J>>>,
-    max_threads: usize,
-    slots: usize,
-    f: F,
-) -> Result<R, Fault>
-    requires some { 0 < max_threads }
-    requires slots { (1 ≤ slots) × (slots ≤ 4294967295) }
-    requires callable { TakesLeaders J.OpensSlots.slot_count slots F.FnOnce f }
-    ensures promise { IfOk result (λ r. (old : _) × (new : _)
-        × IsLeaderOf J.OpensSlots.slot_count (lock_threads cx.old.pool max_threads) slots old
-        × FnOnceReturnsAtMut F.FnOnce f old r new) }
-    ensures memory { OnErr result (IsErrOf result Fault.Memory) }
-    ensures same { cx.new ≡ cx.old }
-{
-    open::<J, PieceOf<J>, R, F, P, H>(rt, alloc, cx, max_threads, slots, f)
-}
-
-/// Opens a lock in a job whose rounds update lists in place, in at most so many jobs, runs f with its leader, and closes the lock.
-///
-/// J is `InPlace<M>` for a kind M of updating. It is a lock as `with_slots` opens it, and a refusal hasn't run f.
-pub fn with_slots_in_place<
-    J: MakesSlots<P, PieceSlots<ChunkOf<J>>, SlotWorkspace<J>> + Updates,
-    R,
-    F: FnOnce(&mut SlotLeader<J, NoGate, P>) -> R,
-    P: Drop,
-    H: Threads + Wait + Sync,
->(
-    rt: &H,
-    alloc: Global,
-    cx: &mut JobCx<'_, UnderPieces<J, ChunkOf<J>>>,
-    max_threads: usize,
-    slots: usize,
-    f: F,
-) -> Result<R, Fault>
-    requires some { 0 < max_threads }
-    requires slots { (1 ≤ slots) × (slots ≤ 4294967295) }
-    requires callable { TakesLeaders J.OpensSlots.slot_count slots F.FnOnce f }
-    ensures promise { IfOk result (λ r. (old : _) × (new : _)
-        × IsLeaderOf J.OpensSlots.slot_count (lock_threads cx.old.pool max_threads) slots old
-        × FnOnceReturnsAtMut F.FnOnce f old r new) }
-    ensures memory { OnErr result (IsErrOf result Fault.Memory) }
-    ensures same { cx.new ≡ cx.old }
-{
-    open::<J, ChunkOf<J>, R, F, P, H>(rt, alloc, cx, max_threads, slots, f)
-}
-
-// Opens a lock whose slots hold A's pieces, runs f with its leader, and closes the lock.
-fn open<
+/// Opens a lock whose slots hold A's pieces, runs f with its leader, and closes the lock.
+pub(crate) fn open<
     J: Job + MakesSlots<P, PieceSlots<A>, SlotWorkspace<J>>,
     A: RunsPieces<J>,
     R,

@@ -1,10 +1,6 @@
 //! Locks whose rounds are played in place: a job is given its item by value, and answers what becomes of it.
-ghost use Rattle.std.specs.Prelude.{◌≡◌, ◌<◌, ◌≤◌, OnOk, OnErr, min, vec_len};
+ghost use Rattle.std.specs.Prelude.{◌≡◌, ◌<◌, OnOk, OnErr, vec_len};
 ghost use Rattle.std.specs.List.{AllZip};
-ghost use denote.Param.Send.{IsSync};
-ghost use Rattle.spindle_threads.specs.Accounts.{account_of};
-ghost use Rattle.spindle_rounds.specs.RoundConditions.{MayFill};
-ghost use Rattle.spindle_rounds.specs.Working.{PlayedRound};
 ghost use Rattle.spindle_parts.specs.Strips.{told};
 ghost use Rattle.spindle.specs.SlotLeaders.{slot_jobs, GoesOn, IsForMemory, PlayedAs};
 
@@ -13,9 +9,7 @@ use spindle_parts::fault::Fault;
 use spindle_parts::lists::{Strip, tell_neighbours};
 use spindle_slots::job::update::{InPlace, Updates};
 use spindle_slots::leader_states::place_leader_state::{PlaceLeaderState, PlaysInPlace};
-use spindle_slots::leader_states::slot_workspace::OpensSlots;
 use spindle_trays::job::gate::Gate;
-use spindle_trays::running::runner::Runner;
 use std::alloc::Global;
 use std::sync::Wait;
 use std::thread::Threads;
@@ -45,7 +39,16 @@ impl<'a, J: PlaysInPlace<P>, G: Gate, P> SlotLeader<'a, J, G, P> {
             self.old self.new result }
         ensures goes_on { GoesOn J.OpensSlots.view J.OpensSlots.slot_count self.old self.new }
     {
-        update::<J, P, G, H>(rt, alloc, &mut self.runner, &mut self.post, n_jobs, items)
+        let slots = J::slots(&self.post);
+        if items.is_empty() {
+            return Ok(());
+        }
+        let jobs = items.len().min(n_jobs.min(slots));
+        let (runner, post) = (&mut self.runner, &mut self.post);
+        if jobs == 1 {
+            return J::play_alone(rt, alloc, post, runner, items);
+        }
+        J::play_in_place(rt, alloc, post, runner, jobs, items)
     }
 }
 
@@ -77,44 +80,4 @@ where
         tell_neighbours(strips.as_mut_slice(), edge);
         self.update_each(rt, alloc, strips.len(), strips)
     }
-}
-
-/// The same by a leader that runs jobs with this and has this post.
-pub(crate) fn update<J: PlaysInPlace<P>, P, G: Gate, H: Threads + Wait + Sync>(
-    rt: &H,
-    alloc: Global,
-    runner: &mut Runner<'_, J, G>,
-    post: &mut P,
-    n_jobs: usize,
-    items: &mut Vec<J::Item>,
-) -> Result<(), Fault>
-    requires jobs { 0 < vec_len items.old → 0 < n_jobs }
-    requires sync { IsSync H.row }
-    ensures updated { OnOk result (AllZip J.updated items.old.items items.new.items) }
-    ensures kept { OnErr result (items.new.items ≡ items.old.items) }
-    ensures refused { IsForMemory (vec_len items.old) result }
-    ensures nothing { min (vec_len items.old) (min n_jobs (J.OpensSlots.slot_count post.old)) ≡ 0
-        → (J.OpensSlots.view post.new ≡ J.OpensSlots.view post.old)
-        × (account_of runner.new.signals ≡ account_of runner.old.signals) }
-    ensures played { let jobs = min (vec_len items.old) (min n_jobs (J.OpensSlots.slot_count post.old)) in
-        OnOk result (2 ≤ jobs
-        → PlayedRound jobs (J.OpensSlots.view post.old) (J.OpensSlots.view post.new)) }
-    ensures direct { min (vec_len items.old) (min n_jobs (J.OpensSlots.slot_count post.old)) ≤ 1
-        → J.OpensSlots.view post.new ≡ J.OpensSlots.view post.old }
-    ensures left { OnErr result (J.OpensSlots.view post.new ≡ J.OpensSlots.view post.old) }
-    ensures between { MayFill (J.OpensSlots.view post.new) }
-    ensures slots { J.OpensSlots.slot_count post.new ≡ J.OpensSlots.slot_count post.old }
-{
-    let slots = J::slots(post);
-    if items.is_empty() {
-        return Ok(());
-    }
-    let jobs = items.len().min(n_jobs.min(slots));
-    let played = if jobs == 1 {
-        J::play_alone(rt, alloc, post, runner, items)
-    } else {
-        J::play_in_place(rt, alloc, post, runner, jobs, items)
-    };
-    let _slots = J::slots(post);
-    played
 }

@@ -6,8 +6,8 @@ ghost use Rattle.spindle_rounds.specs.Seating.{HasSlots};
 ghost use Rattle.spindle_threads.specs.Benches.{IsBenchAt};
 ghost use Rattle.spindle_threads.specs.Opening.{AreSeatsAt};
 
+use crate::lock::slot_opening::make;
 use spindle_parts::fault::Fault;
-use spindle_rounds::round::Round;
 use spindle_rounds::round_table::pieces::{PieceKind, PieceSlots};
 use spindle_slots::job::update::InPlace;
 use spindle_slots::leader_states::slot_workspace::SlotWorkspace;
@@ -69,13 +69,7 @@ impl<J: Job, A: RunsPieces<J>> NestedSlots<SlotWorkspace<J>, A> {
         counts: ThreadCounts,
         idling: Idling,
         slots: usize,
-    ) -> Result<
-        (
-            Child<NestedSlots<SlotWorkspace<J>, A>>,
-            NestedLeaderStart<A>,
-        ),
-        Fault,
-    >
+    ) -> Result<(Child<Self>, NestedLeaderStart<A>), Fault>
         requires slots { (1 ≤ slots) × (slots ≤ 4294967295) }
         ensures share { IfOk result (λ t. arc_value t.1.share ≡ arc_value (arc_value t.0.shared).tables) }
         ensures counts { IfOk result (λ t. (arc_value t.1.share).counts ≡ counts) }
@@ -83,22 +77,17 @@ impl<J: Job, A: RunsPieces<J>> NestedSlots<SlotWorkspace<J>, A> {
         ensures idling { IfOk result (λ t. (arc_value t.1.share).sleep.idling ≡ idling) }
         ensures memory { OnErr result (IsErrOf result Fault.Memory) }
     {
-        let threads = counts.threads();
-        let children = <J::Inner as Nest>::make(alloc, threads)?;
-        let (round, seat) = Round::with_slots(alloc, threads, slots)?;
-        let places = J::Inner::slot_count(threads);
-        let (tables, mut seats) = Tables::new(alloc, counts, idling, places, round, seat)?;
+        let children = <J::Inner as Nest>::make(alloc, counts.threads())?;
+        let (tables, mut seats) = make::<J, A>(alloc, counts, idling, slots)?;
         let spare_seats = tables.spare_seats(alloc, &mut seats)?;
         let tables = Arc::new(alloc, tables)?;
         let share = Arc::try_clone(&tables)?;
-        let shared = Arc::new(
-            alloc,
-            NestedSlots {
-                tables,
-                workspace: SlotWorkspace::new(children),
-                spare_seats,
-            },
-        )?;
+        let nested = NestedSlots {
+            tables,
+            workspace: SlotWorkspace::new(children),
+            spare_seats,
+        };
+        let shared = Arc::new(alloc, nested)?;
         let entry = NestedLeaderStart {
             share,
             seats,

@@ -2,7 +2,7 @@
 ghost use Rattle.std.specs.Prelude.{◌≡◌, ◌<◌, ◌≤◌, IfOk, OnErr, IsErrOf};
 ghost use Rattle.std.specs.Fn.{FnOnceReturnsAtMut};
 ghost use Rattle.spindle_threads.specs.ThreadCounts.{lock_threads};
-ghost use Rattle.spindle.specs.SlotLeaders.{TakesLeaders, threads_of};
+ghost use Rattle.spindle.specs.SlotLeaders.{TakesLeaders, IsLeaderOf};
 
 use crate::lock::slot_leader::SlotLeader;
 use crate::lock::slot_opening::open;
@@ -41,8 +41,7 @@ where
     requires slots { (1 ≤ slots) × (slots ≤ 4294967295) }
     requires callable { TakesLeaders J.OpensSlots.slot_count slots F.FnOnce f }
     ensures promise { IfOk result (λ r. (old : _) × (new : _)
-        × (threads_of old ≡ lock_threads pool.now.threads max_threads)
-        × (J.OpensSlots.slot_count old.post ≡ slots)
+        × IsLeaderOf J.OpensSlots.slot_count (lock_threads pool.now.threads max_threads) slots old
         × FnOnceReturnsAtMut F.FnOnce f old r new) }
     ensures memory { OnErr result (IsErrOf result Fault.Memory) }
 {
@@ -70,8 +69,7 @@ where
     requires slots { (1 ≤ slots) × (slots ≤ 4294967295) }
     requires callable { TakesLeaders J.OpensSlots.slot_count slots F.FnOnce f }
     ensures promise { IfOk result (λ r. (old : _) × (new : _)
-        × (threads_of old ≡ lock_threads pool.now.threads max_threads)
-        × (J.OpensSlots.slot_count old.post ≡ slots)
+        × IsLeaderOf J.OpensSlots.slot_count (lock_threads pool.now.threads max_threads) slots old
         × FnOnceReturnsAtMut F.FnOnce f old r new) }
     ensures memory { OnErr result (IsErrOf result Fault.Memory) }
 {

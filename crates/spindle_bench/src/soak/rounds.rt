@@ -95,7 +95,7 @@ where
         SLOTS,
         |leader| -> Result<(), Stop>
             requires { IsSync H.row }
-        { places::<_, H>(rt, leader, seen) },
+        { places(rt, leader, seen) },
     )?
 }
 
@@ -118,45 +118,22 @@ fn lists<J: Job<In = u64, Out = u64>, E: RunsRounds<J>, H: Machine>(
     Ok(())
 }
 
-fn places<E: PlaysHere, H: Machine>(rt: &H, leader: &mut E, seen: &mut Seen) -> Result<(), Stop>
+fn places<J: PlaysInPlace<P> + Updates<Item = u64>, P, H: Machine>(
+    rt: &H,
+    leader: &mut SlotLeader<J, NoGate, P>,
+    seen: &mut Seen,
+) -> Result<(), Stop>
     requires { IsSync H.row }
 {
     for _ in 0..ROUNDS {
         let (jobs, mut numbers) = seen.next_round(rt.alloc())?;
         let begun = seen.now(rt)?;
-        leader.play(rt, rt.alloc(), jobs, &mut numbers)?;
+        leader.update_each(rt, rt.alloc(), jobs, &mut numbers)?;
         if seen.note(rt, begun, numbers.as_slice())? {
             break;
         }
     }
     Ok(())
-}
-
-// A leader of rounds over numbers in place.
-trait PlaysHere {
-    // One round in so many jobs.
-    fn play<H: Threads + Wait + Sync>(
-        &mut self,
-        rt: &H,
-        alloc: Global,
-        jobs: usize,
-        numbers: &mut Vec<u64>,
-    ) -> Result<(), Fault>
-        requires sync { IsSync H.row }
-        requires jobs { 0 < jobs };
-}
-
-impl<'a, J: PlaysInPlace<P> + Updates<Item = u64>, G: Gate, P> PlaysHere
-    for SlotLeader<'a, J, G, P> {
-    fn play<H: Threads + Wait + Sync>(
-        &mut self,
-        rt: &H,
-        alloc: Global,
-        jobs: usize,
-        numbers: &mut Vec<u64>,
-    ) -> Result<(), Fault> {
-        self.update_each(rt, alloc, jobs, numbers)
-    }
 }
 
 impl Seen {

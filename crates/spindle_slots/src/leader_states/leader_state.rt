@@ -8,8 +8,6 @@ use crate::pieces::of_kind::Reuses;
 use crate::running::in_slots::RunsPieces;
 use crate::threads::slot_member::{LeaderSeats, SlotMember};
 use spindle_parts::fault::Fault;
-use spindle_rounds::round::Round;
-use spindle_rounds::round_table::Seat;
 use spindle_rounds::round_table::pieces::PieceSlots;
 use spindle_trays::job::Job;
 use spindle_trays::job::nest::Nest;
@@ -49,14 +47,6 @@ impl<J: Job, A: RunsPieces<J>> MakesSlots<LeaderState<A>, PieceSlots<A>, SlotWor
     fn workspace(alloc: Global, threads: usize) -> Result<SlotWorkspace<J>, Fault> {
         let children = <J::Inner as Nest>::make(alloc, threads)?;
         Ok(SlotWorkspace::new(children))
-    }
-
-    fn rounds(
-        alloc: Global,
-        threads: usize,
-        slots: usize,
-    ) -> Result<(Round<PieceSlots<A>>, Seat<PieceSlots<A>>), Fault> {
-        Round::with_slots(alloc, threads, slots)
     }
 
     fn settle(leader_seats: &mut Option<LeaderSeats<PieceSlots<A>>>) -> LeaderState<A> {

@@ -2,20 +2,16 @@
 //!
 //! A closure's bound can name neither a table nor a party at one, nor a type that keeps a fact about a kind of job. So the leader
 //! knows its state as a type P of which only the calls of `OpensSlots<P>` are known.
-ghost use Rattle.std.specs.Prelude.{◌≡◌, ℕ, ◌≤◌, [], true, IfOk, OnErr, IsErrOf, IsSome};
+ghost use Rattle.std.specs.Prelude.{◌≡◌, ℕ, ◌≤◌, OnErr, IsErrOf, IsSome};
 ghost use Rattle.std.specs.Option.{ForSome};
 ghost use Rattle.spindle_rounds.specs.declared.round_table.view.View.{View};
 ghost use Rattle.spindle_rounds.specs.RoundConditions.{MayFill};
-ghost use Rattle.spindle_rounds.specs.Seating.{HasSlots, IsSeatAt};
-ghost use Rattle.spindle_rounds.specs.RoundSteps.{outsider};
 
 use crate::leader_states::sealed::HasLeaderState;
 use crate::running::in_slots::{RunsPieces, SlotWork};
 use crate::threads::slot_member::LeaderSeats;
 use spindle_parts::fault::Fault;
-use spindle_rounds::round::Round;
 use spindle_rounds::round::published_round::PublishedRound;
-use spindle_rounds::round_table::Seat;
 use spindle_rounds::round_table::pieces::PieceSlots;
 use spindle_rounds::round_table::slots::SlotContents;
 use spindle_threads::member::Member;
@@ -99,14 +95,6 @@ pub trait MakesSlots<P, D: SlotContents, L>: OpensSlots<P> {
     /// The workspace of a lock of so many threads.
     fn workspace(alloc: Global, threads: usize) -> Result<L, Fault>
         ensures { OnErr result (IsErrOf result Fault.Memory) };
-
-    /// The rounds of so many threads with so many slots, and the leader's seat.
-    fn rounds(alloc: Global, threads: usize, slots: usize) -> Result<(Round<D>, Seat<D>), Fault>
-        requires threads { (1 ≤ threads) × (threads ≤ 32767) }
-        ensures opened { IfOk result (λ t. (t.0.init.threads ≡ threads)
-            × IsSeatAt t.0.init t.1 × HasSlots t.0.init slots
-            × (t.1.me ≡ (outsider threads true, []))) }
-        ensures memory { OnErr result (IsErrOf result Fault.Memory) };
 
     /// The post of a leader that has joined its barrier, and has done nothing with the slots.
     fn settle(leader_seats: &mut Option<LeaderSeats<D>>) -> P

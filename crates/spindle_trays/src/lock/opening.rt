@@ -1,5 +1,5 @@
 //! Starting the helpers of a lock, running its closure beside them, and joining them.
-ghost use Rattle.std.specs.Prelude.{◌≡◌, []};
+ghost use Rattle.std.specs.Prelude.{◌≡◌, [], IfOk};
 ghost use Rattle.spindle_trays.specs.Leaders.{WasLed};
 ghost use Rattle.spindle_threads.specs.Opening.{AreSeatsAt};
 
@@ -20,20 +20,78 @@ use spindle_threads::member::Member;
 use spindle_threads::seats::Seats;
 use spindle_threads::signals::Signals;
 use spindle_threads::tables::Tables;
-use std::alloc::Global;
+use std::alloc::{AllocError, Global};
 use std::sync::Wait;
 use std::thread::{Scope, Threads};
 
 /// What the leader of a lock comes to: the lock's tables, what stands beside them, its pool, the leader's seats, and room for the
 /// helpers.
 #[derive(Drop)]
-pub(crate) struct LeaderStart<'s, D: SlotContents, G: Gate, L> {
-    pub(crate) tables: &'s Tables<D>,
-    pub(crate) workspace: &'s L,
-    pub(crate) pool: &'s Pool<G>,
-    pub(crate) seats: Seats<D>,
-    pub(crate) room: HelperRoom,
+pub struct LeaderStart<'s, D: SlotContents, G: Gate, L> {
+    tables: &'s Tables<D>,
+    workspace: &'s L,
+    pool: &'s Pool<G>,
+    seats: Seats<D>,
+    room: HelperRoom,
     ghost seated: { AreSeatsAt tables.now seats },
+}
+
+impl<'s, D: SlotContents + Send + 's, G: Gate + Sync, L: Send + Sync> LeaderStart<'s, D, G, L> {
+    /// Makes room for the helpers that the pool starts for a lock.
+    pub fn new(
+        alloc: Global,
+        tables: &'s Tables<D>,
+        workspace: &'s L,
+        pool: &'s Pool<G>,
+        seats: Seats<D>,
+    ) -> Result<LeaderStart<'s, D, G, L>, AllocError>
+        requires { AreSeatsAt tables.now seats }
+        ensures { IfOk result (λ start. start.tables.now ≡ tables.now) }
+    {
+        let room = HelperRoom::new(alloc, pool.helpers(tables.counts.threads()))?;
+        Ok(LeaderStart {
+            tables,
+            workspace,
+            pool,
+            seats,
+            room,
+        })
+    }
+
+    /// Starts the helpers, and makes the leader a member. The leader runs jobs with what comes beside.
+    pub fn muster<E, J: Job + Send + 's, H: Threads + Wait + Sync + 's>(
+        self,
+        scope: &Scope<'s, E>,
+        rt: &'s H,
+        alloc: Global,
+    ) -> (LeaderMember<'s, D>, Runner<'s, J, G>, Helpers)
+    where
+        D::Slot: Send,
+        D::Note: Send,
+        J::In: Send + Sync,
+        J::Out: Send,
+        J::Inner: Send,
+        <J::Inner as Nest>::ChildSlots: Send + Sync,
+        L: TakesPart<J, D>,
+        ensures tables { result.0.post.tables.now ≡ self.entry.tables.now }
+        ensures counts { result.1.site.counts ≡ self.entry.tables.now.counts }
+        ensures slots { let seat = result.0.post.barrier.seat in
+            (seat.me.1 ≡ []) × (seat.me.0.board ≡ []) }
+    {
+        let LeaderStart {
+            tables,
+            workspace,
+            pool,
+            mut seats,
+            room,
+        } = self;
+        let gate = pool.gate();
+        let helpers = start::<_, D, J, G, L, H>(
+            scope, rt, alloc, tables, workspace, gate, &mut seats, room,
+        );
+        let (post, runner) = take_post::<D, J, G, L, H>(rt, tables, workspace, gate, seats);
+        (post, runner, helpers)
+    }
 }
 
 // Starts as many helpers as there is room for. One that can't be started is left out.
@@ -74,46 +132,6 @@ where
         }
     }
     Helpers { threads }
-}
-
-/// Starts the helpers, and makes the leader a member. The leader runs jobs with what comes beside.
-pub fn muster<
-    's,
-    E,
-    D: SlotContents + Send + 's,
-    J: Job + Send + 's,
-    G: Gate + Sync,
-    L: TakesPart<J, D> + Send + Sync,
-    H: Threads + Wait + Sync + 's,
->(
-    scope: &Scope<'s, E>,
-    rt: &'s H,
-    alloc: Global,
-    tables: &'s Tables<D>,
-    workspace: &'s L,
-    pool: &'s Pool<G>,
-    mut seats: Seats<D>,
-    room: HelperRoom,
-) -> (LeaderMember<'s, D>, Runner<'s, J, G>, Helpers)
-where
-    D::Slot: Send,
-    D::Note: Send,
-    J::In: Send + Sync,
-    J::Out: Send,
-    J::Inner: Send,
-    <J::Inner as Nest>::ChildSlots: Send + Sync,
-    requires seats { AreSeatsAt tables.now seats }
-    ensures tables { result.0.post.tables.now ≡ tables.now }
-    ensures counts { result.1.site.counts ≡ tables.now.counts }
-    ensures slots { let seat = result.0.post.barrier.seat in
-        (seat.me.1 ≡ []) × (seat.me.0.board ≡ []) }
-{
-    let gate = pool.gate();
-    let helpers = start::<_, D, J, G, L, H>(
-        scope, rt, alloc, tables, workspace, gate, &mut seats, room,
-    );
-    let (post, runner) = take_post::<D, J, G, L, H>(rt, tables, workspace, gate, seats);
-    (post, runner, helpers)
 }
 
 /// Makes the leader of a lock a member. The leader runs jobs with what comes beside.
@@ -163,16 +181,8 @@ where
     ensures { let counts = leader_start.entry.tables.now.counts in
         WasLed counts.most counts.threads F.FnOnce f result }
 {
-    let LeaderStart {
-        tables,
-        workspace,
-        pool,
-        seats,
-        room,
-    } = leader_start;
-    let (post, runner, helpers) = muster::<_, Bare, J, G, L, H>(
-        scope, rt, alloc, tables, workspace, pool, seats, room,
-    );
+    let workspace = leader_start.workspace;
+    let (post, runner, helpers) = leader_start.muster::<E, J, H>(scope, rt, alloc);
     let mut leader = Leader::new(workspace, runner, post);
     let answer = f(&mut leader);
     leader.dismiss(rt);

@@ -6,7 +6,6 @@ ghost use Rattle.spindle_threads.specs.ThreadCounts.{lock_threads};
 
 use crate::job::gate::Gate;
 use crate::job::nest::Nest;
-use crate::lock::helpers::HelperRoom;
 use crate::lock::leader::Leader;
 use crate::lock::opening::{LeaderStart, lead};
 use crate::lock::pool::Pool;
@@ -51,14 +50,7 @@ where
     let (round, seat) = Round::new(alloc, counts.threads())?;
     let child_slots = J::Inner::slot_count(counts.threads());
     let (tables, seats) = Tables::new(alloc, counts, pool.idling(), child_slots, round, seat)?;
-    let room = HelperRoom::new(alloc, pool.helpers(counts.threads()))?;
-    let leader_start = LeaderStart {
-        tables: &tables,
-        workspace: &workspace,
-        pool,
-        seats,
-        room,
-    };
+    let leader_start = LeaderStart::new(alloc, &tables, &workspace, pool, seats)?;
     Ok(scoped(rt, alloc, leader_start, f))
 }
 

@@ -13,9 +13,10 @@ loop-count-preserved g c =
     let new : List (Strip g.row.K-Value.Denot (Note g.row.K.Denot)) = c.pass.new.strips.items in
     let not : all_settled new ≡ false = search rules in (
       search rules,
+      search rules,
       λ kernel noted.
-          let i = c.loop-count.invariant.1 kernel noted in
-          goes_on f s kernel (items_of c.args.strips.now.items) c.args.edge c.loop-count.count c.loop-count.strips.items new i.0 i.1 i.2 c.in_ok-settled.ensures.passed not,
+          let i = c.loop-count.invariant.2 kernel noted in
+          goes_on f s kernel (items_of c.args.strips.now.items) c.args.edge c.loop-count.count c.loop-count.strips.items new i.0 i.1 i.2 c.in_ok-pass.ensures.updated not,
     )
 
 pub returns-then-settled-clause-passed : goal.returns-then-settled-clause-passed
@@ -24,14 +25,14 @@ returns-then-settled-clause-passed g c = λ kernel noted.
     let new : List (Strip g.row.K-Value.Denot (Note g.row.K.Denot)) = c.pass.new.strips.items in
     let all : all_settled new ≡ true = search rules in
     let few : c.loop-count.count < c.args.most = search rules in
-    let i = c.loop-count.invariant.1 kernel noted in
-    ends_here f s kernel (items_of c.args.strips.now.items) c.args.edge c.loop-count.count c.loop-count.strips.items new i.0 i.1 i.2 c.in_ok-settled.ensures.passed
+    let i = c.loop-count.invariant.2 kernel noted in
+    ends_here f s kernel (items_of c.args.strips.now.items) c.args.edge c.loop-count.count c.loop-count.strips.items new i.0 i.1 i.2 c.in_ok-pass.ensures.updated
     c.args.most few all
 
 pub returns-clause-passed : goal.returns-clause-passed
 returns-clause-passed g c = λ kernel noted.
     let f = g.K.Stencil.becomes kernel in let s = g.K.Stencil.settles kernel in
-    let i = c.loop-count.invariant.1 kernel noted in
+    let i = c.loop-count.invariant.2 kernel noted in
     let start : List g.row.K-Value.Denot = items_of c.args.strips.now.items in
     let end : c.loop-count.count ≡ c.args.most = search rules in
     ends_at_most f s c.args.edge c.args.most start (items_of c.loop-count.strips.items)

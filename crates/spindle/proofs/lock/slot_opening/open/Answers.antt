@@ -7,23 +7,22 @@ use Rattle.spindle_rounds.specs.Seating.{slots_of}
 use Rattle.spindle.specs.SlotLeaders.{WasLed}
 use Rattle.spindle.proofs.lock.slot_opening.open.Goals as goal
 
-pub invariant_of-leader_start-clause-seated : goal.invariant_of-leader_start-clause-seated
-invariant_of-leader_start-clause-seated g c =
-    subst (λ t. AreSeatsAt t c.in_ok-tables.seats) (sym (c.deref.ensures ∙ c.in_ok-tables-2.ensures.ok)) c.in_ok-tables.ensures.made.1
+pub new-2-requires : goal.new-2-requires
+new-2-requires g c = subst (λ t. AreSeatsAt t c.in_ok-tables.seats) (sym (c.deref.ensures ∙ c.in_ok-tables-2.ensures.ok)) c.in_ok-tables.ensures.made.1
 
 pub invariant_of-leader_start-clause-many : goal.invariant_of-leader_start-clause-many
-invariant_of-leader_start-clause-many g c = ap (λ t. slots_of t.round.init) (c.deref.ensures ∙ c.in_ok-tables-2.ensures.ok) ∙ c.in_ok-tables.ensures.made.2
+invariant_of-leader_start-clause-many g c =
+    ap (λ t. slots_of t.round.init) (c.in_ok-start.ensures ∙ c.deref.ensures ∙ c.in_ok-tables-2.ensures.ok) ∙ c.in_ok-tables.ensures.made.2
 
 pub returns-clause-promise : goal.returns-clause-promise
 unfolding WasLed
 returns-clause-promise g c =
     let size : c.new-counts.result.most ≡ lock_threads c.args.pool.now.threads c.args.max_threads =
     c.new-counts.ensures.most ∙ ap (λ n. lock_threads n c.args.max_threads) c.max_num_threads.ensures.number in
-    let shared = c.deref.ensures ∙ c.in_ok-tables-2.ensures.ok in
+    let shared = c.in_ok-start.ensures ∙ c.deref.ensures ∙ c.in_ok-tables-2.ensures.ok in
     let p = c.scoped.ensures in (
       p.0,
       p.1,
-      p.2.0 ∙ (ap (λ t. t.counts.most) shared ∙ (ap (λ (k : ThreadCounts). k.most) c.in_ok-tables.ensures.made.0 ∙ size)),
-      p.2.1,
+      (p.2.0 ∙ (ap (λ t. t.counts.most) shared ∙ (ap (λ (k : ThreadCounts). k.most) c.in_ok-tables.ensures.made.0 ∙ size)), p.2.1),
       p.3,
     )

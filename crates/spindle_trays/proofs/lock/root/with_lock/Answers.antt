@@ -12,8 +12,9 @@ returns-clause-promise g c =
     let size : c.new-counts.result.most ≡ lock_threads c.args.pool.now.threads c.args.max_threads =
     new.most ∙ ap (λ n. lock_threads n c.args.max_threads) c.max_num_threads.ensures.number in
     let p = c.scoped.ensures in
-    let most = p.2 ∙ ap (λ (k : ThreadCounts). k.most) counts in
-    (p.0, p.1, most ∙ size, p.3 ∙ (ap (λ (k : ThreadCounts). k.threads) counts ∙ new.all ∙ sym most), p.4)
+    let same = c.in_ok-leader_start.ensures in
+    let most = p.2 ∙ (ap (λ t. t.counts.most) same ∙ ap (λ (k : ThreadCounts). k.most) counts) in
+    (p.0, p.1, most ∙ size, p.3 ∙ (ap (λ t. t.counts.threads) same ∙ (ap (λ (k : ThreadCounts). k.threads) counts ∙ (new.all ∙ sym most))), p.4)
 
 pub returns-in_err-workspace-clause-memory : goal.returns-in_err-workspace-clause-memory
 returns-in_err-workspace-clause-memory g c = search rules

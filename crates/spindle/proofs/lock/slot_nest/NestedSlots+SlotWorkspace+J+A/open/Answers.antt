@@ -1,31 +1,20 @@
--- The tables were opened for the crew with these slots, and its seats and benches stand at the tables that are shared.
-use Rattle.std.proofs.Common.{[], true, All, ap, sym, subst, ◌∙◌}
+-- The tables were made for these threads with these slots, and its seats and benches stand at the tables that are shared.
+use Rattle.std.proofs.Common.{All, ap, sym, subst, ◌∙◌}
 use Rattle.std.specs.Arc.{arc_value}
-use Rattle.spindle_rounds.specs.RoundSteps.{outsider}
 use Rattle.spindle_rounds.specs.Seating.{slots_of}
 use Rattle.spindle_threads.specs.Benches.{IsBenchAt}
 use Rattle.spindle_threads.specs.Opening.{AreSeatsAt}
 use Rattle.spindle.proofs.lock.slot_nest.NestedSlots+SlotWorkspace+J+A.open.Goals as goal
 
-pub with_slots-requires : goal.with_slots-requires
-with_slots-requires g c = record { threads = (c.threads-threads.ensures.some, c.threads-threads.ensures.most) }
-
-pub new-requires : goal.new-requires
-new-requires g c = let opened = c.in_ok-round.ensures.opened in record {
-  sized = opened.0 ∙ c.threads-threads.ensures.number;
-  seated = opened.1;
-  outside = opened.4 ∙ ap (λ n. (outsider n true, [])) (sym opened.0);
-}
-
-pub invariant_of-new : goal.invariant_of-new
-invariant_of-new g c = record {
+pub invariant_of-nested : goal.invariant_of-nested
+invariant_of-nested g c = record {
   seated = subst (λ t. All (IsBenchAt t) c.in_ok-spare_seats.spare_seats.items) (sym c.in_ok-tables-2.ensures.ok) c.in_ok-spare_seats.ensures.spare_seats;
 }
 
 pub invariant_of-entry : goal.invariant_of-entry
 invariant_of-entry g c = let shared = c.in_ok-share.ensures ∙ c.in_ok-tables-2.ensures.ok in record {
   seated = subst (λ t. AreSeatsAt t c.spare_seats.new.seats) (sym shared) c.spare_seats.ensures.seats;
-  many = ap (λ t. slots_of t.round.init) shared ∙ (ap (λ r. slots_of r.init) c.in_ok-tables.ensures.round ∙ c.in_ok-round.ensures.opened.3);
+  many = ap (λ t. slots_of t.round.init) shared ∙ c.in_ok-tables.ensures.made.2;
   few = c.requires.slots;
 }
 
@@ -33,7 +22,7 @@ pub returns-clause-share : goal.returns-clause-share
 returns-clause-share g c = c.in_ok-share.ensures ∙ ap (λ n. arc_value n.tables) (sym c.in_ok-shared.ensures.ok)
 
 pub returns-clause-counts : goal.returns-clause-counts
-returns-clause-counts g c = ap (λ t. t.counts) (c.in_ok-share.ensures ∙ c.in_ok-tables-2.ensures.ok) ∙ c.in_ok-tables.ensures.counts
+returns-clause-counts g c = ap (λ t. t.counts) (c.in_ok-share.ensures ∙ c.in_ok-tables-2.ensures.ok) ∙ c.in_ok-tables.ensures.made.0
 
 pub returns-clause-idling : goal.returns-clause-idling
 returns-clause-idling g c = ap (λ t. t.sleep.idling) (c.in_ok-share.ensures ∙ c.in_ok-tables-2.ensures.ok) ∙ c.in_ok-tables.ensures.idling

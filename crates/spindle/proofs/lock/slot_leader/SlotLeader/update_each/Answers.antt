@@ -1,0 +1,9 @@
+-- There are two jobs or more, and no more than there are items or slots.
+use Rattle.std.proofs.Common.{refl, rules}
+use Rattle.spindle.proofs.Jobs.{some_jobs, two_jobs}
+use Rattle.spindle.proofs.lock.slot_leader.SlotLeader.update_each.Goals as goal
+
+pub play_in_place-requires-clause-jobs : goal.play_in_place-requires-clause-jobs
+play_in_place-requires-clause-jobs g c =
+    let jobs = some_jobs _ _ _ _ _ _ c.if-is_empty.ensures c.requires.jobs c.slots-slots.ensures.range.0 c.len.ensures c.min.ensures c.min-jobs.ensures in
+    let two = two_jobs _ _ _ _ refl jobs.0 c.if-jobs-eq1.false jobs.2 c.slots-slots.ensures.number in (two.0, jobs.1, two.1)
