@@ -1,7 +1,7 @@
 -- A load that asks what is left: between rounds the leader knows from then on what stands there.
-use Rattle.std.proofs.Common.{◌≡◌, ◌≢◌, ⊎_elim, ℕ, ◌<◌, ◌≤◌, Bool, true, false, List, [], ◌∷◌, get_or, sym, refl, ap, ◌∙◌, subst, arith, Some}
+use Rattle.std.proofs.Common.{◌≡◌, ◌≢◌, ⊎_elim, ℕ, ◌<◌, ◌≤◌, Bool, true, false, List, [], ◌∷◌, get_or, sym, refl, ap, ◌∙◌, subst, arith, Some, set}
 use Rattle.std.proofs.Common.{if◌then◌else◌, ◌==◌, nat_lt}
-use mathlib.Core.Option.{some}
+use mathlib.Core.Option.{some, some-ne-none}
 use lib.ListN.{get_elem?}
 use lib.Seq.{set-get_or}
 use Rattle.atomic_table.specs.Table as table
@@ -43,6 +43,10 @@ known_more true i x st ws le is old k y h = by_equal i k (λ b. (if b then Some 
 none_known : (b : Bool) (i x : ℕ) (st : List (ℕ × ℕ)) → (b ≡ true → ⊥) → st ≡ [] → (if b then (i, x) ∷ st else st) ≡ []
 none_known false i x st not e = e
 none_known true i x st not e = absurd (not refl)
+
+set_first : {A : Type 0} (l : List A) (a b : A) → get_elem? l 0 ≡ some a → get_elem? (set l 0 b) 0 ≡ some b
+set_first [] a b e = absurd (some-ne-none a (sym e))
+set_first (x ∷ xs) a b e = refl
 
 module _ {X N : Type 0} (D : Discipline X N) (law : Lawful D) (t : ℕ) where
   found : (run : List Event) (s : table.State X (View N)) (r : Rule D t run s) (i j id : ℕ) (empty : Bool) (me : SeatOf D t) → get_elem? s.views id ≡ some me.0
@@ -99,13 +103,24 @@ module _ {X N : Type 0} (D : Discipline X N) (law : Lawful D) (t : ℕ) where
   }
 
   -- and what is left of the remainder
-  pub remainder_finds : (slots id : ℕ) (me : SeatOf D t) → PlainLoad D t slots id me remainder_at FindRestTells
+  pub remainder_finds : (slots id : ℕ) (me : SeatOf D t) → PlainLoad D t slots id me remainder_at (FindRestTells D)
   remainder_finds slots id me = record {
-    shows = λ run s r _ at _. let x : ℕ = get_or s.words remainder_at 0 in (
-      finding remainder_at x (reading_remainder x me.0),
-      keeps,
-      tt,
-      found run s r remainder_at me.0.threads id (x == 0) me at (omega arith) (remainder_shows D law t id me run s r at),
-      (refl, refl),
-    );
+    shows = λ run s r _ at _. let x : ℕ = get_or s.words remainder_at 0 in let w : View N = finding remainder_at x (reading_remainder x me.0) in
+        let rule = found run s r remainder_at me.0.threads id (x == 0) me at (omega arith) (remainder_shows D law t id me run s r at) in (
+          w,
+          keeps,
+          tt,
+          rule,
+          (
+            refl,
+            refl,
+            λ may. let leads = (((r.seats id me.0 at).0.inside may.0.0 may.0.1).unpublished may.1).0 in (
+              t,
+              stepped s remainder_at x id me.1 w keeps,
+              record { run = run; by_run = rule },
+              subst (λ (a : ℕ). get_elem? (set s.views a w) 0 ≡ some w) (sym leads)
+                  (set_first s.views me.0 w (subst (λ (a : ℕ). get_elem? s.views a ≡ some me.0) leads at)),
+            ),
+          ),
+        );
   }

@@ -1,6 +1,6 @@
 -- A round is stopped, a member sees it, and puts its share back.
 use Rattle.std.proofs.Common.{◌≡◌, ◌≢◌, ◌⊎◌, inl, inr, ⊎_elim, ℕ, ◌<◌, ◌≤◌, Bool, true, false, eq-eqb, List, [], ◌∷◌, length, get_or, set}
-use Rattle.std.proofs.Common.{get_or-set_same, get_or-set_other, sym, refl, ap, ◌∙◌, subst, arith, None, if◌then◌else◌, ◌==◌, ◌++◌}
+use Rattle.std.proofs.Common.{get_or-set_same, get_or-set_other, sym, refl, ap, ◌∙◌, subst, arith, Option, None, Some, if◌then◌else◌, ◌==◌, ◌++◌}
 use mathlib.Core.Logic.{dite}
 use mathlib.Core.Option.{none}
 use native.Mathlib.Decide.{ℕ_discrete}
@@ -16,9 +16,9 @@ use Rattle.spindle_rounds.specs.declared.round_table.view.Kind.{Kind}
 use Rattle.spindle_rounds.specs.declared.round_table.view.Standing.TheVariants.{Inside}
 use Rattle.spindle_rounds.specs.declared.round_table.view.View.{View}
 use Rattle.spindle_rounds.specs.RoundSlots.{Discipline, Lawful}
-use Rattle.spindle_rounds.specs.RoundShown.{deeds, Stands, Shows, IsShare, Words, Counters, InRange, InRemainder, IsWithin}
+use Rattle.spindle_rounds.specs.RoundShown.{Stopped, stopped_by, deeds, Stands, Shows, IsShare, Words, Counters, InRange, InRemainder, IsWithin}
 use Rattle.spindle_rounds.specs.Words.{finished_at, stopped_at, remainder_at, range_at, start_of, end_of}
-use Rattle.spindle_rounds.specs.RoundSteps.{stopping, seeing, putting_back}
+use Rattle.spindle_rounds.specs.RoundSteps.{stopping, seeing, putting_back, round_of, number_or}
 use Rattle.spindle_rounds.specs.RoundTells.{StopTells, SeeTells, PutBackTells}
 use Rattle.spindle_rounds.specs.RoundConditions.{MayStop, MaySee, MayPutBack}
 use Rattle.spindle_rounds.specs.RoundRuns.{Load, Store, Exchange}
@@ -84,12 +84,16 @@ module _ {X N : Type 0} (D : Discipline X N) (law : Lawful D) (t : ℕ) where
   halts slots id me k may = stores D law t slots id me stopped_at 1 (Stop id ∷ []) stopping (step slots stopped_at 1 0 none) (λ run s b. let r = b.rule in
       let at = b.at in let S : State = state run in let seat = r.seats id me.0 at in let shows = seat.0 in
       let number = (shows.inside may.0.0.0 may.0.0.1).number may.1.0 may.1.1 in let seen : ℕ → Bool = put (now S).seen id true in
+      let runs : (party S id).running ≡ Some k = shows.claim ∙ may.0.1 in
+      let own : S.round ≡ round_of me.0.standing = (subst (Stands S id) may.0.0.1 shows.stands).1 ∙ sym (ap round_of may.0.0.1) in
       let w : View N = stopping 1 me.0 in
       moves D law t run s r stopped_at 1 id me w (Stop id ∷ []) at (refl, tt) (tt, tt) (refl, refl, refl)
-      (((k, shows.claim ∙ may.0.1), number.1 ∙ may.2), r.is_run)
+      (((k, runs), number.1 ∙ may.2), r.is_run)
       (words_after S true seen t s.words 1 r.words (λ _. refl) (λ e. absurd cc) (λ e. absurd cc))
       (sees_stop S id may.0.0.0 me.0 shows may.0.0.1 w.trail)
-      (seat.1 ∙ sym (no_deed id (deeds id run))) refl (inr refl) refl refl (inr (λ e. let a = number.0 in cc)))
+      ((λ z. Stopped (sym own z) (number_or (may.0.1 z)) ∷ seat.1 z) ∙ sym
+      (ap (λ (b : Bool). (if b then stopped_by S.round (party S id).running else []) ++ deeds id run) (eq-eqb id id refl) ∙ ap
+      (λ (o : Option ℕ). stopped_by S.round o ++ deeds id run) runs)) refl (inr refl) refl refl (inr (λ e. let a = number.0 in cc)))
 
   -- the word says whether the round was stopped
   pub sees : (slots id : ℕ) (me : SeatOf D t) → MaySee me.0 → Load D t slots id me stopped_at (λ found. if found == 1 then See id ∷ [] else []) SeeTells

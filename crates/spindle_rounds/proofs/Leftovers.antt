@@ -1,11 +1,14 @@
 -- What the leader knows of what a round has left, and what it marks.
 use Rattle.std.proofs.Common.{◌≡◌, ◌≢◌, ◌⊎◌, ◌↔◌, inl, inr, ⊎_elim, ℕ, zero, suc, ◌+◌, ◌<◌, ◌≤◌, Bool, true, false, List, [], ◌∷◌, length, get_or}
-use Rattle.std.proofs.Common.{slice_set, get_or-set_same, get_or-set_other, sym, refl, ap, ◌∙◌, subst, arith, Option, Some, if◌then◌else◌, ◌==◌, eq-eqb}
+use Rattle.std.proofs.Common.{slice_set, get_or-set_same, get_or-set_other, sym, refl, ap, ◌∙◌, subst, arith, Option, None, Some, if◌then◌else◌, ◌==◌, eq-eqb}
 use Rattle.std.proofs.Common.{ne_eqb}
 use mathlib.Core.Logic.{dite}
 use native.Mathlib.Decide.{ℕ_discrete}
-use Rattle.spindle_parts.specs.State.{State}
-use Rattle.spindle_parts.specs.Runs.{state}
+use Rattle.spindle_parts.specs.State.{State, party, times}
+use Rattle.spindle_parts.specs.Steps.{Event, Allowed}
+use Rattle.spindle_parts.specs.Runs.{state, IsRun}
+use Rattle.spindle_parts.proofs.Fates.{started}
+use Rattle.spindle_parts.proofs.Soundness.{Sound, sound}
 use Rattle.spindle_rounds.specs.declared.round_table.view.View.{View}
 use Rattle.spindle_rounds.specs.declared.round_table.view.Kind.{Kind}
 use Rattle.spindle_rounds.specs.declared.round_table.view.Kind.TheVariants as kind
@@ -14,13 +17,14 @@ use Rattle.spindle_parts.specs.Trail.{trace}
 use Rattle.spindle_rounds.specs.RoundSteps.{searching, reading_remainder}
 use Rattle.spindle_rounds.specs.RoundSlots.{Discipline}
 use Rattle.spindle_rounds.specs.RoundRule.{stored_at}
-use Rattle.spindle_rounds.specs.RoundShown.{Showed, deeds_of, IsLeft, InRange, InRemainder, IsWithin}
+use Rattle.spindle_rounds.specs.RoundShown.{Deed, Began, Ended, Showed, Stopped, ended_in, stopped_by, deed, deeds, deeds_of, IsLeft, InRange, InRemainder, IsWithin}
 use Rattle.spindle_rounds.specs.Words.{remainder_at, range_at, start_of, end_of}
 use Rattle.spindle_rounds.specs.RoundConditions.{MayFill}
+use Rattle.spindle_rounds.specs.RoundViews.{stopped_of, stops_of}
 use Rattle.spindle_rounds.specs.SlotSteps.{IsDeed}
-use Rattle.spindle_rounds.specs.Leftovers.{is_between, finding, AreKnown, IsInRanges, IsInRest, IsLeftBy, AreUnbegun, IsMarked, last_left}
-use Rattle.spindle_rounds.proofs.RoundTrails.{trails_begun}
-use Rattle.spindle_rounds.proofs.PlainRounds.{was_shown}
+use Rattle.spindle_rounds.specs.Leftovers.{is_between, finding, AreKnown, IsInRanges, IsInRest, IsLeftBy, AreUnbegun, HasMoment, IsMarked, last_left}
+use Rattle.spindle_rounds.proofs.RoundTrails.{by_deed, begun_adds, trails_begun}
+use Rattle.spindle_rounds.proofs.PlainRounds.{newest_deed, was_shown}
 
 some_same : (a b : ℕ) → Some a ≡ Some b → a ≡ b
 some_same a b e = cc
@@ -59,6 +63,51 @@ every_leftover {S = X} {N = N} D v q n may_stop may laid shown known t s rule at
           subst (λ (a : ℕ). IsLeftBy words a n k) (sym sized)
           (by_left t n s.words words holds (subst (AreKnown words) sized known) k below (subst (λ (a : ℕ). IsLeft t s.words a k) same a))),
     )
+
+-- a stop among the stops is among the deeds
+stopped_deed : (d : Deed) (ds : List Deed) → IsDeed d (stopped_of ds) → IsDeed d ds
+stopped_deed d [] e = e
+stopped_deed d (Began q k ∷ ds) e = inr (stopped_deed d ds e)
+stopped_deed d (Ended q k ∷ ds) e = inr (stopped_deed d ds e)
+stopped_deed d (Showed q n b ∷ ds) e = inr (stopped_deed d ds e)
+stopped_deed d (Stopped q k ∷ ds) e = ⊎_elim inl (λ z. inr (stopped_deed d ds z)) e
+
+-- the number of a party that stops a round has begun in it
+stopped_began : (q k p : ℕ) (es : List Event) → IsRun es → IsDeed (Stopped q k) (deeds p es) → 0 < times k ((state es).rounds q).begun
+stopped_began q k p [] ok d = absurd d
+stopped_began q k p (e ∷ es) ok d = let s : State = state es in let h = sound es ok.1 in let adds = begun_adds k q s h e ok.0 in
+    let before : 0 < times k (s.rounds q).begun = ⊎_elim (λ own. new s h e ok.0 own) (λ old. stopped_began q k p es ok.1 old)
+    (newest_deed (Stopped q k) p e es d) in omega arith
+  where
+    runs_one : (s : State) → Sound s → (a j : ℕ) → (party s a).running ≡ Some j → (o : Option ℕ) → o ≡ Some j → IsDeed (Stopped q k) (stopped_by s.round o)
+        → 0 < times k (s.rounds q).begun
+    runs_one s h a j runs None is own = absurd own
+    runs_one s h a j runs (Some i) is own = let one : Stopped s.round i ≡ Stopped q k = ⊎_elim (λ z. z) (λ z. absurd z) own in
+        let here : s.round ≡ q = cc in let same : j ≡ k = cc in let begun = h.work.begun j ∙ ap started ((h.work.fits a).ran j runs) in
+        subst (λ (z : ℕ × ℕ). 0 < times z.0 (s.rounds z.1).begun) (λ x. (same x, here x)) (omega arith)
+
+    new : (s : State) → Sound s → (e : Event) → Allowed s e → IsDeed (Stopped q k) (deed s e) → 0 < times k (s.rounds q).begun
+    new s h = by_deed s (λ e. Allowed s e → IsDeed (Stopped q k) (deed s e) → 0 < times k (s.rounds q).begun)
+        (λ e _ none ok own. absurd (subst (IsDeed (Stopped q k)) none own))
+        (λ a n ok own. absurd (other (λ z. cc) own)) (λ a n ok own. absurd (other (λ z. cc) own)) (λ a j ok own. absurd (other (λ z. cc) own))
+        (λ a ok own. absurd (no_end (party s a).running own))
+        (λ a ok own. runs_one s h a ok.0.0 ok.0.1 (party s a).running ok.0.1 own)
+      where
+        other : {x : Deed} → (x ≡ Stopped q k → ⊥) → IsDeed (Stopped q k) (x ∷ []) → ⊥
+        other ne own = ⊎_elim ne (λ z. z) own
+
+        no_end : (o : Option ℕ) → IsDeed (Stopped q k) (ended_in s.round o) → ⊥
+        no_end None z = z
+        no_end (Some j) z = other (λ y. cc) z
+
+-- so it isn't among those that nobody has begun, as a moment shows
+pub stopped_begun : {S N : Type 0} (D : Discipline S N) (v : View N) (q n k : ℕ) (P : ℕ → Type 0) → HasMoment D v → AreUnbegun D q n v P
+    → IsDeed (Stopped q k) (stops_of v.trail) → P k → ⊥
+stopped_begun D v q n k P moment unbegun stopped left = let s = moment.1 in let rule = moment.2 in let r = rule.by_run in
+    let none = ((unbegun moment.0 s rule moment.3 k).0 left).1 in
+    let told = trails_begun k q rule.run r.is_run s.views (λ p u here. (r.seats p u here).1) (λ p le. (r.beyond p le).2) in
+    let own = subst (IsDeed (Stopped q k)) (r.seats 0 v moment.3).1 (stopped_deed (Stopped q k) (deeds_of v.trail) stopped) in
+    let some = stopped_began q k 0 rule.run r.is_run own in omega arith
 
 -- Marks.
 

@@ -14,7 +14,7 @@ use Rattle.spindle_rounds.specs.Spans.{Span}
 use Rattle.spindle_rounds.specs.RoundAnswers.{SharedBy, PutBy}
 use Rattle.spindle_rounds.specs.RoundConditions.{MayClaim, IsDone, HasEmptiedAll}
 use Rattle.spindle_rounds.specs.RoundSlots.{Discipline}
-use Rattle.spindle_rounds.specs.RoundViews.{Onward, SeesAsBefore, SharesAsBefore}
+use Rattle.spindle_rounds.specs.RoundViews.{Onward, SeesAsBefore, SharesAsBefore, stops_of}
 use Rattle.spindle_rounds.specs.Seating.{IsSameSeat}
 use Rattle.spindle_rounds.specs.Sources.{HasEmptied}
 use Rattle.spindle_rounds.specs.Working.{IsIdle}
@@ -34,7 +34,7 @@ over_on v w on all = λ i le. on.emptied i (all i (let same = on.threads in omeg
 pub finish_after : {N : Type 0} (found : ℕ) (u v w : View N) → Onward u v → (u.known.may_stop ≡ false → SeesAsBefore u v) → SharesAsBefore u v
     → HasFinished found v w → HasFinished found u w
 finish_after found u v w on sees same f =
-    (onward_then u v w on f.0, (λ plain. f.1 (on.may_stop ∙ plain) ∙ sees plain), (f.2.0 ∙ same.0, f.2.1 ∙ same.1), f.3, λ last. f.4 (on.number ∙ last))
+    (onward_then u v w on f.0, (λ plain. let a = f.1 (on.may_stop ∙ plain) in let b = sees plain in (a.0 ∙ b.0, a.1 ∙ b.1)), (f.2.0 ∙ same.0, f.2.1 ∙ same.1), f.3, λ last. f.4 (on.number ∙ last))
 
 module _ {T S N : Type 0} (round : Round T S N) (task : PublishedRound) where
   pub went_first : (s : Seat S (View N)) → IsAtTask round task s → WentOn round task s s
@@ -52,7 +52,7 @@ module _ {T S N : Type 0} (round : Round T S N) (task : PublishedRound) where
     at = record {
       seated = same.0 ∙ at.seated;
       sized = step.threads ∙ at.sized;
-      on = (still_at_work task.jobs task.may_stop s.me.0 t.me.0 at.on.0 step, λ plain. sees (at.on.0.may_stop ∙ plain) ∙ at.on.1 plain);
+      on = (still_at_work task.jobs task.may_stop s.me.0 t.me.0 at.on.0 step, λ plain. (sees (at.on.0.may_stop ∙ plain)).0 ∙ at.on.1 plain);
     };
   }
 
@@ -83,7 +83,7 @@ module _ {T S N : Type 0} (round : Round T S N) (task : PublishedRound) where
   -- no step was made
   pub went_still : (s t u : Seat S (View N)) → WentOn round task s t → IsSameSeat t u → u.me ≡ t.me → WentOn round task s u
   went_still s t u went same is = went_more s t u went same (subst (λ m. Onward t.me.0 m.0) (sym is) (onward_same t.me.0))
-      (λ _. ap (λ m. m.0.known.seen_stop) is)
+      (λ _. (ap (λ m. m.0.known.seen_stop) is, ap (λ m. stops_of m.0.trail) is))
 
 module _ {S N : Type 0} where
   -- the next number of a share has taken its slot

@@ -1,7 +1,7 @@
 -- What the leader's loops over its slots need: what stands where once all are out, and once they are back.
 -- After `take_slots` all_out says of the board that every slot is out, and numbered_at finds a slot in the hand. published_last makes
 -- HasPublished of the last publish in the trail.
-use Rattle.std.proofs.Common.{◌≡◌, inl, inr, ⊎_elim, ℕ, zero, suc, ◌+◌, ◌<◌, ◌≤◌, false, List, [], ◌∷◌, ◌++◌, length, sym, refl, ap, ◌∙◌, subst, arith}
+use Rattle.std.proofs.Common.{◌≡◌, inl, inr, ⊎_elim, ℕ, zero, suc, ◌+◌, ◌<◌, ◌≤◌, Bool, false, List, [], ◌∷◌, ◌++◌, length, sym, refl, ap, ◌∙◌, subst, arith}
 use mathlib.Core.Logic.{dite}
 use mathlib.Core.Option.{some, some-injective, some-ne-none}
 use native.Mathlib.Decide.{ℕ_discrete}
@@ -13,7 +13,7 @@ use Rattle.spindle_rounds.specs.declared.round_table.view.Spot.TheVariants.{Out,
 use Rattle.spindle_rounds.specs.declared.round_table.pieces.SlotState.{SlotState}
 use Rattle.spindle_rounds.specs.declared.round_table.pieces.SlotState.TheVariants.{Waits}
 use Rattle.spindle_rounds.specs.RoundSlots.{spot_at}
-use Rattle.spindle_rounds.specs.RoundShown.{Deed, Began, Ended, Showed, deeds_of}
+use Rattle.spindle_rounds.specs.RoundShown.{Deed, Began, Ended, Showed, Stopped, deeds_of}
 use Rattle.spindle_rounds.specs.RoundViews.{shown_of, published_of}
 use Rattle.spindle_rounds.specs.RoundConditions.{MayPutAll}
 use Rattle.spindle_rounds.specs.SlotSteps.{numbered, board_out, board_back, IsDeed, HasPublished, IsSure, TakenOut}
@@ -21,15 +21,16 @@ use Rattle.spindle_rounds.specs.SpotPlaces.{spot_here, spot_else}
 use Rattle.spindle_rounds.specs.RoundPieces.{pieces, spot_with, IsUnrun, IsAtHand, Answered, AreFilled, AreAnswered}
 
 -- a publish among the publishes is among the deeds
-shown_deed : (r n : ℕ) (ds : List Deed) → IsDeed (Showed r n false) (shown_of ds) → IsDeed (Showed r n false) ds
-shown_deed r n [] e = e
-shown_deed r n (Began q k ∷ ds) e = inr (shown_deed r n ds e)
-shown_deed r n (Ended q k ∷ ds) e = inr (shown_deed r n ds e)
-shown_deed r n (Showed q m b ∷ ds) e = ⊎_elim inl (λ z. inr (shown_deed r n ds z)) e
+pub shown_deed : (r n : ℕ) (b : Bool) (ds : List Deed) → IsDeed (Showed r n b) (shown_of ds) → IsDeed (Showed r n b) ds
+shown_deed r n b [] e = e
+shown_deed r n b (Began q k ∷ ds) e = inr (shown_deed r n b ds e)
+shown_deed r n b (Ended q k ∷ ds) e = inr (shown_deed r n b ds e)
+shown_deed r n b (Stopped q k ∷ ds) e = inr (shown_deed r n b ds e)
+shown_deed r n b (Showed q m c ∷ ds) e = ⊎_elim inl (λ z. inr (shown_deed r n b ds z)) e
 
 -- the round that a leader published last, plainly
 pub published_last : {N : Type 0} (v : View N) (r n : ℕ) (older : List Deed) → published_of v.trail ≡ Showed r n false ∷ older → HasPublished v r n
-published_last v r n older is = shown_deed r n (deeds_of v.trail) (subst (IsDeed (Showed r n false)) (sym is) (inl refl))
+published_last v r n older is = shown_deed r n false (deeds_of v.trail) (subst (IsDeed (Showed r n false)) (sym is) (inl refl))
 
 abbrev head_or : {A : Type 0} → A → List A → A
 head_or a [] = a

@@ -11,7 +11,7 @@ use Rattle.spindle_rounds.specs.RoundSlots.{spot_at}
 use Rattle.spindle_rounds.specs.RoundShown.{Deed, Showed}
 use Rattle.spindle_rounds.specs.RoundSteps.{round_of, unknown, publishing}
 use Rattle.spindle_rounds.specs.RoundConditions.{MayFill, MayPublish, MayTakeOut}
-use Rattle.spindle_rounds.specs.RoundViews.{published_of}
+use Rattle.spindle_rounds.specs.RoundViews.{shown_of, published_of}
 use Rattle.spindle_rounds.specs.RoundAnswers.{FilledBy}
 use Rattle.spindle_rounds.specs.Passing.{InNext}
 use Rattle.spindle_rounds.specs.SlotSteps.{board_back, giving_back, IsDeed, HasPublished}
@@ -59,7 +59,7 @@ module _ {P A : Type 0} (answers : P → A → Type 0) where
               p.2 ∙ (r.2 ∙ ap (λ (z : HandOf). z.0.claim) gave),
             );
             published = let q : h.0 ≡ round_of m.0.standing = sym (ap round_of h.1) in
-                p.4 ∙ ((λ i. Showed (q i) n false ∷ r.1 i) ∙ ap (λ (l : List Deed). Showed (round_of m.0.standing) n false ∷ l)
+                p.4 ∙ ((λ i. Showed (q i) n false ∷ shown_of (r.1 i)) ∙ ap (λ (l : List Deed). Showed (round_of m.0.standing) n false ∷ l)
                 (ap (λ (z : HandOf). published_of z.0.trail) gave));
           }
 

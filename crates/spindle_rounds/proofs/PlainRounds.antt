@@ -11,7 +11,7 @@ use Rattle.spindle_parts.proofs.Parties.{put_here, put_else, put_all}
 use Rattle.spindle_parts.proofs.Fates.{started, over, none_begun}
 use Rattle.spindle_parts.proofs.Soundness.{Sound, sound, no_closer}
 use Rattle.spindle_rounds.specs.RoundSlots.{AtRest}
-use Rattle.spindle_rounds.specs.RoundShown.{Deed, Began, Ended, Showed, ended_in, deed, deeds}
+use Rattle.spindle_rounds.specs.RoundShown.{Deed, Began, Ended, Showed, Stopped, ended_in, stopped_by, deed, deeds}
 use Rattle.spindle_rounds.specs.SlotSteps.{IsDeed}
 use Rattle.spindle_rounds.proofs.RoundMoves.{untrue}
 
@@ -32,6 +32,19 @@ at_rest s h hid open_now = let all = none_begun h.fate (now s) s.parties h.work 
       (λ n. ⊎_elim (λ (lt : r < s.round). (h.ended r lt).same k) (λ (gt : s.round < r). let e = h.later r gt in ap (λ (z : Round). times k z.finished) e
       ∙ sym (ap (λ (z : Round). times k z.begun) e)) (apart r s.round n));
 }
+
+in_either : (d : Deed) (xs ys : List Deed) → IsDeed d (xs ++ ys) → IsDeed d xs ⊎ IsDeed d ys
+in_either d [] ys e = inr e
+in_either d (x ∷ xs) ys e = ⊎_elim (λ (z : x ≡ d). inl (inl z)) (λ z. ⊎_elim (λ y. inl (inr y)) inr (in_either d xs ys z)) e
+
+in_own : (d : Deed) (b : Bool) (xs : List Deed) → IsDeed d (if b then xs else []) → IsDeed d xs
+in_own d true xs e = e
+in_own d false xs e = absurd e
+
+-- a deed of the newest event of a run is one of its party, or was one before
+pub newest_deed : (d : Deed) (p : ℕ) (e : Event) (es : List Event) → IsDeed d (deeds p (e ∷ es)) → IsDeed d (deed (state es) e) ⊎ IsDeed d (deeds p es)
+newest_deed d p e es h = let s : State = state es in ⊎_elim (λ own. inl (in_own d (by e == p) (deed s e) own)) inr
+    (in_either d (if by e == p then deed s e else []) (deeds p es) h)
 
 module _ (b : Bool) where
   -- in the round r, which goes on or has ended, n jobs were published, and b says whether it may stop
@@ -128,7 +141,11 @@ module _ (b : Bool) where
       no_end : (q : ℕ) (o : Option ℕ) → IsDeed (Showed r n b) (ended_in q o) → ⊥
       no_end q None z = z
       no_end q (Some k) z = let one : Ended q k ≡ Showed r n b = ⊎_elim (λ y. y) (λ y. absurd y) z in cc
-  new_shown s (Stop p) ok r n d = absurd d
+  new_shown s (Stop p) ok r n d = absurd (no_stop s.round (party s p).running d)
+    where
+      no_stop : (q : ℕ) (o : Option ℕ) → IsDeed (Showed r n b) (stopped_by q o) → ⊥
+      no_stop q None z = z
+      no_stop q (Some k) z = let one : Stopped q k ≡ Showed r n b = ⊎_elim (λ y. y) (λ y. absurd y) z in cc
   new_shown s (See p) ok r n d = absurd d
   new_shown s (PutBack p) ok r n d = absurd d
   new_shown s (Arrive p) ok r n d = absurd d
@@ -137,20 +154,11 @@ module _ (b : Bool) where
   new_shown s (Clear p) ok r n d = absurd d
   new_shown s (End p) ok r n d = absurd d
 
-  in_either : (d : Deed) (xs ys : List Deed) → IsDeed d (xs ++ ys) → IsDeed d xs ⊎ IsDeed d ys
-  in_either d [] ys e = inr e
-  in_either d (x ∷ xs) ys e = ⊎_elim (λ (z : x ≡ d). inl (inl z)) (λ z. ⊎_elim (λ y. inl (inr y)) inr (in_either d xs ys z)) e
-
-  in_own : (d : Deed) (b : Bool) (xs : List Deed) → IsDeed d (if b then xs else []) → IsDeed d xs
-  in_own d true xs e = e
-  in_own d false xs e = absurd e
-
   -- a round that a party has published stays so
   pub was_shown : (p : ℕ) (es : List Event) → IsRun es → (r n : ℕ) → IsDeed (Showed r n b) (deeds p es) → WasShown (state es) r n
   was_shown p [] ok r n d = absurd d
-  was_shown p (e ∷ es) ok r n d = let s : State = state es in ⊎_elim (λ own. new_shown s e ok.0 r n (in_own (Showed r n b) (by e == p) (deed s e) own))
-      (λ old. keeps_shown s (sound es ok.1) e ok.0 r n (was_shown p es ok.1 r n old)) (in_either (Showed r n b) (if by e == p then deed s e else [])
-      (deeds p es) d)
+  was_shown p (e ∷ es) ok r n d = ⊎_elim (λ own. new_shown (state es) e ok.0 r n own)
+      (λ old. keeps_shown (state es) (sound es ok.1) e ok.0 r n (was_shown p es ok.1 r n old)) (newest_deed (Showed r n b) p e es d)
 
 -- and while nothing is published, and nobody closes, each of its numbers has finished
 pub plain_finished : (s : State) → Sound s → s.published ≡ None → s.closer ≡ None → (r n k : ℕ) → WasShown false s r n → k < n

@@ -26,7 +26,7 @@ use Rattle.spindle_rounds.specs.declared.round.stopping.PutBack.{PutBack}
 use Rattle.spindle_rounds.specs.declared.round.stopping.PutBack.TheVariants as back
 use Rattle.spindle_rounds.specs.Spans.{Span}
 use Rattle.spindle_rounds.specs.RoundSlots.{Discipline}
-use Rattle.spindle_rounds.specs.RoundShown.{Showed, IsListed}
+use Rattle.spindle_rounds.specs.RoundShown.{Showed, deeds_of, IsListed}
 use Rattle.spindle_rounds.specs.Words.{remainder_at, range_at, high_half, most_jobs, start_of, range_word}
 use Rattle.spindle_rounds.specs.RoundSteps.{round_of, missing, learning, publishing, searching, reading_remainder, recalling, claiming, stealing}
 use Rattle.spindle_rounds.specs.RoundSteps.{claiming_remainder, finishing, stopping, putting_back}
@@ -34,7 +34,7 @@ use Rattle.spindle_rounds.specs.RoundConditions.{MayPublish, MayClaim, MayBegin,
 use Rattle.spindle_rounds.specs.RoundAnswers.{searching_all, OwnClaimedBy, StolenBy, RemainderClaimedBy, SharedBy, SeenBy, PutBy, FilledBy}
 use Rattle.spindle_rounds.specs.Leftovers.{finding, LeftOverBy}
 use Rattle.spindle_rounds.specs.PartyWork.{HasFinished}
-use Rattle.spindle_rounds.specs.RoundViews.{published_of, AtWork, Onward, SeesAsBefore, SharesAsBefore, AfterClaim, AfterSteal}
+use Rattle.spindle_rounds.specs.RoundViews.{published_of, AtWork, Onward, SeesAsBefore, StopsAsBefore, SharesAsBefore, AfterClaim, AfterSteal}
 use Rattle.spindle_rounds.proofs.RoundWords.{by_less, by_equal}
 use Rattle.spindle_rounds.proofs.RoundSearch.{may_still}
 use Rattle.spindle_rounds.proofs.RoundFilled.{filled_stands, filled_quiet}
@@ -51,16 +51,16 @@ module _ {S N : Type 0} (D : Discipline S N) (m w : Me S (View N)) (may : MayCla
   own_claimed i (claim.Job c) a = let v : View N = searching i a.0 m.0 in let u : View N = claiming (range_at i) a.0 a.1 v in
       subst (AfterClaim (claim.Job c) m.0) (sym a.2) (
         onward_then m.0 v u (searched_on i a.0 m.0) (began_on (range_at i) (start_of a.0) a.0 (a.0 + 1) a.1 v),
-        refl,
+        (refl, refl),
         (refl, refl),
         (inside, ap (λ (k : ℕ). Some k) (sym a.4)),
       )
-  own_claimed i claim.Nothing a = subst (AfterClaim claim.Nothing m.0) (sym (ap (λ z. z.0) a.1)) (searched_on i a.0 m.0, refl, (refl, refl), may)
+  own_claimed i claim.Nothing a = subst (AfterClaim claim.Nothing m.0) (sym (ap (λ z. z.0) a.1)) (searched_on i a.0 m.0, (refl, refl), (refl, refl), may)
   own_claimed i claim.Again a = let v : View N = searching i a.0 m.0 in
       subst (AfterClaim claim.Again m.0) (sym (ap (λ z. z.0) a.2)) (
         onward_then m.0 v (missing (range_at i) a.1 v) (searched_on i a.0 m.0)
             (missed_on (range_at i) a.1 v),
-        refl,
+        (refl, refl),
         (refl, refl),
         may,
       )
@@ -69,15 +69,15 @@ module _ {S N : Type 0} (D : Discipline S N) (m w : Me S (View N)) (may : MayCla
   remainder_claimed n (claim.Job c) a = let v : View N = reading_remainder a.0 m.0 in let u : View N = recalling n v in
       let z : View N = claiming_remainder n a.0 a.1 u in subst (AfterClaim (claim.Job c) m.0) (sym a.2) (
         onward_then m.0 v z (remainder_on a.0 m.0) (onward_then v u z (recalled_on n v) (began_on remainder_at (n - a.0) a.0 (a.0 - 1) a.1 u)),
-        refl,
+        (refl, refl),
         (refl, refl),
         (inside, ap (λ (k : ℕ). Some k) (sym a.4)),
       )
-  remainder_claimed n claim.Nothing a = subst (AfterClaim claim.Nothing m.0) (sym (ap (λ z. z.0) a.1)) (remainder_on a.0 m.0, refl, (refl, refl), may)
+  remainder_claimed n claim.Nothing a = subst (AfterClaim claim.Nothing m.0) (sym (ap (λ z. z.0) a.1)) (remainder_on a.0 m.0, (refl, refl), (refl, refl), may)
   remainder_claimed n claim.Again a = let v : View N = reading_remainder a.0 m.0 in let u : View N = recalling n v in
       let z : View N = missing remainder_at a.1 u in
       subst (AfterClaim claim.Again m.0) (sym (ap (λ y. y.0) a.2))
-      (onward_then m.0 v z (remainder_on a.0 m.0) (onward_then v u z (recalled_on n v) (missed_on remainder_at a.1 u)), refl, (refl, refl), may)
+      (onward_then m.0 v z (remainder_on a.0 m.0) (onward_then v u z (recalled_on n v) (missed_on remainder_at a.1 u)), (refl, refl), (refl, refl), may)
 
   -- the remainder was read as empty
   pub remainder_nothing : (n : ℕ) → RemainderClaimedBy D n claim.Nothing m w → IsListed w.0.threads w.0.known.emptied
@@ -114,20 +114,20 @@ pub share_next : {S N : Type 0} (D : Discipline S N) (m w : Me S (View N)) (i k 
     → SharedBy D i share (Some k) left m w → Onward m.0 w.0 × SeesAsBefore m.0 w.0 × MayFinish k w.0 × IsItsShare left w.0
 share_next {N = N} D m w i k share left may own a = let word : ℕ = range_word (k + 1) share.to in let is : k ≡ m.0.from = a.3 ∙ own.0 in
     subst (λ (u : View N). Onward m.0 u × SeesAsBefore m.0 u × MayFinish k u × IsItsShare left u) (sym a.1)
-    (shared_on (range_at i) word a.0 m.0, refl, (may.0, ap (λ (j : ℕ). Some j) (sym is)), (a.5 ∙ ap (λ (j : ℕ). j + 1) is, a.6 ∙ own.1))
+    (shared_on (range_at i) word a.0 m.0, (refl, refl), (may.0, ap (λ (j : ℕ). Some j) (sym is)), (a.5 ∙ ap (λ (j : ℕ). j + 1) is, a.6 ∙ own.1))
 
 -- A number has finished: the seat may begin the next of its share, and share and stop are as before. After the last one it knows that nothing is left.
 pub finish_done : {N : Type 0} (found : ℕ) (v w : View N) → w ≡ finishing found v → HasFinished found v w
 finish_done {N = N} found v w a = subst (λ (u : View N). HasFinished found v u) (sym a)
-    (finished_on found v, (λ _. refl), (refl, refl), refl, λ last i le. finished_all v.known.number (found + 1) v.threads v.known.emptied last i le)
+    (finished_on found v, (λ _. (refl, refl)), (refl, refl), refl, λ last i le. finished_all v.known.number (found + 1) v.threads v.known.emptied last i le)
 
 -- The stop was seen, or not.
 pub stop_seen : {S N : Type 0} (m w : Me S (View N)) (stopped : Bool) → SeenBy stopped m w → Onward m.0 w.0 × (w.0.known.seen_stop ≡ stopped)
-    × SharesAsBefore m.0 w.0 × (w.0.claim ≡ m.0.claim)
-stop_seen {N = N} m w true a = subst (λ (u : View N). Onward m.0 u × (u.known.seen_stop ≡ true) × SharesAsBefore m.0 u × (u.claim ≡ m.0.claim))
-    (sym (ap (λ z. z.0) a)) (saw_on 1 m.0, refl, (refl, refl), refl)
-stop_seen {N = N} m w false a = subst (λ (u : View N). Onward m.0 u × (u.known.seen_stop ≡ false) × SharesAsBefore m.0 u × (u.claim ≡ m.0.claim))
-    (sym (ap (λ z. z.0) a)) (saw_on 0 m.0, refl, (refl, refl), refl)
+    × SharesAsBefore m.0 w.0 × (w.0.claim ≡ m.0.claim) × StopsAsBefore m.0 w.0
+stop_seen {N = N} m w true a = subst (λ (u : View N). Onward m.0 u × (u.known.seen_stop ≡ true) × SharesAsBefore m.0 u × (u.claim ≡ m.0.claim)
+    × StopsAsBefore m.0 u) (sym (ap (λ z. z.0) a)) (saw_on 1 m.0, refl, (refl, refl), refl, refl)
+stop_seen {N = N} m w false a = subst (λ (u : View N). Onward m.0 u × (u.known.seen_stop ≡ false) × SharesAsBefore m.0 u × (u.claim ≡ m.0.claim)
+    × StopsAsBefore m.0 u) (sym (ap (λ z. z.0) a)) (saw_on 0 m.0, refl, (refl, refl), refl, refl)
 
 -- Who has stopped the round still has its claim, and has seen the stop.
 pub stop_done : {S N : Type 0} (m w : Me S (View N)) → w ≡ (stopping 1 m.0, m.1) → Onward m.0 w.0 × (w.0.known.seen_stop ≡ true) × SharesAsBefore m.0 w.0 ×
@@ -137,16 +137,18 @@ stop_done {N = N} m w a = subst (λ (u : View N). Onward m.0 u × (u.known.seen_
 
 -- A share is back, or else the seat may try again.
 pub share_put : {S N : Type 0} (m w : Me S (View N)) (i : ℕ) (r : PutBack) (share left : Span) → MayPutBack m.0 → IsItsShare share m.0
-    → PutBy i r share left m w → Onward m.0 w.0 × MayPutBack w.0 × IsItsShare left w.0 × (r ≡ back.Put → left.from ≡ left.to)
+    → PutBy i r share left m w → Onward m.0 w.0 × SeesAsBefore m.0 w.0 × MayPutBack w.0 × IsItsShare left w.0 × (r ≡ back.Put → left.from ≡ left.to)
 share_put {N = N} m w i back.Put share left may own a = let v : View N = searching i a.0 m.0 in let u : View N = putting_back (range_at i) a.0 v in
-    subst (λ (z : View N). Onward m.0 z × MayPutBack z × IsItsShare left z × (back.Put ≡ back.Put → left.from ≡ left.to)) (sym (ap (λ z. z.0) a.1))
-    (onward_then m.0 v u (searched_on i a.0 m.0) (put_on (range_at i) a.0 v), may, (a.3 ∙ own.1, a.4 ∙ own.1), λ _. a.3 ∙ sym a.4)
-share_put {N = N} m w i back.Occupied share left may own a = subst (λ (z : View N). Onward m.0 z × MayPutBack z × IsItsShare left z ×
+    subst (λ (z : View N). Onward m.0 z × SeesAsBefore m.0 z × MayPutBack z × IsItsShare left z × (back.Put ≡ back.Put → left.from ≡ left.to))
+    (sym (ap (λ z. z.0) a.1)) (onward_then m.0 v u (searched_on i a.0 m.0) (put_on (range_at i) a.0 v), (refl, refl), may, (a.3 ∙ own.1, a.4 ∙ own.1), λ _. a.3 ∙ sym a.4)
+share_put {N = N} m w i back.Occupied share left may own a = subst (λ (z : View N). Onward m.0 z × SeesAsBefore m.0 z × MayPutBack z × IsItsShare left z ×
     (back.Occupied ≡ back.Put → left.from ≡ left.to)) (sym (ap (λ z. z.0) a.1))
-    (searched_on i a.0 m.0, may, subst (λ (z : Span). IsItsShare z m.0) (sym a.3) own, λ e. absurd cc)
+    (searched_on i a.0 m.0, (refl, refl), may, subst (λ (z : Span). IsItsShare z m.0) (sym a.3) own, λ e. absurd cc)
 share_put {N = N} m w i back.Again share left may own a = let v : View N = searching i a.0 m.0 in
-    subst (λ (z : View N). Onward m.0 z × MayPutBack z × IsItsShare left z × (back.Again ≡ back.Put → left.from ≡ left.to)) (sym (ap (λ z. z.0) a.2)) (
+    subst (λ (z : View N). Onward m.0 z × SeesAsBefore m.0 z × MayPutBack z × IsItsShare left z × (back.Again ≡ back.Put → left.from ≡ left.to))
+    (sym (ap (λ z. z.0) a.2)) (
       onward_then m.0 v (missing (range_at i) a.1 v) (searched_on i a.0 m.0) (missed_on (range_at i) a.1 v),
+      (refl, refl),
       may,
       subst (λ (z : Span). IsItsShare z m.0)
           (sym a.4) own,
@@ -160,9 +162,9 @@ left_seen {N = N} m w t i found le a = let P : View N → Type 0 = λ u. Onward 
     let u : View N = searching i found m.0 in let w' : View N = reading_remainder found m.0 in
     dite (ℕ_discrete i t)
     (λ here. subst P (sym (ap (λ z. z.0) (a.1 here)))
-    (onward_then m.0 w' (finding remainder_at found w') (remainder_on found m.0) (found_on remainder_at found w'), refl, (refl, refl), refl))
+    (onward_then m.0 w' (finding remainder_at found w') (remainder_on found m.0) (found_on remainder_at found w'), (refl, refl), (refl, refl), refl))
     (λ apart. subst P (sym (ap (λ z. z.0) (a.0 (omega arith))))
-    (onward_then m.0 u (finding (range_at i) found u) (searched_on i found m.0) (found_on (range_at i) found u), refl, (refl, refl), refl))
+    (onward_then m.0 u (finding (range_at i) found u) (searched_on i found m.0) (found_on (range_at i) found u), (refl, refl), (refl, refl), refl))
 
 -- Arriving.
 
@@ -180,9 +182,9 @@ all_empty n b v a ranges rest = inr (inr (inr (
 
 -- after `fill` the same number may be published, and nothing was
 pub filled_round : {S N : Type 0} (D : Discipline S N) (t n q : ℕ) (v w : View N) → v.standing ≡ Inside q → v.known.unpublished ≡ true
-    → D.may_publish q n v.board → FilledBy t n v w → MayPublish D t n w × (published_of w.trail ≡ published_of v.trail) × (w.claim ≡ v.claim)
+    → D.may_publish q n v.board → FilledBy t n v w → MayPublish D t n w × (deeds_of w.trail ≡ deeds_of v.trail) × (w.claim ≡ v.claim)
     × SharesAsBefore v w × (w.standing ≡ Inside q)
-filled_round {N = N} D t n q v w inside_q alone may f = subst (λ (u : View N). MayPublish D t n u × (published_of u.trail ≡ published_of v.trail) ×
+filled_round {N = N} D t n q v w inside_q alone may f = subst (λ (u : View N). MayPublish D t n u × (deeds_of u.trail ≡ deeds_of v.trail) ×
     (u.claim ≡ v.claim) × SharesAsBefore v u × (u.standing ≡ Inside q)) (sym f.0)
     ((q, inside_q, alone, filled_stands t n v.known.stored (3 + t), may), filled_quiet t n v.trail (3 + t), refl, (refl, refl), inside_q)
 
@@ -201,7 +203,7 @@ round_published {N = N} m w q n b inside_q a = subst (λ (u : View N). AtWork n 
 
 -- who may claim may claim again, once what it has begun since is finished and its share is empty
 pub claims_again : {N : Type 0} (v w : View N) → MayClaim v → Onward v w → SeesAsBefore v w → w.to ≤ w.from → w.claim ≡ None → MayClaim w
-claims_again v w may on same empty idle = ((may.0.0, on.standing ∙ may.0.1, idle, empty), (may.1.0, on.number ∙ may.1.1), same ∙ may.2)
+claims_again v w may on same empty idle = ((may.0.0, on.standing ∙ may.0.1, idle, empty), (may.1.0, on.number ∙ may.1.1), same.0 ∙ may.2)
 
 -- the published word tells a member the number
 pub number_learned : {S N : Type 0} (m w : Me S (View N)) (q found : ℕ) → m.0.standing ≡ Inside q → w ≡ (learning found m.0, m.1) → found ≢ 0

@@ -9,7 +9,7 @@ use Rattle.spindle_rounds.specs.Words.{filled_at}
 use Rattle.spindle_rounds.specs.RoundRule.{stored_at, fill_value}
 use Rattle.spindle_rounds.specs.RoundSteps.{filling}
 use Rattle.spindle_rounds.specs.RoundAnswers.{stored_for, trail_for, filled_view}
-use Rattle.spindle_rounds.specs.RoundViews.{published_of}
+use Rattle.spindle_rounds.specs.RoundShown.{deeds_of}
 use Rattle.spindle_rounds.proofs.RoundWords.{by_equal}
 
 module _ (t n : ℕ) where
@@ -26,7 +26,7 @@ module _ (t n : ℕ) where
       (λ same. let z : j ≡ i = omega arith in ap (λ (a : ℕ). Some (fill_value t n a)) z)
       (λ other. filled_stands l j i (dite (ℕ_discrete i j) (λ z. absurd (other (omega arith))) (λ z. omega arith)))
 
-  -- nothing is published by them
-  pub filled_quiet : (l : List (Trace Kind)) (j : ℕ) → published_of (trail_for t n j l) ≡ published_of l
+  -- they are no deeds
+  pub filled_quiet : (l : List (Trace Kind)) (j : ℕ) → deeds_of (trail_for t n j l) ≡ deeds_of l
   filled_quiet l zero = refl
   filled_quiet l (suc j) = filled_quiet l j

@@ -124,7 +124,7 @@ module _ {N : Type 0} where
 
   pub all_searched_on : (i : ℕ) (xs : List ℕ) (v : View N) → Onward v (searching_all i xs v) × SeesAsBefore v (searching_all i xs v) × SharesAsBefore v
       (searching_all i xs v) × ((searching_all i xs v).claim ≡ v.claim)
-  all_searched_on i [] v = (onward_same v, refl, (refl, refl), refl)
+  all_searched_on i [] v = (onward_same v, (refl, refl), (refl, refl), refl)
   all_searched_on i (x ∷ xs) v = let r = all_searched_on (i + 1) xs (searching i x v) in
       (onward_then v (searching i x v) (searching_all (i + 1) xs (searching i x v)) (searched_on i x v) r.0, r.1, r.2, r.3)
 

@@ -12,7 +12,7 @@ use Rattle.spindle_parts.specs.Runs.{state, IsRun}
 use Rattle.spindle_parts.proofs.Parties.{put_all}
 use Rattle.spindle_parts.proofs.Soundness.{Sound, sound}
 use Rattle.spindle_rounds.specs.declared.round_table.view.View.{View}
-use Rattle.spindle_rounds.specs.RoundShown.{Deed, deed, deeds, deeds_of, ended_in}
+use Rattle.spindle_rounds.specs.RoundShown.{Deed, deed, deeds, deeds_of, ended_in, stopped_by}
 use Rattle.spindle_rounds.specs.RoundTrails.{begun_by, finished_by, told, told_by_all}
 use Rattle.spindle_rounds.proofs.RoundQuiet.{IsQuiet, quiet}
 
@@ -89,23 +89,23 @@ module _ (k r : ℕ) (f : Deed → List ℕ) (of : Round → List ℕ) where
       omega arith)
       (λ no. let more = sum_more n (by e) (times k (told f (deed s e))) (count (e ∷ es)) (count es) (omega arith) here away in omega arith)
 
--- an event publishes, begins or finishes, or has no deed
-by_deed : (s : State) (P : Event → Type 0) → ((e : Event) → IsQuiet e → deed s e ≡ [] → P e) → ((p n : ℕ) → P (Publish p n)) → ((p n : ℕ) → P (PublishTry p n))
-    → ((p k : ℕ) → P (Begin p k)) → ((p : ℕ) → P (Finish p)) → (e : Event) → P e
-by_deed s P none shows tries begins ends (Publish p n) = shows p n
-by_deed s P none shows tries begins ends (PublishTry p n) = tries p n
-by_deed s P none shows tries begins ends (Begin p k) = begins p k
-by_deed s P none shows tries begins ends (Finish p) = ends p
-by_deed s P none shows tries begins ends (Join p) = none (Join p) tt refl
-by_deed s P none shows tries begins ends (Take p f) = none (Take p f) tt refl
-by_deed s P none shows tries begins ends (Stop p) = none (Stop p) tt refl
-by_deed s P none shows tries begins ends (See p) = none (See p) tt refl
-by_deed s P none shows tries begins ends (PutBack p) = none (PutBack p) tt refl
-by_deed s P none shows tries begins ends (Arrive p) = none (Arrive p) tt refl
-by_deed s P none shows tries begins ends (Leave p) = none (Leave p) tt refl
-by_deed s P none shows tries begins ends (Exit p) = none (Exit p) tt refl
-by_deed s P none shows tries begins ends (Clear p) = none (Clear p) tt refl
-by_deed s P none shows tries begins ends (End p) = none (End p) tt refl
+-- an event publishes, begins, finishes or stops, or has no deed
+pub by_deed : (s : State) (P : Event → Type 0) → ((e : Event) → IsQuiet e → deed s e ≡ [] → P e) → ((p n : ℕ) → P (Publish p n)) → ((p n : ℕ) → P (PublishTry p n))
+    → ((p k : ℕ) → P (Begin p k)) → ((p : ℕ) → P (Finish p)) → ((p : ℕ) → P (Stop p)) → (e : Event) → P e
+by_deed s P none shows tries begins ends stops (Publish p n) = shows p n
+by_deed s P none shows tries begins ends stops (PublishTry p n) = tries p n
+by_deed s P none shows tries begins ends stops (Begin p k) = begins p k
+by_deed s P none shows tries begins ends stops (Finish p) = ends p
+by_deed s P none shows tries begins ends stops (Join p) = none (Join p) tt refl
+by_deed s P none shows tries begins ends stops (Take p f) = none (Take p f) tt refl
+by_deed s P none shows tries begins ends stops (Stop p) = stops p
+by_deed s P none shows tries begins ends stops (See p) = none (See p) tt refl
+by_deed s P none shows tries begins ends stops (PutBack p) = none (PutBack p) tt refl
+by_deed s P none shows tries begins ends stops (Arrive p) = none (Arrive p) tt refl
+by_deed s P none shows tries begins ends stops (Leave p) = none (Leave p) tt refl
+by_deed s P none shows tries begins ends stops (Exit p) = none (Exit p) tt refl
+by_deed s P none shows tries begins ends stops (Clear p) = none (Clear p) tt refl
+by_deed s P none shows tries begins ends stops (End p) = none (End p) tt refl
 
 -- the round that goes on, with what a party has run among the finished
 abbrev done : State → Option ℕ → Round
@@ -127,7 +127,7 @@ module _ (k r : ℕ) (of : Round → List ℕ) (s : State) (x : Round) where
       r
 
 module _ (k r : ℕ) where
-  begun_adds : Adds k r (begun_by r) (λ (x : Round). x.begun)
+  pub begun_adds : Adds k r (begun_by r) (λ (x : Round). x.begun)
   begun_adds s h =
       by_deed s (λ e. Allowed s e → times k ((after s e).rounds r).begun ≡ times k (told (begun_by r) (deed s e)) + times k (s.rounds r).begun)
       (λ e q none ok. let a = (quiet s h e q ok).begun r k in let b = ap (λ l. times k (told (begun_by r) l)) none in omega arith)
@@ -135,6 +135,7 @@ module _ (k r : ℕ) where
       (λ p n ok. same (record (now s) { jobs = n; stoppable = true }) refl)
       (λ p j ok. one_more k r (λ (x : Round). x.begun) s (record (now s) { begun = (now s).begun ++ j ∷ [] }) j refl)
       (λ p ok. let a = same (done s (party s p).running) refl in let b = none_begun (party s p).running in omega arith)
+      (λ p ok. let a = (quiet s h (Stop p) tt ok).begun r k in let b = none_stopped (party s p).running in omega arith)
     where
       same : (x : Round) → times k x.begun ≡ times k (now s).begun → times k (put s.rounds s.round x r).begun ≡ 0 + times k (s.rounds r).begun
       same = same_there k r (λ (x : Round). x.begun) s
@@ -142,6 +143,10 @@ module _ (k r : ℕ) where
       none_begun : (o : Option ℕ) → times k (told (begun_by r) (ended_in s.round o)) ≡ 0
       none_begun None = refl
       none_begun (Some j) = refl
+
+      none_stopped : (o : Option ℕ) → times k (told (begun_by r) (stopped_by s.round o)) ≡ 0
+      none_stopped None = refl
+      none_stopped (Some j) = refl
 
   finished_adds : Adds k r (finished_by r) (λ (x : Round). x.finished)
   finished_adds s h =
@@ -151,9 +156,14 @@ module _ (k r : ℕ) where
       (λ p n ok. same (record (now s) { jobs = n; stoppable = true }) refl)
       (λ p j ok. same (record (now s) { begun = (now s).begun ++ j ∷ [] }) refl)
       (λ p ok. ran (party s p).running)
+      (λ p ok. let a = (quiet s h (Stop p) tt ok).finished r k in let b = none_stopped (party s p).running in omega arith)
     where
       same : (x : Round) → times k x.finished ≡ times k (now s).finished → times k (put s.rounds s.round x r).finished ≡ 0 + times k (s.rounds r).finished
       same = same_there k r (λ (x : Round). x.finished) s
+
+      none_stopped : (o : Option ℕ) → times k (told (finished_by r) (stopped_by s.round o)) ≡ 0
+      none_stopped None = refl
+      none_stopped (Some j) = refl
 
       ran : (o : Option ℕ) → times k (put s.rounds s.round (done s o) r).finished
           ≡ times k (told (finished_by r) (ended_in s.round o)) + times k (s.rounds r).finished

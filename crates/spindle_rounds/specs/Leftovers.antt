@@ -41,11 +41,6 @@ abbrev pub FindTells : {S N : Type 0} → Step S → Me S (View N) → ℕ → M
 FindTells st m found m' = (m'.1 ≡ m.1) × ((i : ℕ) → st.word ≡ range_at i
     → m'.0 ≡ finding (range_at i) found (searching i found m.0))
 
--- the same of the remainder
-abbrev pub FindRestTells : {S N : Type 0} → Step S → Me S (View N) → ℕ → Me S (View N) → Type 0
-FindRestTells st m found m' = (m'.1 ≡ m.1)
-    × (m'.0 ≡ finding remainder_at found (reading_remainder found m.0))
-
 -- what is left: the i-th range, or the remainder where i is t
 abbrev pub LeftOverBy : {S N : Type 0} → ℕ → ℕ → ℕ → Me S (View N) → Me S (View N) → Type 0
 LeftOverBy t i found m w = (i < t → w ≡ (finding (range_at i) found (searching i found m.0), m.1)) ×
@@ -78,6 +73,16 @@ abbrev pub IsFoundLeft : {N : Type 0} → View N → (t n k : ℕ) → Type 0
 IsFoundLeft v = IsLeftBy (last_left v.trail)
 
 module _ {S N : Type 0} (D : Discipline S N) where
+  -- there is a moment at which the leader's seat knows this
+  abbrev pub HasMoment : View N → Type 0
+  HasMoment v = (t : ℕ) × (s : table.State S (View N)) × Shown D t s × (get_elem? s.views 0 ≡ some v)
+
+  -- the same of the remainder: between rounds that is such a moment
+  abbrev pub FindRestTells : Step S → Me S (View N) → ℕ → Me S (View N) → Type 0
+  FindRestTells st m found m' = (m'.1 ≡ m.1)
+      × (m'.0 ≡ finding remainder_at found (reading_remainder found m.0))
+      × (MayFill m.0 → HasMoment m'.0)
+
   -- At every moment while the leader's seat knows this and no more, the numbers of which P holds
   -- are just those below n that haven't begun in the round q, as the trails of all seats tell
   abbrev pub AreUnbegun : (q n : ℕ) → View N → (ℕ → Type 0) → Type 0

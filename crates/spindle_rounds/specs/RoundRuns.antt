@@ -146,7 +146,7 @@ module _ {S N : Type 0} (D : Discipline S N) (t slots id : ℕ) (me : Me S (View
     pub read_rest : PlainLoad remainder_at tells.RemainderReadTells
     -- anyone asks what is left in a range, or in the remainder
     pub find : (i : ℕ) → i < t → PlainLoad (range_at i) FindTells
-    pub find_rest : PlainLoad remainder_at FindRestTells
+    pub find_rest : PlainLoad remainder_at (FindRestTells D)
     -- anyone splits a seat off, and the table shows the same run
     pub split : (run : List Event) → Splits (ShownBy D t run) id me.0 me.0 (new_view me.0)
 

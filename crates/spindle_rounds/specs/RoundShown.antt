@@ -3,7 +3,7 @@ use Rattle.std.specs.Prelude.{◌≡◌, ◌≢◌, ◌⊎◌, ℕ, suc, ◌+◌
 use Rattle.std.specs.Prelude.{false, List, [], ◌∷◌, ◌++◌, length, slice_index, Option, Some, None}
 use Rattle.std.specs.Prelude.{if◌then◌else◌, ◌==◌, nat_lt}
 use Rattle.spindle_parts.specs.State.{State, Out, In, Arrived, now, party, Free}
-use Rattle.spindle_parts.specs.Steps.{Event, Publish, PublishTry, Begin, Finish, by}
+use Rattle.spindle_parts.specs.Steps.{Event, Publish, PublishTry, Begin, Finish, Stop, by}
 use Rattle.spindle_parts.specs.Runs.{state}
 use Rattle.spindle_parts.specs.BarrierWord.{word}
 use Rattle.spindle_parts.specs.declared.trail.Trace.{Trace}
@@ -18,16 +18,22 @@ use Rattle.spindle_rounds.specs.Words.{barrier_at, published_at, finished_at, st
 use Rattle.spindle_rounds.specs.Words.{remainder_at, range_at, words_of, high_half}
 use Rattle.spindle_rounds.specs.Words.{start_of, end_of}
 
--- a party's begins, finishes and publishes, each with its round
+-- a party's begins, finishes, publishes and stops, each with its round
 pub data Deed : Type 0 where
   Began : (round k : ℕ) → Deed
   Ended : (round k : ℕ) → Deed
   Showed : (round n : ℕ) (may_stop : Bool) → Deed
+  Stopped : (round k : ℕ) → Deed
 
 -- the end of the number that a party runs, if it runs one
 abbrev pub ended_in : ℕ → Option ℕ → List Deed
 ended_in r None = []
 ended_in r (Some k) = Ended r k ∷ []
+
+-- the stop by a party that runs this number, if it runs one
+abbrev pub stopped_by : ℕ → Option ℕ → List Deed
+stopped_by r None = []
+stopped_by r (Some k) = Stopped r k ∷ []
 
 -- what an event does of these
 abbrev pub deed : State → Event → List Deed
@@ -35,6 +41,7 @@ deed s (Publish p n) = Showed s.round n false ∷ []
 deed s (PublishTry p n) = Showed s.round n true ∷ []
 deed s (Begin p k) = Began s.round k ∷ []
 deed s (Finish p) = ended_in s.round (party s p).running
+deed s (Stop p) = stopped_by s.round (party s p).running
 deed s _ = []
 
 -- the deeds of the party p in a run, the newest first
@@ -47,6 +54,7 @@ abbrev pub deed_of : Kind → List Deed
 deed_of (kind.Begin r k) = Began r k ∷ []
 deed_of (kind.Finish r k) = Ended r k ∷ []
 deed_of (kind.Publish r n b) = Showed r n b ∷ []
+deed_of (kind.Stop r k) = Stopped r k ∷ []
 deed_of _ = []
 
 -- the deeds of a trail, the newest first

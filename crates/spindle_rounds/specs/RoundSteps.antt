@@ -286,7 +286,8 @@ finishing found v =
 
 -- after it has stopped the round
 abbrev pub stopping : {N : Type 0} → ℕ → View N → View N
-stopping stored v = noted (trace stopped_at kind.Stop stored stored)
+stopping stored v =
+    noted (trace stopped_at (kind.Stop (round_of v.standing) (number_or v.claim)) stored stored)
     (record v { known = record v.known { seen_stop = true } })
 
 -- after a load of the word `stopped`: 1 says that the round was stopped

@@ -9,7 +9,7 @@ use Rattle.spindle_rounds.specs.declared.round.claim.Claim.{Claim}
 use Rattle.spindle_rounds.specs.declared.round.claim.Claim.TheVariants as claim
 use Rattle.spindle_rounds.specs.declared.round.claim.Steal.{Steal}
 use Rattle.spindle_rounds.specs.declared.round.claim.Steal.TheVariants as steal
-use Rattle.spindle_rounds.specs.RoundShown.{Deed, Showed, deeds_of, IsListed}
+use Rattle.spindle_rounds.specs.RoundShown.{Deed, Showed, Stopped, deeds_of, IsListed}
 use Rattle.spindle_rounds.specs.RoundConditions.{MayClaim, MayFinish, IsItsShare}
 
 -- the publishes among deeds
@@ -21,6 +21,16 @@ shown_of (_ ∷ ds) = shown_of ds
 -- the publishes of a trail, the newest first
 abbrev pub published_of : List (Trace Kind) → List Deed
 published_of trail = shown_of (deeds_of trail)
+
+-- the stops among deeds
+abbrev pub stopped_of : List Deed → List Deed
+stopped_of [] = []
+stopped_of (Stopped r k ∷ ds) = Stopped r k ∷ stopped_of ds
+stopped_of (_ ∷ ds) = stopped_of ds
+
+-- the stops of a trail, the newest first
+abbrev pub stops_of : List (Trace Kind) → List Deed
+stops_of trail = stopped_of (deeds_of trail)
 
 -- the seat is inside the round of n jobs, as it knows
 pub record AtWork {N : Type 0} (n : ℕ) (stoppable : Bool) (v : View N) : Type 0 where
@@ -41,9 +51,13 @@ pub record Onward {N : Type 0} (v w : View N) : Type 0 where
   pub board : w.board ≡ v.board
   pub published : published_of w.trail ≡ published_of v.trail
 
--- the seat has seen no more of a stop
+-- the seat has stopped nothing more
+abbrev pub StopsAsBefore : {N : Type 0} → View N → View N → Type 0
+StopsAsBefore v w = stops_of w.trail ≡ stops_of v.trail
+
+-- nor has it seen more of a stop
 abbrev pub SeesAsBefore : {N : Type 0} → View N → View N → Type 0
-SeesAsBefore v w = w.known.seen_stop ≡ v.known.seen_stop
+SeesAsBefore v w = (w.known.seen_stop ≡ v.known.seen_stop) × StopsAsBefore v w
 
 -- the seat's share is as before
 abbrev pub SharesAsBefore : {N : Type 0} → View N → View N → Type 0

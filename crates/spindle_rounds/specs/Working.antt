@@ -4,7 +4,7 @@ use Rattle.spindle_rounds.specs.declared.round_table.view.View.{View}
 use Rattle.spindle_rounds.specs.declared.round_table.view.Standing.TheVariants.{Inside}
 use Rattle.spindle_rounds.specs.RoundShown.{Showed}
 use Rattle.spindle_rounds.specs.RoundSteps.{round_of}
-use Rattle.spindle_rounds.specs.RoundViews.{AtWork, published_of}
+use Rattle.spindle_rounds.specs.RoundViews.{AtWork, StopsAsBefore, published_of}
 
 -- the seat is at work in a round of n jobs, and has seen no stop of a round that can't stop
 abbrev pub OnTask : {N : Type 0} → ℕ → Bool → View N → Type 0
@@ -23,6 +23,12 @@ PlayedRoundOf n may_stop v w = (published_of w.trail ≡ Showed (round_of v.stan
 -- the same of a round that can't stop
 abbrev pub PlayedRound : {N : Type 0} → ℕ → View N → View N → Type 0
 PlayedRound n v w = PlayedRoundOf n false v w
+
+-- between these views lies a round, in a part of which a work kept this; nothing was stopped
+-- outside of that part
+abbrev pub HasKept : {N : Type 0} → (View N → View N → Type 0) → View N → View N → Type 0
+HasKept {N = N} Keeps v w = (x y : View N) × StopsAsBefore v x × (x.standing ≡ v.standing)
+    × Keeps x y × StopsAsBefore y w
 
 -- its round has ended: it is inside the next with nothing to finish, and nothing more was published
 pub record HasPassed {N : Type 0} (v w : View N) : Type 0 where

@@ -2,11 +2,11 @@
 ghost use Rattle.std.specs.Prelude.{◌≡◌, ◌↔◌, ◌≤◌, ℕ, Bool, true, length};
 ghost use Rattle.spindle_threads.specs.Posts.{LastPublished, party_view};
 ghost use Rattle.spindle_threads.specs.SlotMembers.{StandsAt};
-ghost use Rattle.spindle_rounds.specs.Leftovers.{AreUnbegun, IsMarked, IsFoundLeft};
+ghost use Rattle.spindle_rounds.specs.Leftovers.{AreUnbegun, HasMoment, IsMarked, IsFoundLeft};
 ghost use Rattle.spindle_rounds.specs.RoundSlots.{bare};
 ghost use Rattle.spindle_rounds.specs.RoundSteps.{round_of};
-ghost use Rattle.spindle_rounds.specs.RoundViews.{published_of};
-ghost use Rattle.spindle_rounds.specs.Working.{PlayedRoundOf};
+ghost use Rattle.spindle_rounds.specs.RoundShown.{deeds_of};
+ghost use Rattle.spindle_rounds.specs.Working.{HasKept, PlayedRoundOf};
 
 use crate::member::Member;
 use crate::publish_and_end::{end_round, publish};
@@ -64,7 +64,8 @@ impl<'a> LeaderMember<'a, Bare> {
         requires counted { (2 ≤ task.jobs) × (task.jobs ≤ 4294967295) }
         requires holds { (hands : _) → W.holds work hands }
         ensures holds { (hands : _) × W.holds result hands }
-        ensures keeps { W.keeps work result }
+        ensures keeps { HasKept (λ v w. W.keeps work v result w)
+            (party_view self.old.post.barrier) (party_view self.new.post.barrier) }
         ensures played { PlayedRoundOf task.jobs task.may_stop
             (party_view self.old.post.barrier) (party_view self.new.post.barrier) }
         ensures last { LastPublished (round_of (party_view self.old.post.barrier).standing)
@@ -97,8 +98,9 @@ impl<'a> LeaderMember<'a, Bare> {
             → AreUnbegun bare q n (party_view self.new.post.barrier) (IsMarked marks.new.items) }
         ensures standing { (party_view self.new.post.barrier).standing
             ≡ (party_view self.old.post.barrier).standing }
-        ensures published { published_of (party_view self.new.post.barrier).trail
-            ≡ published_of (party_view self.old.post.barrier).trail }
+        ensures deeds { deeds_of (party_view self.new.post.barrier).trail
+            ≡ deeds_of (party_view self.old.post.barrier).trail }
+        ensures moment { HasMoment bare (party_view self.new.post.barrier) }
         ensures tables { self.new.post.tables ≡ self.old.post.tables }
     {
         let post = &mut self.post;

@@ -4,7 +4,7 @@ ghost use Rattle.spindle_rounds.specs.RoundConditions.{IsFreeInside, IsDone, IsW
 ghost use Rattle.spindle_rounds.specs.RoundShown.{Showed};
 ghost use Rattle.spindle_rounds.specs.RoundSteps.{publishing, round_of};
 ghost use Rattle.spindle_rounds.specs.Seating.{IsSeatAt, IsSameSeat, slots_of};
-ghost use Rattle.spindle_rounds.specs.RoundViews.{published_of};
+ghost use Rattle.spindle_rounds.specs.RoundViews.{StopsAsBefore, published_of};
 ghost use Rattle.spindle_rounds.specs.Holding.{IsHeld, Keeps};
 ghost use Rattle.spindle_rounds.specs.Passing.{InNext};
 ghost use Rattle.spindle_rounds.specs.PieceRounds.{PublishedPieces};
@@ -51,6 +51,7 @@ pub fn publish<'a, D: SlotContents, H: Wait>(
     ensures published { let old = party_view barrier.old in let new = party_view barrier.new in
         (new.standing ≡ old.standing) × (published_of new.trail
         ≡ Showed (round_of old.standing) task.jobs task.may_stop ∷ published_of old.trail) }
+    ensures stops { StopsAsBefore (party_view barrier.old) (party_view barrier.new) }
     ensures last { LastPublished (round_of (party_view barrier.old).standing)
         task.jobs task.may_stop (party_view barrier.new) }
     ensures rest { EndedRest (account_of signals.old) (account_of signals.new) }

@@ -1,5 +1,5 @@
 -- Rounds of a leader: their jobs, where it stands between them, refusals that are passed on, and what a lost piece tells.
-use Rattle.std.proofs.Common.{◌≡◌, ◌≢◌, ℕ, ◌<◌, ◌≤◌, ◌↔◌, Bool, true, false, List, None, Some, ⊎_elim, inl, inr, Result, Ok, Err, ap, ◌∙◌, replicate, zero, suc, sym}
+use Rattle.std.proofs.Common.{◌≡◌, ◌≢◌, ℕ, ◌<◌, ◌≤◌, ◌↔◌, Bool, true, false, if◌then◌else◌, List, Option, None, Some, ⊎_elim, inl, inr, Result, Ok, Err, ap, ◌∙◌, replicate, zero, suc, sym}
 use Rattle.std.proofs.Common.{arith, length, min, ◌==◌, Vec, Global, vec_len, IsErrOf, IsErrAnd, IfErr, OnErr, OnOk, subst}
 use Rattle.std.proofs.lemmas.Bool.{cases_lt, false≢true}
 use Rattle.spindle_parts.specs.declared.fault.Fault.{Fault}
@@ -10,8 +10,8 @@ use Rattle.spindle_trays.specs.Rounds.{job_count}
 use Rattle.spindle_rounds.specs.RoundConditions.{MayFill}
 use Rattle.spindle_threads.specs.Posts.{party_view}
 use Rattle.spindle_threads.specs.declared.leader_member.LeaderMember.{LeaderMember}
-use Rattle.spindle_trays.specs.Leaders.{hands_of, AreLeft, IsTryRefusal, MadeNoStep, PlayedAs, PlayedOnce, TriedOnce}
-use Rattle.spindle_trays.specs.Reports.{is_marked, least_lost, IsNoted}
+use Rattle.spindle_trays.specs.Leaders.{hands_of, AreLeft, IsTryRefusal, MadeNoStep, PlayedAs, PlayedOnce, StoppedNothing, TriedOnce}
+use Rattle.spindle_trays.specs.Reports.{first_astray, is_marked, least_lost, IsNoted}
 use Rattle.spindle_trays.proofs.Reports.{least_first, least_within}
 use Rattle.spindle_trays.specs.declared.lock.leader.Leader.{Leader}
 use Rattle.spindle_trays.specs.declared.pieces.tally.Tally.{Tally}
@@ -89,6 +89,11 @@ two_or_more : {B : Type 0} (n : ℕ) (left : List Bool) (tally : Tally B) (k : �
     → (n ≤ 1 → is_marked left k ≡ true → ⊥) → (tally.lost ≡ None → is_marked left k ≡ true) → 2 ≤ n
 two_or_more n left tally k whole bare lost = ⊎_elim (λ (two : 1 < n). two) (λ (one : n ≤ 1). absurd (bare one (lost (whole one)))) (cases_lt 1 n)
 
+-- where none was noted as lost, and yet one is, none has failed
+none_failed : (failed : Bool) (lost first : Option ℕ) (k : ℕ) → lost ≡ None → (if failed then lost else first) ≡ Some k → failed ≡ false
+none_failed true lost first k none is = absurd cc
+none_failed false lost first k none is = refl
+
 -- so the least lost number of a tally refuses a round that may stop, which was played
 module _ {J G L I O N S A B : Type 0} (Meets : A → B → Type 0) (Fails : B → Type 0) (items : List A) (n : ℕ) (left : List Bool) (tally : Tally B)
     (old new : Leader J G L I O N S) (k : ℕ) (noted : IsNoted Meets Fails items n left n tally) (is : least_lost tally ≡ Some k)
@@ -96,17 +101,17 @@ module _ {J G L I O N S A B : Type 0} (Meets : A → B → Type 0) (Fails : B �
   lost_of_two : 2 ≤ n
   lost_of_two = two_or_more n left tally k whole (λ one. bare one k) (least_within Meets Fails items n left tally k noted is).1
 
-  pub lost_refusal : (hands_of old ≤ 1 → tally.lost ≡ None) → (2 ≤ n → AreLeft n (IsMarked left) old new)
+  pub lost_refusal : (hands_of old ≤ 1 → (tally.lost ≡ None) × (2 ≤ n → tally.failed ≡ false → StoppedNothing old new)) → (2 ≤ n → AreLeft n (IsMarked left) old new)
       → IsTryRefusal Meets Fails items n old new (Lost k)
   lost_refusal alone tried = let within = least_within Meets Fails items n left tally k noted is in let two = lost_of_two in (
     within.0,
     two,
     left,
     tried two,
-    (λ hands. within.1 (alone hands)),
+    (λ hands. (within.1 (alone hands).0, (alone hands).1 two (none_failed tally.failed tally.lost (first_astray tally) k (alone hands).0 is))),
     ⊎_elim inl (λ z. inr (
       ⊎_elim (λ (many : 1 < hands_of old). many)
-          (λ (few : hands_of old ≤ 1). absurd (let e = sym (alone few) ∙ z.0 in cc)) (cases_lt 1 (hands_of old)),
+          (λ (few : hands_of old ≤ 1). absurd (let e = sym (alone few).0 ∙ z.0 in cc)) (cases_lt 1 (hands_of old)),
       tally.ran.items,
       noted.answers,
       z.1,

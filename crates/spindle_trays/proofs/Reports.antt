@@ -129,9 +129,13 @@ marked_more : (k : ℕ) (left : List Bool) (xs : List ℕ) → All (λ j. (j < k
     → All (λ j. (j < k + 1) × (is_marked left j ≡ true)) xs
 marked_more k left xs h i d lt = let e = h i d lt in let b = e.0 in (omega arith, e.1)
 
-either : (a b : Bool) → (a || b) ≡ true → (a ≡ true) ⊎ (b ≡ true)
+pub either : (a b : Bool) → (a || b) ≡ true → (a ≡ true) ⊎ (b ≡ true)
 either true b e = inl refl
 either false b e = inr e
+
+pub or_true : (b : Bool) → (b || true) ≡ true
+or_true true = refl
+or_true false = refl
 
 no_number : (k : ℕ) → Some k ≡ None → ⊥
 no_number k e = absurd cc
@@ -288,6 +292,13 @@ none_lost true None k h = refl
 none_lost true (Some x) k h = absurd (false≢true (sym (h.1 refl)))
 none_lost false None k h = absurd (false≢true (h.0 refl))
 none_lost false (Some x) k h = refl
+
+-- what is told of outputs where no mark is set is so, where there are outputs without a mark
+pub told_here : {X : Type 0} (outputs : Option X) (marked b : Bool) → IsNone outputs ↔ IsTrue marked → (marked ≡ true → ⊥)
+    → IfSome outputs (λ _. marked ≡ false → b ≡ true) → b ≡ true
+told_here outputs true b h bare t = absurd (bare refl)
+told_here None false b h bare t = absurd (false≢true (h.0 refl))
+told_here (Some x) false b h bare t = t refl
 
 -- a first number that was skipped is one of those
 first_among : (xs : List ℕ) (P : ℕ → Type 0) (k : ℕ) → All P xs → slice_get xs 0 ≡ Some k → P k

@@ -1,13 +1,14 @@
 -- Rooms for the outputs of pieces: one that is filled, one more that is made, and those that are left.
 use Rattle.std.proofs.Common.{◌≡◌, ◌≢◌, ℕ, ◌+◌, ◌<◌, ◌≤◌, List, [], ◌∷◌, ◌++◌, Vec, vec_len, vec_capacity, length, get_or, set, inr, ⊎_elim, ap, sym, ◌∙◌}
 use Rattle.std.proofs.Common.{subst, arith}
-use Rattle.std.specs.List.{AllZip}
+use Rattle.std.specs.List.{AllZip, Any}
 use Rattle.std.proofs.lemmas.Bool.{cases_eq}
 use Rattle.std.proofs.lemmas.List.{get_or-set_same, get_or-set_other, get_or_append_left, get_or_push, length-set}
 use Rattle.std.proofs.lemmas.Slice.Zip.{AllZip-long}
 use Rattle.spindle_trays.specs.PieceRuns.{piece_at}
 use Rattle.spindle_trays.specs.Reports.{AreRooms, IsRoomFor}
 use Rattle.spindle_trays.specs.Rounds.{AddsAnswers}
+use Rattle.spindle_trays.specs.Stops.{HasFailedIn}
 
 -- an empty room is large enough
 pub room_fits : {A B Z : Type 0} (Meets : A → B → Type 0) (items : List A) (room : Vec B Z) → IsRoomFor Meets items room → vec_len room ≡ 0
@@ -61,3 +62,26 @@ module _ {A B Z : Type 0} (Meets : A → B → Type 0) (items : List A) (n : ℕ
       (λ (e : j ≢ k). let below : j < k = omega (arith, e, lt) in
       subst (IsRoomFor Meets (piece_at items n j)) (sym (get_or_append_left rooms (room ∷ []) d j (omega (arith, long, below)))) (h j d below))
       (cases_eq j k)
+
+module _ {B Z : Type 0} (Fails : B → Type 0) where
+  -- a room in which a piece ran has its failure still
+  pub failed_kept : (rooms : List (Vec B Z)) (k f : ℕ) (old new : Vec B Z) → old ≡ get_or rooms k old → (Any Fails old.items → Any Fails new.items)
+      → HasFailedIn Fails 0 f rooms → HasFailedIn Fails 0 f (set rooms k new)
+  failed_kept rooms k f old new is keeps h from lt d = let long = length-set rooms k new in ⊎_elim
+      (λ (e : f ≡ k). subst (λ i. Any Fails (get_or (set rooms k new) i d).items) (sym e)
+      (subst (λ (r : Vec B Z). Any Fails r.items) (sym (get_or-set_same rooms k new d (omega (arith, lt, long, e))))
+      (keeps (subst (λ (r : Vec B Z). Any Fails r.items) (sym is)
+      (subst (λ i. Any Fails (get_or rooms i old).items) e (h from (omega (arith, lt, long)) old))))))
+      (λ (e : f ≢ k). subst (λ (r : Vec B Z). Any Fails r.items) (sym (get_or-set_other rooms k f new d e)) (h from (omega (arith, lt, long)) d))
+      (cases_eq f k)
+
+  -- a piece has failed in its room
+  pub failed_set : (rooms : List (Vec B Z)) (k : ℕ) (new : Vec B Z) → Any Fails new.items → HasFailedIn Fails 0 k (set rooms k new)
+  failed_set rooms k new any from lt d = let long = length-set rooms k new in
+      subst (λ (r : Vec B Z). Any Fails r.items) (sym (get_or-set_same rooms k new d (omega (arith, lt, long)))) any
+
+  -- one room is emptied, those behind it stay
+  pub failed_past : (rooms : List (Vec B Z)) (k f : ℕ) (new : Vec B Z) → HasFailedIn Fails k f rooms → HasFailedIn Fails (k + 1) f (set rooms k new)
+  failed_past rooms k f new h from lt d = let long = length-set rooms k new in
+      subst (λ (r : Vec B Z). Any Fails r.items) (sym (get_or-set_other rooms k f new d (λ e. omega (arith, from, e))))
+      (h (omega (arith, from)) (omega (arith, lt, long)) d)

@@ -12,7 +12,7 @@
 -- context have answer and refused: the locks that they open are closed when they return, and the context is the same.
 use denote.Ref.{MutBor}
 use Rattle.std.specs.Fn.{Once, FnOnceReturnsAtMut}
-use Rattle.std.specs.Prelude.{◌≡◌, ◌⊎◌, ◌↔◌, ℕ, ◌<◌, ◌≤◌, Bool, List, Vec, Result, Ok, Err, None, true, length}
+use Rattle.std.specs.Prelude.{◌≡◌, ◌⊎◌, ◌↔◌, ℕ, ◌<◌, ◌≤◌, Bool, List, Vec, Result, Ok, Err, None, true, false, length}
 use Rattle.std.specs.List.{All, Any}
 use Rattle.std.specs.declared.alloc.Global.{Global}
 use Rattle.spindle_parts.specs.declared.fault.Fault.{Fault}
@@ -31,6 +31,7 @@ use Rattle.spindle_rounds.specs.RoundConditions.{MayFill}
 use Rattle.spindle_rounds.specs.RoundSlots.{bare}
 use Rattle.spindle_rounds.specs.RoundSteps.{round_of}
 use Rattle.spindle_rounds.specs.Working.{PlayedRound, PlayedRoundOf}
+use Rattle.spindle_rounds.specs.RoundViews.{StopsAsBefore}
 
 -- the threads of the lock in whose barrier a leader stands
 abbrev pub crew_of : {T S N : Type 0} → LeaderMember T S N → ThreadCounts
@@ -81,6 +82,10 @@ GoesOn old new = IsSameLock old new × IsBetweenRounds new
 abbrev pub MadeNoStep : {J G L I O N S : Type 0} → (old new : Leader J G L I O N S) → Type 0
 MadeNoStep old new = view_of new ≡ view_of old
 
+-- it stopped no round: by its trail there is no stop more than before
+abbrev pub StoppedNothing : {J G L I O N S : Type 0} → (old new : Leader J G L I O N S) → Type 0
+StoppedNothing old new = StopsAsBefore (view_of old) (view_of new)
+
 -- it did nothing: no step at the round table, and none at the ledger
 abbrev pub DidNothing : {J G L I O N S : Type 0} → (old new : Leader J G L I O N S) → Type 0
 DidNothing old new = MadeNoStep old new × (account_of new ≡ account_of old)
@@ -125,7 +130,7 @@ pub record IsBlank {A B : Type 0} (Meets : A → B → Type 0) (Fails : B → Ty
   pub whole : tally.lost ≡ None
 
 -- it was played: what it has left is marked, and what came of each piece is noted. With one piece, or where the leader works alone,
--- none is lost
+-- none is lost, and a leader alone has stopped nothing if none that ran has failed
 pub record IsTallied {J G L I O N S A B : Type 0} (Meets : A → B → Type 0) (Fails : B → Type 0) (items : List A) (n : ℕ) (marks : List Bool)
     (tally : Tally B) (old new : Leader J G L I O N S) : Type 0 where
   pub counted : length marks ≡ n
@@ -133,17 +138,17 @@ pub record IsTallied {J G L I O N S A B : Type 0} (Meets : A → B → Type 0) (
   pub direct : n ≤ 1 → MadeNoStep old new × ((k : ℕ) → IsMarked marks k → ⊥)
   pub noted : IsNoted Meets Fails items n marks n tally
   pub one : n ≤ 1 → tally.lost ≡ None
-  pub alone : hands_of old ≤ 1 → tally.lost ≡ None
+  pub alone : hands_of old ≤ 1 → (tally.lost ≡ None) × (2 ≤ n → tally.failed ≡ false → StoppedNothing old new)
 
 -- why a round over these items that may stop may be refused, but never one of no jobs: for want of memory, or since k is the least
 -- number of a piece that is lost. Of what the round has left none is less, unless another thread takes part and a piece that ran has failed;
--- where the leader works alone k is among it
+-- where the leader works alone k is among it, though this leader has stopped nothing
 abbrev pub IsTryRefusal : {J G L I O N S A B : Type 0} → (A → B → Type 0) → (B → Type 0)
     → List A → (jobs : ℕ) → (old new : Leader J G L I O N S) → Fault → Type 0
 IsTryRefusal Meets Fails items jobs old new Memory = 0 < jobs
 IsTryRefusal {B = B} Meets Fails items jobs old new (Lost k) = (k < jobs) × (2 ≤ jobs)
     × (left : List Bool) × AreLeft jobs (IsMarked left) old new
-    × (hands_of old ≤ 1 → IsMarked left k)
+    × (hands_of old ≤ 1 → IsMarked left k × StoppedNothing old new)
     × (((j : ℕ) → j < k → IsMarked left j → ⊥)
     ⊎ ((2 ≤ hands_of old) × (ran : List (ℕ × Vec B Global))
     × All (IsAnswered Meets items jobs) ran × Any (HasFailed Fails) ran))

@@ -5,20 +5,20 @@
 //! its share back, and nothing of the round is left for it. Whoever finishes the round's last job looks no further.
 //!
 //! What is done with a number is a `Work`. Its `holds` is what is true between two numbers, of the work and of the slots
-//! in the seat's hands; `keeps` is what stays the same from one number to the next. A work may stop the round in which it
-//! runs (`party.task.may_stop`), and what its claim took from the slots stands in the clause `taken`. A table without
-//! slots takes nothing, and a work that has nothing to say writes `Unit {0}` for both. A work goes to `Claimer::work` by value
-//! and comes back; nothing is known afterwards of what it borrowed, so a ghost field keeps what is needed of that.
+//! in the seat's hands; `keeps` is what stays from one number to the next, of the work and of what the seat knows. What a
+//! claim took from the slots stands in the clause `taken`. A work that has nothing to say writes `Unit {0}` for both. It
+//! goes to `Claimer::work` by value and comes back; a ghost field keeps what is needed of what it borrowed.
 //!
 //! Who calls `Claimer::work` has a seat that is on the round's task (`IsAtTask`), with nothing claimed and no share, and
 //! afterwards one that may arrive: the clauses `idle` and `done` are what `Barrier::arrive` asks.
 ghost use Rattle.std.specs.Prelude.{◌≡◌, ◌+◌, ◌<◌, ℕ, List, None, true, MatchBool};
 ghost use denote.Param.Send.{IsSync};
 ghost use Rattle.spindle_rounds.specs.RoundConditions.{MayFinish, MayPutBack, IsItsShare, IsDone, HasEmptiedAll};
-ghost use Rattle.spindle_rounds.specs.RoundViews.{SharesAsBefore};
+ghost use Rattle.spindle_rounds.specs.RoundViews.{Onward, SharesAsBefore, StopsAsBefore};
 ghost use Rattle.spindle_rounds.specs.Seating.{IsSameSeat};
 ghost use Rattle.spindle_rounds.specs.Sources.{IsIn, HasEmptied, HasLeft};
 ghost use Rattle.spindle_rounds.specs.Working.{IsIdle};
+ghost use Rattle.spindle_rounds.specs.declared.round_table.view.View.{View};
 ghost use Rattle.spindle_rounds.specs.PartyWork.{IsAtTask, WentOn, HasTaken, HasFinished};
 
 use crate::round::Round;
@@ -49,8 +49,8 @@ pub trait Work<D: SlotContents> {
     /// What holds of the work, and of the slots in its seat's hands, between two numbers.
     ghost holds: { Self → List (ℕ × D.Slot) → Type 0 };
 
-    /// What stays of the work from one number to the next.
-    ghost keeps: { Self → Self → Type 0 };
+    /// What stays from one number to the next, of the work and of what its seat knows.
+    ghost keeps: { Self → View D.Note → Self → View D.Note → Type 0 };
 
     /// Does what belongs to a number that has begun, and finishes it. It may stop a round that may stop. Answers how many jobs of
     /// the round were finished before this one.
@@ -68,11 +68,13 @@ pub trait Work<D: SlotContents> {
         ensures seat { IsSameSeat seat.old seat.new }
         ensures finished { HasFinished result seat.old.me.0 seat.new.me.0 }
         ensures holds { holds self.new seat.new.me.1 }
-        ensures keeps { keeps self.old self.new };
+        ensures keeps { keeps self.old seat.old.me.0 self.new seat.new.me.0 };
 
-    ghost keeps_same: { (w : Self) → keeps w w };
+    ghost keeps_same: { (w : Self) (x y : View D.Note) → Onward x y → StopsAsBefore x y
+        → keeps w x w y };
 
-    ghost keeps_then: { (u v w : Self) → keeps u v → keeps v w → keeps u w };
+    ghost keeps_then: { (u v w : Self) (x y z : View D.Note) → keeps u x v y → keeps v y w z
+        → keeps u x w z };
 }
 
 impl<'r, D: SlotContents> Claimer<'r, D> {
@@ -90,7 +92,7 @@ impl<'r, D: SlotContents> Claimer<'r, D> {
         ensures idle { IsIdle seat.new.me.0 }
         ensures done { IsDone seat.new.me.0 }
         ensures holds { W.holds result seat.new.me.1 }
-        ensures keeps { W.keeps work result }
+        ensures keeps { W.keeps work seat.old.me.0 result seat.new.me.0 }
     {
         self.work_off(rt, seat, &mut work);
         work
@@ -110,7 +112,7 @@ impl<'r, D: SlotContents> Claimer<'r, D> {
         ensures idle { IsIdle seat.new.me.0 }
         ensures done { IsDone seat.new.me.0 }
         ensures holds { W.holds work.new seat.new.me.1 }
-        ensures keeps { W.keeps work.old work.new }
+        ensures keeps { W.keeps work.old seat.old.me.0 work.new seat.new.me.0 }
     {
         if self.run_from(rt, seat, work, Source::Range(self.thread)) {
             return;
@@ -127,6 +129,7 @@ impl<'r, D: SlotContents> Claimer<'r, D> {
         ensures went { WentOn self.now.round.now self.now.task seat.old seat.new }
         ensures same { SharesAsBefore seat.old.me.0 seat.new.me.0
             × (seat.new.me.0.claim ≡ seat.old.me.0.claim) }
+        ensures stops { StopsAsBefore seat.old.me.0 seat.new.me.0 }
         ensures hands { seat.new.me.1 ≡ seat.old.me.1 }
         ensures seen { seat.new.me.0.known.seen_stop ≡ result }
     {
@@ -149,7 +152,7 @@ impl<'r, D: SlotContents> Claimer<'r, D> {
         ensures idle { IsIdle seat.new.me.0 }
         ensures left { MatchBool result (IsDone seat.new.me.0) (HasEmptied source seat.new.me.0) }
         ensures holds { W.holds work.new seat.new.me.1 }
-        ensures keeps { W.keeps work.old work.new }
+        ensures keeps { W.keeps work.old seat.old.me.0 work.new seat.new.me.0 }
     {
         for _ in rt.forever() {
             if self.sees_stop(seat) {
@@ -185,7 +188,7 @@ impl<'r, D: SlotContents> Claimer<'r, D> {
         ensures idle { IsIdle seat.new.me.0 }
         ensures over { result ≡ true → IsDone seat.new.me.0 }
         ensures holds { W.holds work.new seat.new.me.1 }
-        ensures keeps { W.keeps work.old work.new }
+        ensures keeps { W.keeps work.old seat.old.me.0 work.new seat.new.me.0 }
     {
         let is_over = self.is_last(work.run(rt, self, seat, claimed));
         match share {
@@ -220,7 +223,7 @@ impl<'r, D: SlotContents> Claimer<'r, D> {
         ensures idle { IsIdle seat.new.me.0 }
         ensures over { result ≡ true → IsDone seat.new.me.0 }
         ensures holds { W.holds work.new seat.new.me.1 }
-        ensures keeps { W.keeps work.old work.new }
+        ensures keeps { W.keeps work.old seat.old.me.0 work.new seat.new.me.0 }
     {
         for _ in rt.forever() {
             if self.sees_stop(seat) {
@@ -260,6 +263,7 @@ impl<'r, D: SlotContents> Claimer<'r, D> {
         ensures went { WentOn self.now.round.now self.now.task seat.old seat.new }
         ensures idle { IsIdle seat.new.me.0 }
         ensures seen { seat.new.me.0.known.seen_stop ≡ true }
+        ensures stops { StopsAsBefore seat.old.me.0 seat.new.me.0 }
         ensures hands { seat.new.me.1 ≡ seat.old.me.1 }
     {
         let mut turn = 0;

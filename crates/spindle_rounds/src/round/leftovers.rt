@@ -1,6 +1,6 @@
 //! What a round has left: after a round that was stopped, ranges and remainder stand for the numbers that haven't begun.
 ghost use Rattle.std.specs.Prelude.{◌≡◌, ◌⊎◌, ◌↔◌, ℕ, Bool, ◌<◌, ◌≤◌, length, Some};
-ghost use Rattle.spindle_rounds.specs.Leftovers.{EveryLeftover, AreUnbegun, IsFoundLeft, IsMarked};
+ghost use Rattle.spindle_rounds.specs.Leftovers.{EveryLeftover, AreUnbegun, HasMoment, IsFoundLeft, IsMarked};
 ghost use Rattle.spindle_rounds.specs.RoundConditions.{MayFill};
 ghost use Rattle.spindle_rounds.specs.RoundShown.{Showed, deeds_of};
 ghost use Rattle.spindle_rounds.specs.RoundViews.{Onward, SharesAsBefore};
@@ -22,7 +22,7 @@ impl<D: SlotContents> Round<D> {
     /// marks. Each word is read once.
     ///
     /// By its own trail these are the numbers that it found left; by the rule of the table they are the ones that nobody has
-    /// begun.
+    /// begun. The last of its loads is a moment for which such rules speak.
     pub fn mark_left(&self, seat: &mut Seat<D>, marks: &mut Vec<bool>)
         requires seated { IsSeatAt self.now.init seat.old }
         requires sized { seat.old.me.0.threads ≡ self.now.init.threads }
@@ -32,6 +32,8 @@ impl<D: SlotContents> Round<D> {
         ensures goes_on { Onward seat.old.me.0 seat.new.me.0 }
         ensures same { SharesAsBefore seat.old.me.0 seat.new.me.0
             × (seat.new.me.0.claim ≡ seat.old.me.0.claim) }
+        ensures deeds { deeds_of seat.new.me.0.trail ≡ deeds_of seat.old.me.0.trail }
+        ensures moment { HasMoment D.discipline seat.new.me.0 }
         ensures count { length marks.new.items ≡ length marks.old.items }
         ensures left { (k : ℕ) → IsMarked marks.new.items k
             ↔ IsFoundLeft seat.new.me.0 self.now.init.threads (length marks.old.items) k }

@@ -2,8 +2,8 @@
 ghost use Rattle.std.specs.Prelude.{◌≡◌, ◌+◌, ◌<◌, ◌≤◌, ℕ, IsTrue, ◌↔◌, ◌==◌};
 ghost use Rattle.spindle_rounds.specs.RoundSteps.{stopping, seeing};
 ghost use Rattle.spindle_rounds.specs.RoundAnswers.{SeenBy, PutBy};
-ghost use Rattle.spindle_rounds.specs.Leftovers.{LeftOverBy};
-ghost use Rattle.spindle_rounds.specs.RoundConditions.{MayStop, MaySee, MayPutBack, IsItsShare};
+ghost use Rattle.spindle_rounds.specs.Leftovers.{HasMoment, LeftOverBy};
+ghost use Rattle.spindle_rounds.specs.RoundConditions.{MayFill, MayStop, MaySee, MayPutBack, IsItsShare};
 ghost use Rattle.spindle_rounds.specs.Seating.{IsSeatAt, IsSameSeat};
 
 use crate::round::Round;
@@ -52,12 +52,14 @@ impl<D: SlotContents> Round<D> {
         requires there { t ≤ self.now.init.threads }
         ensures seat { IsSameSeat seat.old seat.new }
         ensures step { LeftOverBy self.now.init.threads t result seat.old.me seat.new.me }
+        ensures moment { t ≡ self.now.init.threads → MayFill seat.old.me.0
+            → HasMoment D.discipline seat.new.me.0 }
     {
         let words = &self.init.table.shared;
         if t < self.init.threads {
             words.load::<Finds>(seat, RANGES + APART * t)
         } else {
-            words.load::<FindsRemainder>(seat, REMAINDER)
+            words.load::<FindsRemainder<D>>(seat, REMAINDER)
         }
     }
 

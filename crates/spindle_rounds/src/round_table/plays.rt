@@ -124,10 +124,12 @@ impl<S, N> Play<S, View<N>> for Finds {
 }
 
 /// The remainder is read, for what is left in it.
-pub(crate) struct FindsRemainder;
+pub(crate) struct FindsRemainder<D: SlotContents> {
+    of: PhantomData<D>,
+}
 
-impl<S, N> Play<S, View<N>> for FindsRemainder {
-    ghost then = { FindRestTells };
+impl<D: SlotContents> Play<D::Slot, View<D::Note>> for FindsRemainder<D> {
+    ghost then = { FindRestTells D.discipline };
 }
 
 /// A member that knows the number reads the published word.

@@ -94,7 +94,7 @@ impl<'t, A: PieceKind> SlotTables<'t, PieceSlots<A>> {
 impl<'r, 'a, J: Job, G: Gate, A: RunsPieces<J>> Work<PieceSlots<A>> for SlotWork<'r, 'a, J, G> {
     ghost holds = { λ work hands. work.leads ≡ true → hands ≡ [] };
 
-    ghost keeps = { λ old new. new.leads ≡ old.leads };
+    ghost keeps = { λ old x new y. new.leads ≡ old.leads };
 
     fn run<H: Threads + Wait + Sync>(
         &mut self,
@@ -109,7 +109,7 @@ impl<'r, 'a, J: Job, G: Gate, A: RunsPieces<J>> Work<PieceSlots<A>> for SlotWork
         party.round.finish(seat, claimed, answer)
     }
 
-    ghost keeps_same = { λ work. refl };
+    ghost keeps_same = { λ work x y on same. refl };
 
-    ghost keeps_then = { λ old then new a b. b ∙ a };
+    ghost keeps_then = { λ old then new x y z a b. b ∙ a };
 }

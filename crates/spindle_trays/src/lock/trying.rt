@@ -185,15 +185,16 @@ impl<'a, J: Opens<L>, G: Gate, L> Leader<'a, J, G, L> {
     {
         let mut rooms = make_rooms::<J>(alloc, pieces, spares)?;
         if pieces.count() == 1 {
+            let none = pieces.count();
             self.runner
-                .tally_rooms(rt, alloc, pieces, rooms, left.as_slice(), tally);
+                .tally_rooms(rt, alloc, pieces, rooms, none, left.as_slice(), tally);
             return Ok(());
         }
         let (post, runner) = (&mut self.post, &mut self.runner);
-        play_rooms(rt, alloc, post, runner, pieces, &mut rooms);
+        let failed = play_rooms(rt, alloc, post, runner, pieces, &mut rooms);
         self.post.mark_left(left);
         self.runner
-            .tally_rooms(rt, alloc, pieces, rooms, left.as_slice(), tally);
+            .tally_rooms(rt, alloc, pieces, rooms, failed, left.as_slice(), tally);
         Ok(())
     }
 }

@@ -1,7 +1,7 @@
 //! What came of the pieces of a round that may stop, noted one after the other.
 ghost use Rattle.std.specs.Option.{option_or};
 ghost use Rattle.std.specs.Result.{result_err};
-ghost use Rattle.std.specs.Prelude.{◌≡◌, ℕ, Bool, List, ◌+◌, ◌<◌, ◌↔◌, None, IfOk, IfSome, IsTrue, OnErr, IsErrOf, true, length};
+ghost use Rattle.std.specs.Prelude.{◌≡◌, ℕ, Bool, List, ◌+◌, ◌<◌, ◌↔◌, None, IfOk, IfSome, IsTrue, OnErr, IsErrOf, true, false, length};
 ghost use Rattle.std.specs.List.{AllZip, Any, Contains};
 ghost use Rattle.spindle_trays.specs.PieceRuns.{piece_at};
 ghost use Rattle.spindle_trays.specs.Reports.{IsNoted, IsReport, is_marked, least_lost, lost_at};
@@ -46,13 +46,14 @@ impl<T> Tally<T> {
     }
 
     /// Notes the next piece: its outputs, where it ran, which it has to where it isn't marked as left. Else it is lost; of
-    /// several that are the first is kept.
+    /// several that are the first is kept. `failed` says of one that it is known to have failed.
     pub(crate) fn note<J: Job<Out = T>>(
         &mut self,
         pieces: &ListRuns<J::In>,
         left: &[bool],
         number: usize,
         outputs: Option<Vec<T>>,
+        failed: bool,
     )
         requires next { number < pieces.now.count }
         requires marks { length left.now ≡ pieces.now.count }
@@ -60,14 +61,18 @@ impl<T> Tally<T> {
             pieces.now.items pieces.now.count left.now number self.old }
         requires answers { IfSome outputs (λ outputs. AllZip J.meets
             (piece_at pieces.now.items pieces.now.count number) outputs.items) }
+        requires failed { failed ≡ true → IfSome outputs (λ outputs. Any J.fails outputs.items) }
         ensures noted { IsNoted J.meets J.fails
             pieces.now.items pieces.now.count left.now (number + 1) self.new }
         ensures lost { self.new.lost
             ≡ option_or self.old.lost (lost_at (is_marked left.now number) outputs number) }
+        ensures failed { self.old.failed ≡ true → self.new.failed ≡ true }
+        ensures told { failed ≡ true → IfSome outputs (λ outputs.
+            is_marked left.now number ≡ false → self.new.failed ≡ true) }
     {
         match outputs {
             Some(outputs) if !left[number] => {
-                self.failed = self.failed | has_failure::<J>(outputs.as_slice());
+                self.failed = self.failed | (failed | has_failure::<J>(outputs.as_slice()));
                 self.ran.push_reserved((number, outputs));
             }
             None if left[number] => self.skipped.push_reserved(number),

@@ -191,7 +191,7 @@ impl<J: Job> Tray<J> {
             pieces.now.items pieces.now.count left.now (number + 1) tally.new }
     {
         let outputs = self.take_outputs(at, number, pieces.piece(number));
-        tally.note::<J>(pieces, left, number, outputs);
+        tally.note::<J>(pieces, left, number, outputs, false);
     }
 
     // Moves the outputs at a place to the end of the list, if the piece of a number with these items is there, run.

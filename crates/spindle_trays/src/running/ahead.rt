@@ -98,7 +98,7 @@ pub(crate) fn play_alone<'a, J: Job, G: Gate, H: Threads + Wait + Sync>(
 impl<'t, 'p, 'r, 'a, J: Job, G: Gate> Work<Bare> for AheadWork<'t, 'p, 'r, 'a, J, G> {
     ghost holds = { λ w hands. HasAnswered J.meets w.pieces.now.items w.pieces.now.count w.next w.outputs };
 
-    ghost keeps = { λ v w. w.pieces ≡ v.pieces };
+    ghost keeps = { λ v x w y. w.pieces ≡ v.pieces };
 
     // The next piece runs where it lies. Another is held until one more is taken.
     fn run<H: Threads + Wait + Sync>(
@@ -126,9 +126,9 @@ impl<'t, 'p, 'r, 'a, J: Job, G: Gate> Work<Bare> for AheadWork<'t, 'p, 'r, 'a, J
         }
     }
 
-    ghost keeps_same = { λ w. refl };
+    ghost keeps_same = { λ w x y on same. refl };
 
-    ghost keeps_then = { λ u v w a b. b ∙ a };
+    ghost keeps_then = { λ u v w x y z a b. b ∙ a };
 }
 
 // Runs the piece of a number where it lies, once those before it have run.

@@ -59,7 +59,7 @@ pub(crate) fn play_in_trays<'a, J: Job, G: Gate, H: Threads + Wait + Sync>(
 impl<'t, 'r, 'a, J: Job, G: Gate> Work<Bare> for TrayWork<'t, 'r, 'a, J, G> {
     ghost holds = { λ w hands. Unit {0} };
 
-    ghost keeps = { λ v w. Unit {0} };
+    ghost keeps = { λ v x w y. Unit {0} };
 
     // Its piece is held until the next is taken, and the one held before goes back.
     fn run<H: Threads + Wait + Sync>(
@@ -81,9 +81,9 @@ impl<'t, 'r, 'a, J: Job, G: Gate> Work<Bare> for TrayWork<'t, 'r, 'a, J, G> {
         before
     }
 
-    ghost keeps_same = { λ w. tt };
+    ghost keeps_same = { λ w x y on same. tt };
 
-    ghost keeps_then = { λ u v w a b. tt };
+    ghost keeps_then = { λ u v w x y z a b. tt };
 }
 
 impl<J: Job> Trays<J> {

@@ -1,10 +1,12 @@
 //! The pieces of a round that may stop where the leader alone runs them. Each has a room, a list for its outputs that is empty until the
 //! piece has run. The rooms stay with the leader and no tray is asked, so nothing can be lost there.
-ghost use Rattle.std.specs.Prelude.{◌≡◌, ◌↔◌, ◌<◌, ◌≤◌, None, true, IfOk, IfSome, IsNone, IsTrue, OnErr, IsErrOf, length};
-ghost use Rattle.std.specs.List.{AllZip};
-ghost use Rattle.std.proofs.Common.{refl, ◌∙◌};
+ghost use Rattle.std.specs.Prelude.{◌≡◌, ◌↔◌, ◌<◌, ◌≤◌, ℕ, None, true, IfOk, IfSome, IsNone, IsTrue, OnErr, IsErrOf, length};
+ghost use Rattle.std.specs.List.{AllZip, Any};
+ghost use Rattle.std.proofs.Common.{ap, inl, refl, ◌∙◌};
 ghost use Rattle.spindle_trays.specs.PieceRuns.{piece_at};
 ghost use Rattle.spindle_trays.specs.Reports.{AreRooms, IsNoted, IsRoomFor};
+ghost use Rattle.spindle_trays.specs.Stops.{HasFailedIn, IsStoppedBy, StopsBy, stops_then};
+ghost use Rattle.spindle_rounds.specs.Leftovers.{IsMarked};
 ghost use Rattle.spindle_threads.specs.Posts.{LastPublished, party_view};
 ghost use Rattle.spindle_rounds.specs.RoundSteps.{round_of};
 ghost use Rattle.spindle_rounds.specs.Working.{PlayedRoundOf};
@@ -28,16 +30,19 @@ use std::mem;
 use std::sync::Wait;
 use std::thread::Threads;
 
-/// What runs the pieces of the numbers that the leader claims, each in its room.
+/// What runs the pieces of the numbers that the leader claims, each in its room. It keeps the number that failed last; as many as there
+/// are pieces stands for none.
 #[derive(Drop)]
 struct SequentialWork<'p, 'r, 'a, J: Job, G: Gate> {
     pieces: &'p ListRuns<J::In>,
     runner: &'r mut Runner<'a, J, G>,
     alloc: Global,
     rooms: Vec<Vec<J::Out>>,
+    failed: usize,
 }
 
-/// Publishes the pieces for a round that may stop, runs those that it claims in their rooms, and ends the round.
+/// Publishes the pieces for a round that may stop, runs those that it claims in their rooms, and ends the round. Answers the number of
+/// the piece that failed last, or where none has, how many there are.
 pub(crate) fn play_rooms<'a, J: Job, G: Gate, H: Threads + Wait + Sync>(
     rt: &H,
     alloc: Global,
@@ -45,10 +50,13 @@ pub(crate) fn play_rooms<'a, J: Job, G: Gate, H: Threads + Wait + Sync>(
     runner: &mut Runner<'a, J, G>,
     pieces: &ListRuns<J::In>,
     rooms: &mut Vec<Vec<J::Out>>,
-)
+) -> usize
     requires counted { (2 ≤ pieces.now.count) × (pieces.now.count ≤ 4294967295) }
     requires fit { AreRooms J.meets pieces.now.items pieces.now.count 0 rooms.old.items }
     ensures fit { AreRooms J.meets pieces.now.items pieces.now.count 0 rooms.new.items }
+    ensures failed { HasFailedIn J.fails 0 result rooms.new.items }
+    ensures stops { IsStoppedBy pieces.now.count result
+        leader.old.post.barrier.seat.me.0 leader.new.post.barrier.seat.me.0 }
     ensures played { PlayedRoundOf pieces.now.count true
         leader.old.post.barrier.seat.me.0 leader.new.post.barrier.seat.me.0 }
     ensures last { LastPublished (round_of (party_view leader.old.post.barrier).standing)
@@ -61,15 +69,18 @@ pub(crate) fn play_rooms<'a, J: Job, G: Gate, H: Threads + Wait + Sync>(
         runner,
         alloc,
         rooms: mem::replace(rooms, Vec::new(alloc)),
+        failed: pieces.count(),
     };
     let work = leader.lead(rt, signals, pieces.task(true), work);
     *rooms = work.rooms;
+    work.failed
 }
 
 impl<'p, 'r, 'a, J: Job, G: Gate> Work<Bare> for SequentialWork<'p, 'r, 'a, J, G> {
-    ghost holds = { λ w hands. AreRooms J.meets w.pieces.now.items w.pieces.now.count 0 w.rooms.items };
+    ghost holds = { λ w hands. AreRooms J.meets w.pieces.now.items w.pieces.now.count 0 w.rooms.items
+        × HasFailedIn J.fails 0 w.failed w.rooms.items };
 
-    ghost keeps = { λ v w. w.pieces ≡ v.pieces };
+    ghost keeps = { λ v x w y. (w.pieces ≡ v.pieces) × StopsBy v.pieces.now.count v.failed x w.failed y };
 
     // The piece of the number runs, and a failure stops the round.
     fn run<H: Threads + Wait + Sync>(
@@ -80,14 +91,18 @@ impl<'p, 'r, 'a, J: Job, G: Gate> Work<Bare> for SequentialWork<'p, 'r, 'a, J, G
         claimed: Claimed,
     ) -> u64 {
         let number = claimed.number() as usize;
-        let failed = self.run_piece(rt, number);
+        let failed = self.run_piece(rt, number) && party.task.may_stop;
+        if failed {
+            self.failed = number;
+        }
         let finished: Finished<J> = Finished::empty(self.alloc, number);
         finish(party, seat, claimed, &finished, failed)
     }
 
-    ghost keeps_same = { λ w. refl };
+    ghost keeps_same = { λ w x y on same. (refl, (on.standing, inl (refl, same))) };
 
-    ghost keeps_then = { λ u v w a b. b ∙ a };
+    ghost keeps_then = { λ u v w x y z a b. (b.0 ∙ a.0, stops_then u.pieces.now.count v.pieces.now.count
+        u.failed v.failed w.failed x y z (ap (λ p. p.now.count) a.0) a.1 b.1) };
 }
 
 impl<'p, 'r, 'a, J: Job, G: Gate> SequentialWork<'p, 'r, 'a, J, G> {
@@ -97,7 +112,11 @@ impl<'p, 'r, 'a, J: Job, G: Gate> SequentialWork<'p, 'r, 'a, J, G> {
             self.old.pieces.now.items self.old.pieces.now.count 0 self.old.rooms.items }
         ensures fit { AreRooms J.meets
             self.new.pieces.now.items self.new.pieces.now.count 0 self.new.rooms.items }
-        ensures pieces { self.new.pieces ≡ self.old.pieces }
+        ensures pieces { (self.new.pieces ≡ self.old.pieces) × (self.new.failed ≡ self.old.failed) }
+        ensures kept { (f : ℕ) → HasFailedIn J.fails 0 f self.old.rooms.items
+            → HasFailedIn J.fails 0 f self.new.rooms.items }
+        ensures failed { result ≡ true → (number < self.new.pieces.now.count)
+            × HasFailedIn J.fails 0 number self.new.rooms.items }
     {
         if number >= self.pieces.count() {
             return false;
@@ -131,17 +150,20 @@ pub(crate) fn make_rooms<J: Job>(
 
 impl<'a, J: Job, G: Gate> Runner<'a, J, G> {
     /// Notes what came of the pieces in their rooms, of which some are marked as left. One that isn't, and that hasn't run,
-    /// runs now.
+    /// runs now. The room of the number `failed` has a failure, if there is such a room.
     pub(crate) fn tally_rooms<H: Threads + Wait + Sync>(
         &mut self,
         rt: &H,
         alloc: Global,
         pieces: &ListRuns<J::In>,
         mut rooms: Vec<Vec<J::Out>>,
+        failed: usize,
         left: &[bool],
         tally: &mut Tally<J::Out>,
     )
         requires fit { AreRooms J.meets pieces.now.items pieces.now.count 0 rooms.items }
+        requires failed { HasFailedIn J.fails 0 failed rooms.items }
+        requires unmarked { failed < pieces.now.count → IsMarked left.now failed → ⊥ }
         requires marks { length left.now ≡ pieces.now.count }
         requires fresh { IsNoted J.meets J.fails
             pieces.now.items pieces.now.count left.now 0 tally.old }
@@ -149,12 +171,13 @@ impl<'a, J: Job, G: Gate> Runner<'a, J, G> {
         ensures noted { IsNoted J.meets J.fails
             pieces.now.items pieces.now.count left.now pieces.now.count tally.new }
         ensures whole { tally.new.lost ≡ None }
+        ensures told { failed < pieces.now.count → tally.new.failed ≡ true }
         ensures site { self.new.site ≡ self.old.site }
     {
         for number in 0..pieces.count() {
             let room = &mut rooms[number];
             let outputs = self.take_room(rt, alloc, left[number], pieces, number, room);
-            tally.note::<J>(pieces, left, number, outputs);
+            tally.note::<J>(pieces, left, number, outputs, number == failed);
         }
     }
 
@@ -173,6 +196,7 @@ impl<'a, J: Job, G: Gate> Runner<'a, J, G> {
             (piece_at pieces.now.items pieces.now.count number) room.old }
         ensures answers { IfSome result (λ outputs. AllZip J.meets
             (piece_at pieces.now.items pieces.now.count number) outputs.items) }
+        ensures kept { Any J.fails room.old.items → IfSome result (λ outputs. Any J.fails outputs.items) }
         ensures ran { IsNone result ↔ IsTrue is_left }
         ensures site { self.new.site ≡ self.old.site }
     {
@@ -198,6 +222,7 @@ fn run_in_room<J: Job, G: Gate, H: Threads + Wait + Sync>(
 )
     requires fits { IsRoomFor J.meets items.now room.old }
     ensures answered { AllZip J.meets items.now room.new.items }
+    ensures kept { Any J.fails room.old.items → Any J.fails room.new.items }
     ensures site { runner.new.site ≡ runner.old.site }
 {
     if !room.is_empty() {

@@ -3,6 +3,7 @@ use Rattle.std.proofs.Common.{◌≡◌, ℕ, ◌∷◌, Some, inl, sym, ap, sub
 use Rattle.spindle_rounds.specs.RoundAnswers.{FilledBy}
 use Rattle.spindle_rounds.specs.RoundSteps.{publishing, round_of}
 use Rattle.spindle_rounds.specs.RoundShown.{Showed}
+use Rattle.spindle_rounds.specs.RoundViews.{shown_of, stopped_of, stops_of}
 use Rattle.spindle_rounds.proofs.RoundClients.{filled_round, round_published}
 use Rattle.spindle_threads.specs.Posts.{LastPublished}
 use Rattle.spindle_threads.proofs.publish_and_end.publish.Goals as goal
@@ -24,7 +25,13 @@ returns-clause-published g c = let m = c.args.barrier.now.seat.me in let l = c.r
     let may = subst (λ (q : ℕ). D.may_publish q n m.0.board) (ap round_of l.0.1) c.requires.pieces in
     let f = filled_round D _ n l.0.0 m.0 c.fill.new.seat.me.0 l.0.1 l.1 may (filled g c) in
     let p = round_published c.fill.new.seat.me c.publish_task.new.seat.me l.0.0 n may_stop f.4 (shown g c) in
-    (ap (λ z. z.0.standing) (shown g c) ∙ (f.4 ∙ sym l.0.1), rw (ap round_of l.0.1) (p.4 ∙ ap (λ t. Showed l.0.0 n may_stop ∷ t) f.1))
+    (ap (λ z. z.0.standing) (shown g c) ∙ (f.4 ∙ sym l.0.1), rw (ap round_of l.0.1) (p.4 ∙ ap (λ t. Showed l.0.0 n may_stop ∷ shown_of t) f.1))
+
+pub returns-clause-stops : goal.returns-clause-stops
+returns-clause-stops g c = let m = c.args.barrier.now.seat.me in let l = c.requires.leads in let D = g.D.SlotContents.discipline in
+    let n = c.args.task.jobs in let may = subst (λ (q : ℕ). D.may_publish q n m.0.board) (ap round_of l.0.1) c.requires.pieces in
+    let f = filled_round D _ n l.0.0 m.0 c.fill.new.seat.me.0 l.0.1 l.1 may (filled g c) in
+    ap (λ z. stops_of z.0.trail) (shown g c) ∙ ap stopped_of f.1
 
 pub returns-clause-task : goal.returns-clause-task
 returns-clause-task g c = let m = c.args.barrier.now.seat.me in let l = c.requires.leads in let D = g.D.SlotContents.discipline in

@@ -71,6 +71,13 @@ pub returns-clause-goes_on : goal.returns-clause-goes_on
 returns-clause-goes_on g c = let m = c.loop-thread.seat.me in let w = c.left-rest.new.seat.me in let t = c.args.self.now.init.threads in
     onward_then c.args.seat.now.me.0 m.0 w.0 c.loop-thread.invariant.on (left_seen m w t t c.left-rest.result (omega arith) c.left-rest.ensures.step).0
 
+pub returns-clause-deeds : goal.returns-clause-deeds
+returns-clause-deeds g c = ap (λ z. deeds_of z.0.trail) (c.left-rest.ensures.step.1 refl) ∙ c.loop-thread.invariant.deeds
+
+pub returns-clause-moment : goal.returns-clause-moment
+returns-clause-moment g c = let i = c.loop-thread.invariant in let old = c.requires.between in
+    c.left-rest.ensures.moment refl ((old.0.0, i.on.standing ∙ old.0.1), i.on.unpublished ∙ old.1)
+
 pub returns-clause-same : goal.returns-clause-same
 returns-clause-same g c = let i = c.loop-thread.invariant in let t = c.args.self.now.init.threads in
     let s = left_seen c.loop-thread.seat.me c.left-rest.new.seat.me t t c.left-rest.result (omega arith) c.left-rest.ensures.step in
@@ -83,11 +90,10 @@ returns-clause-left g c = let n = c.loop-thread.invariant.count in
 
 pub returns-clause-unbegun : goal.returns-clause-unbegun
 returns-clause-unbegun g c = λ q may_stop laid shown t s rule at k. let i = c.loop-thread.invariant in let n = i.count in
-    let e = c.left-rest.ensures.step.1 refl in
     let w = c.left-rest.new.seat.me.0 in let old = c.requires.between in let m = c.loop-thread.seat.me.0 in
     let on = (left_seen c.loop-thread.seat.me c.left-rest.new.seat.me c.args.self.now.init.threads c.args.self.now.init.threads c.left-rest.result (omega arith)
     c.left-rest.ensures.step).0 in let all = onward_then c.args.seat.now.me.0 m w i.on on in
-    let deeds : deeds_of w.trail ≡ deeds_of c.args.seat.now.me.0.trail = ap (λ z. deeds_of z.0.trail) e ∙ i.deeds in
+    let deeds = returns-clause-deeds g c in
     let sized : w.threads ≡ c.args.self.now.init.threads = all.threads ∙ c.requires.sized in let found = at_last g c in
     let length_is : ℕ = length c.args.marks.now.items in
     let tells = every_leftover g.D.SlotContents.discipline w q length_is may_stop ((old.0.0, all.standing ∙ old.0.1), all.unpublished ∙ old.1) (all.laid ∙ laid)

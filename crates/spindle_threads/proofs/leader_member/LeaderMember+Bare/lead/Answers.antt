@@ -3,7 +3,7 @@ use Rattle.std.proofs.Common.{ℕ, ◌+◌, Bool, false, List, ap, sym, ◌∙�
 use Rattle.spindle_rounds.specs.Passing.{InNext}
 use Rattle.spindle_rounds.specs.RoundShown.{Showed}
 use Rattle.spindle_rounds.specs.RoundSteps.{round_of, unknown}
-use Rattle.spindle_rounds.specs.RoundViews.{Onward, shown_of}
+use Rattle.spindle_rounds.specs.RoundViews.{Onward, shown_of, stopped_of}
 use Rattle.spindle_rounds.specs.SlotSteps.{IsDeed}
 use Rattle.spindle_rounds.specs.declared.round_table.view.Standing.TheVariants.{Inside}
 use Rattle.spindle_rounds.specs.declared.round_table.view.View.{View}
@@ -23,6 +23,16 @@ pub returns-clause-played : goal.returns-clause-played
 returns-clause-played g c = let w = c.work-work.ensures in
     played_after c.args.task.jobs c.args.task.may_stop c.args.self.now.post.barrier.seat.me.0 c.publish.new.barrier.seat.me.0 c.work-work.new.seat.me
     c.end_round.new.barrier.seat.me c.publish.ensures.published (rw c.seat.ensures.value at w.went.on) w.idle c.end_round.ensures.next
+
+pub returns-clause-keeps : goal.returns-clause-keeps
+returns-clause-keeps g c = let u = c.work-work.new.seat.me in (
+  c.publish.new.barrier.seat.me.0,
+  u.0,
+  c.publish.ensures.stops,
+  c.publish.ensures.published.0,
+  rw c.seat.ensures.value at c.work-work.ensures.keeps,
+  ap stopped_of (moved_deeds (Inside (round_of u.0.standing + 1)) (unknown u.0.leader false) u c.end_round.new.barrier.seat.me c.end_round.ensures.next),
+)
 
 pub returns-clause-last : goal.returns-clause-last
 returns-clause-last g c = last_after _ c.args.task.jobs c.args.task.may_stop c.publish.new.barrier.seat.me.0 c.work-work.new.seat.me c.end_round.new.barrier.seat.me

@@ -1,19 +1,12 @@
 -- The round that the leader has published last is the one that the words stand for.
-use Rattle.std.proofs.Common.{◌≡◌, ℕ, Bool, Some, List, [], ◌∷◌, length, inl, inr, ⊎_elim, sym, subst, ◌∙◌}
+use Rattle.std.proofs.Common.{◌≡◌, Some, length, sym, subst, ◌∙◌}
 use Rattle.spindle_threads.specs.Posts.{party_view}
-use Rattle.spindle_rounds.specs.RoundShown.{Deed, Began, Ended, Showed, deeds_of}
+use Rattle.spindle_rounds.specs.RoundShown.{Showed, deeds_of}
 use Rattle.spindle_rounds.specs.RoundConditions.{MayFill}
 use Rattle.spindle_rounds.specs.RoundSteps.{round_of}
-use Rattle.spindle_rounds.specs.RoundViews.{shown_of}
 use Rattle.spindle_rounds.specs.SlotSteps.{IsDeed}
+use Rattle.spindle_rounds.proofs.PieceClients.{shown_deed}
 use Rattle.spindle_threads.proofs.leader_member.LeaderMember+Bare.mark_left.Goals as goal
-
--- a publish among the publishes is among the deeds
-shown_deed : (r n : ℕ) (b : Bool) (ds : List Deed) → IsDeed (Showed r n b) (shown_of ds) → IsDeed (Showed r n b) ds
-shown_deed r n b [] e = e
-shown_deed r n b (Began q k ∷ ds) e = inr (shown_deed r n b ds e)
-shown_deed r n b (Ended q k ∷ ds) e = inr (shown_deed r n b ds e)
-shown_deed r n b (Showed q m c ∷ ds) e = ⊎_elim inl (λ z. inr (shown_deed r n b ds z)) e
 
 pub mark_left-requires-clause-between : goal.mark_left-requires-clause-between
 mark_left-requires-clause-between c = let post = c.args.self.now.post in let v = party_view post.barrier in

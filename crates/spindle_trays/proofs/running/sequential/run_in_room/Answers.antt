@@ -1,8 +1,11 @@
 -- An empty room is large enough.
-use Rattle.std.proofs.Common.{◌≡◌, length, vec_len, rules}
+use Rattle.std.proofs.Common.{◌≡◌, arith, length, vec_len, rules}
 use Rattle.spindle_trays.proofs.Rooms.{room_fits}
 use Rattle.spindle_trays.proofs.running.sequential.run_in_room.Goals as goal
 
 pub run-requires-clause-room : goal.run-requires-clause-room
 run-requires-clause-room g c κs within = let short : vec_len c.args.room.now ≡ 0 = search rules in let none : length c.args.room.now.items ≡ 0 = search rules in
     room_fits g.J.Job.meets c.args.items.now c.args.room.now c.requires.fits short none
+
+pub returns-clause-kept : goal.returns-clause-kept
+returns-clause-kept g c = λ any. let none : length c.args.room.now.items ≡ 0 = search rules in let lt = any.2 in absurd (omega arith)

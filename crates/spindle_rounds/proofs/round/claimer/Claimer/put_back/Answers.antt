@@ -1,5 +1,5 @@
 -- The share is back at the first attempt that finds the range empty and unchanged.
-use Rattle.std.proofs.Common.{arith, rules, ◌∙◌, sym, refl}
+use Rattle.std.proofs.Common.{arith, rules, ◌∙◌, refl}
 use Rattle.spindle_rounds.specs.declared.round.stopping.PutBack.TheVariants as back
 use Rattle.spindle_rounds.proofs.RoundClients.{share_put}
 use Rattle.spindle_rounds.proofs.PartyWork.{went_first, went_more, put_hands}
@@ -10,6 +10,7 @@ loop-init g c = record {
   went = went_first _ _ c.args.seat.now c.requires.at;
   may = c.requires.free;
   own = c.requires.share;
+  stops = refl;
   hands = refl;
   turn =
       (let placed = c.args.self.now.placed in omega arith);
@@ -18,23 +19,28 @@ loop-init g c = record {
 pub returns-in-Put-clause-went : goal.returns-in-Put-clause-went
 returns-in-Put-clause-went g c = let i = c.loop.invariant in
     let a = share_put c.loop.seat.me c.put_back.new.seat.me _ back.Put c.loop.share c.put_back.new.share i.may i.own c.in-Put.ensures.step in
-    went_more _ _ _ c.loop.seat c.put_back.new.seat i.went c.put_back.ensures.seat a.0 (λ _. a.1.2 ∙ sym i.may.2)
+    went_more _ _ _ c.loop.seat c.put_back.new.seat i.went c.put_back.ensures.seat a.0 (λ _. a.1)
 
 pub returns-in-Put-clause-seen : goal.returns-in-Put-clause-seen
 returns-in-Put-clause-seen g c = let i = c.loop.invariant in
-    let a = share_put c.loop.seat.me c.put_back.new.seat.me _ back.Put c.loop.share c.put_back.new.share i.may i.own c.in-Put.ensures.step in a.1.2
+    let a = share_put c.loop.seat.me c.put_back.new.seat.me _ back.Put c.loop.share c.put_back.new.share i.may i.own c.in-Put.ensures.step in a.2.2
 
 pub returns-in-Put-clause-idle : goal.returns-in-Put-clause-idle
 returns-in-Put-clause-idle g c = let i = c.loop.invariant in
     let a = share_put c.loop.seat.me c.put_back.new.seat.me _ back.Put c.loop.share c.put_back.new.share i.may i.own c.in-Put.ensures.step in
-    (a.1.1, (let x = a.2.0 in let y = a.2.1 in let same = a.3 refl in omega arith))
+    (a.2.1, (let x = a.3.0 in let y = a.3.1 in let same = a.4 refl in omega arith))
+
+pub returns-in-Put-clause-stops : goal.returns-in-Put-clause-stops
+returns-in-Put-clause-stops g c = let i = c.loop.invariant in
+    let a = share_put c.loop.seat.me c.put_back.new.seat.me _ back.Put c.loop.share c.put_back.new.share i.may i.own c.in-Put.ensures.step in a.1.1 ∙ i.stops
 
 pub loop-preserved : goal.loop-preserved
 loop-preserved g c = let i = c.loop.invariant in let a =
     share_put c.loop.seat.me c.put_back.new.seat.me _ c.put_back.result c.loop.share c.put_back.new.share i.may i.own c.put_back.ensures.step in record {
-      went = went_more _ _ _ c.loop.seat c.put_back.new.seat i.went c.put_back.ensures.seat a.0 (λ _. a.1.2 ∙ sym i.may.2);
-      may = a.1;
-      own = a.2;
+      went = went_more _ _ _ c.loop.seat c.put_back.new.seat i.went c.put_back.ensures.seat a.0 (λ _. a.1);
+      may = a.2;
+      own = a.3;
+      stops = a.1.1 ∙ i.stops;
       hands = put_hands _ c.put_back.result _ _ c.loop.seat.me c.put_back.new.seat.me c.put_back.ensures.step ∙ i.hands;
       turn = search rules;
     }

@@ -15,7 +15,7 @@ returns-in-Some-clause-went g c = let f = c.run.ensures in went_then _ _ _ _ _
     (went_more _ _ _ c.args.seat.now c.run.new.seat (went_first _ _ c.args.seat.now c.requires.at) f.seat f.finished.0 f.finished.1) c.run_share.ensures.went
 
 pub returns-in-Some-clause-keeps : goal.returns-in-Some-clause-keeps
-returns-in-Some-clause-keeps g c = g.met.W.Work.keeps_then _ _ _ c.run.ensures.keeps c.run_share.ensures.keeps
+returns-in-Some-clause-keeps g c = g.met.W.Work.keeps_then _ _ _ _ _ _ c.run.ensures.keeps c.run_share.ensures.keeps
 
 pub returns-in-None-clause-over : goal.returns-in-None-clause-over
 returns-in-None-clause-over g c = let f = c.run.ensures in

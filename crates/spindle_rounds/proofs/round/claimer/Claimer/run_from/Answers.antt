@@ -1,6 +1,7 @@
 -- The party claims from the source, and has worked on after each claim.
-use Rattle.std.proofs.Common.{◌∙◌, sym, subst, inl, inr}
+use Rattle.std.proofs.Common.{◌∙◌, refl, sym, subst, inl, inr}
 use Rattle.spindle_rounds.proofs.PartyWork.{went_first, went_then, went_more, still_idle, claims_at}
+use Rattle.spindle_rounds.proofs.RoundOnward.{onward_same}
 use Rattle.spindle_rounds.proofs.round.claimer.Claimer.run_from.Goals as goal
 
 pub loop-init : goal.loop-init
@@ -8,7 +9,7 @@ loop-init g c = record {
   went = went_first _ _ c.args.seat.now c.requires.at;
   idle = c.requires.idle;
   holds = c.requires.holds;
-  keeps = g.met.W.Work.keeps_same _;
+  keeps = g.met.W.Work.keeps_same _ _ _ (onward_same c.args.seat.now.me.0) refl;
 }
 
 pub returns-then-sees_stop-clause-went : goal.returns-then-sees_stop-clause-went
@@ -17,6 +18,9 @@ returns-then-sees_stop-clause-went g c = went_then _ _ _ _ _ c.loop.invariant.we
 pub returns-then-sees_stop-clause-idle : goal.returns-then-sees_stop-clause-idle
 returns-then-sees_stop-clause-idle g c = let i = c.loop.invariant in let e = c.sees_stop.ensures in
     still_idle c.loop.seat.me.0 c.sees_stop.new.seat.me.0 i.idle e.same.0 (e.same.1 ∙ i.idle.0)
+
+pub returns-then-sees_stop-clause-keeps : goal.returns-then-sees_stop-clause-keeps
+returns-then-sees_stop-clause-keeps g c = let e = c.sees_stop.ensures in g.met.W.Work.keeps_then _ _ _ _ _ _ c.loop.invariant.keeps (g.met.W.Work.keeps_same _ _ _ e.went.on e.stops)
 
 pub returns-then-sees_stop-clause-holds : goal.returns-then-sees_stop-clause-holds
 returns-then-sees_stop-clause-holds g c = rw c.sees_stop.ensures.hands c.loop.invariant.holds
@@ -45,7 +49,7 @@ loop-preserved-else-run g c = let i = c.loop.invariant in let e = c.sees_stop.en
       (λ _. a.1)) f.went;
   idle = f.idle;
   holds = f.holds;
-  keeps = g.met.W.Work.keeps_then _ _ _ i.keeps f.keeps;
+  keeps = g.met.W.Work.keeps_then _ _ _ _ _ _ (g.met.W.Work.keeps_then _ _ _ _ _ _ i.keeps (g.met.W.Work.keeps_same _ _ _ e.went.on e.stops)) (g.met.W.Work.keeps_then _ _ _ _ _ _ (g.met.W.Work.keeps_same _ _ _ a.0 a.1.1) f.keeps);
 }
 
 pub returns-then-sees_stop-clause-left : goal.returns-then-sees_stop-clause-left
@@ -59,7 +63,8 @@ pub returns-then-run-clause-left : goal.returns-then-run-clause-left
 returns-then-run-clause-left g c = c.run.ensures.over c.if-run.true
 
 pub returns-then-run-clause-keeps : goal.returns-then-run-clause-keeps
-returns-then-run-clause-keeps g c = g.met.W.Work.keeps_then _ _ _ c.loop.invariant.keeps c.run.ensures.keeps
+returns-then-run-clause-keeps g c = let e = c.sees_stop.ensures in let a = c.in-Job.ensures.taken in
+    g.met.W.Work.keeps_then _ _ _ _ _ _ (g.met.W.Work.keeps_then _ _ _ _ _ _ c.loop.invariant.keeps (g.met.W.Work.keeps_same _ _ _ e.went.on e.stops)) (g.met.W.Work.keeps_then _ _ _ _ _ _ (g.met.W.Work.keeps_same _ _ _ a.0 a.1.1) c.run.ensures.keeps)
 
 pub returns-in-Nothing-clause-went : goal.returns-in-Nothing-clause-went
 returns-in-Nothing-clause-went g c = let a = c.in-Nothing.ensures.taken in
@@ -68,6 +73,10 @@ returns-in-Nothing-clause-went g c = let a = c.in-Nothing.ensures.taken in
 
 pub returns-in-Nothing-clause-idle : goal.returns-in-Nothing-clause-idle
 returns-in-Nothing-clause-idle g c = let a = c.in-Nothing.ensures.taken in (a.2.0.2, a.2.0.3)
+
+pub returns-in-Nothing-clause-keeps : goal.returns-in-Nothing-clause-keeps
+returns-in-Nothing-clause-keeps g c = let e = c.sees_stop.ensures in let a = c.in-Nothing.ensures.taken in
+    g.met.W.Work.keeps_then _ _ _ _ _ _ (g.met.W.Work.keeps_then _ _ _ _ _ _ c.loop.invariant.keeps (g.met.W.Work.keeps_same _ _ _ e.went.on e.stops)) (g.met.W.Work.keeps_same _ _ _ a.0 a.1.1)
 
 pub returns-in-Nothing-clause-left : goal.returns-in-Nothing-clause-left
 returns-in-Nothing-clause-left g c = c.in-Nothing.ensures.taken.4
@@ -81,5 +90,5 @@ loop-preserved g c = let i = c.loop.invariant in let e = c.sees_stop.ensures in 
   went = went_more _ _ _ c.sees_stop.new.seat c.try_claim.new.seat (went_then _ _ _ _ _ i.went e.went) c.try_claim.ensures.seat a.0 (λ _. a.1);
   idle = (a.2.0.2, a.2.0.3);
   holds = subst (λ h. g.W.Work.holds c.loop.work h) (sym (a.3 ∙ e.hands)) i.holds;
-  keeps = i.keeps;
+  keeps = g.met.W.Work.keeps_then _ _ _ _ _ _ (g.met.W.Work.keeps_then _ _ _ _ _ _ i.keeps (g.met.W.Work.keeps_same _ _ _ e.went.on e.stops)) (g.met.W.Work.keeps_same _ _ _ a.0 a.1.1);
 }

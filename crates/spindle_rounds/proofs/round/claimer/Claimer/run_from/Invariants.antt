@@ -8,5 +8,5 @@ invariant-loop g l = record {
   went : WentOn l.self.round.now l.self.task l.fn.seat l.seat;
   idle : IsIdle l.seat.me.0;
   holds : g.W.Work.holds l.work l.seat.me.1;
-  keeps : g.W.Work.keeps l.fn.work l.work;
+  keeps : g.W.Work.keeps l.fn.work l.fn.seat.me.0 l.work l.seat.me.0;
 }

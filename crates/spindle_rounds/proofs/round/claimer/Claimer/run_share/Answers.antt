@@ -1,9 +1,10 @@
 -- The numbers of a share, one after another, or back into a range.
-use Rattle.std.proofs.Common.{arith, ◌∙◌, sym, subst, ap, inl, inr}
+use Rattle.std.proofs.Common.{arith, ◌∙◌, refl, sym, subst, ap, inl, inr}
 use Rattle.spindle_rounds.specs.RoundConditions.{HasEmptiedAll}
 use Rattle.spindle_rounds.specs.Working.{IsIdle}
 use Rattle.spindle_rounds.proofs.RoundClients.{share_next}
 use Rattle.spindle_rounds.proofs.PartyWork.{went_first, went_then, went_more, went_still, share_taken, over_at, over_on, done_over}
+use Rattle.spindle_rounds.proofs.RoundOnward.{onward_same}
 use Rattle.spindle_rounds.proofs.round.claimer.Claimer.run_share.Goals as goal
 
 pub loop-init : goal.loop-init
@@ -13,7 +14,7 @@ loop-init g c = record {
   own = c.requires.share;
   over = c.requires.over;
   holds = c.requires.holds;
-  keeps = g.met.W.Work.keeps_same _;
+  keeps = g.met.W.Work.keeps_same _ _ _ (onward_same c.args.seat.now.me.0) refl;
 }
 
 pub put_back-requires-clause-free : goal.put_back-requires-clause-free
@@ -29,6 +30,10 @@ returns-then-sees_stop-clause-went g c = went_then _ _ _ _ _ (went_then _ _ _ _ 
 
 pub returns-then-sees_stop-clause-over : goal.returns-then-sees_stop-clause-over
 returns-then-sees_stop-clause-over g c = λ _. inr (inl c.put_back.ensures.seen)
+
+pub returns-then-sees_stop-clause-keeps : goal.returns-then-sees_stop-clause-keeps
+returns-then-sees_stop-clause-keeps g c = let e = c.sees_stop.ensures in let p = c.put_back.ensures in
+    g.met.W.Work.keeps_then _ _ _ _ _ _ (g.met.W.Work.keeps_then _ _ _ _ _ _ c.loop.invariant.keeps (g.met.W.Work.keeps_same _ _ _ e.went.on e.stops)) (g.met.W.Work.keeps_same _ _ _ p.went.on p.stops)
 
 pub returns-then-sees_stop-clause-holds : goal.returns-then-sees_stop-clause-holds
 returns-then-sees_stop-clause-holds g c = rw (c.put_back.ensures.hands, c.sees_stop.ensures.hands) c.loop.invariant.holds
@@ -58,7 +63,7 @@ loop-preserved g c = let i = c.loop.invariant in let e = c.sees_stop.ensures in 
       own = (n.3.0 ∙ sym f.finished.2.0, n.3.1 ∙ sym f.finished.2.1);
       over = λ e. over_at _ _ b c.run.new.seat c.run.result claimed.at f.finished (c.is_last-is_over.ensures e);
       holds = f.holds;
-      keeps = g.met.W.Work.keeps_then _ _ _ i.keeps f.keeps;
+      keeps = g.met.W.Work.keeps_then _ _ _ _ _ _ (g.met.W.Work.keeps_then _ _ _ _ _ _ i.keeps (g.met.W.Work.keeps_same _ _ _ e.went.on e.stops)) (g.met.W.Work.keeps_then _ _ _ _ _ _ (g.met.W.Work.keeps_same _ _ _ n.0 n.1.1) f.keeps);
     }
 
 pub returns-in-None-next_of_share-clause-went : goal.returns-in-None-next_of_share-clause-went
@@ -76,6 +81,11 @@ returns-in-None-next_of_share-clause-over g c = let i = c.loop.invariant in let 
     let went = went_still _ _ _ c.sees_stop.new.seat c.next_of_share.new.seat (went_then _ _ _ _ _ i.went e.went) c.next_of_share.ensures.seat step.0 in
     λ over. done_over _ _ c.next_of_share.new.seat went.at
     (subst (λ m. HasEmptiedAll m.0) (sym step.0) (over_on c.loop.seat.me.0 c.sees_stop.new.seat.me.0 e.went.on (i.over over)))
+
+pub returns-in-None-next_of_share-clause-keeps : goal.returns-in-None-next_of_share-clause-keeps
+returns-in-None-next_of_share-clause-keeps g c = let e = c.sees_stop.ensures in
+    subst (λ m. g.W.Work.keeps c.args.work.now c.args.seat.now.me.0 c.loop.work m.0) (sym c.in-None-next_of_share.ensures.step.0)
+    (g.met.W.Work.keeps_then _ _ _ _ _ _ c.loop.invariant.keeps (g.met.W.Work.keeps_same _ _ _ e.went.on e.stops))
 
 pub returns-in-None-next_of_share-clause-holds : goal.returns-in-None-next_of_share-clause-holds
 returns-in-None-next_of_share-clause-holds g c = subst (λ h. g.W.Work.holds c.loop.work h)

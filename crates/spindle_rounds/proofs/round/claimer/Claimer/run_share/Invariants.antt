@@ -11,5 +11,5 @@ invariant-loop g l = record {
   own : IsItsShare l.share l.seat.me.0;
   over : l.is_over ≡ true → HasEmptiedAll l.seat.me.0;
   holds : g.W.Work.holds l.work l.seat.me.1;
-  keeps : g.W.Work.keeps l.fn.work l.work;
+  keeps : g.W.Work.keeps l.fn.work l.fn.seat.me.0 l.work l.seat.me.0;
 }

@@ -12,7 +12,7 @@ pub returns-then-run_from-2-clause-done : goal.returns-then-run_from-2-clause-do
 returns-then-run_from-2-clause-done g c = rw c.if-run_from-2.true at c.run_from-2.ensures.left
 
 pub returns-then-run_from-2-clause-keeps : goal.returns-then-run_from-2-clause-keeps
-returns-then-run_from-2-clause-keeps g c = g.met.W.Work.keeps_then _ _ _ c.run_from.ensures.keeps c.run_from-2.ensures.keeps
+returns-then-run_from-2-clause-keeps g c = g.met.W.Work.keeps_then _ _ _ _ _ _ c.run_from.ensures.keeps c.run_from-2.ensures.keeps
 
 pub returns-clause-went : goal.returns-clause-went
 returns-clause-went g c = went_then _ _ _ _ _ (went_then _ _ _ _ _ c.run_from.ensures.went c.run_from-2.ensures.went) c.run_from-3.ensures.went
@@ -22,5 +22,5 @@ returns-clause-done g c = done_at _ _ c.run_from-2.new.seat c.run_from-3.new.sea
     (rw c.if-run_from-2.false at c.run_from-2.ensures.left) c.run_from-3.result c.run_from-3.ensures.left
 
 pub returns-clause-keeps : goal.returns-clause-keeps
-returns-clause-keeps g c = g.met.W.Work.keeps_then _ _ _
-    (g.met.W.Work.keeps_then _ _ _ c.run_from.ensures.keeps c.run_from-2.ensures.keeps) c.run_from-3.ensures.keeps
+returns-clause-keeps g c = g.met.W.Work.keeps_then _ _ _ _ _ _
+    (g.met.W.Work.keeps_then _ _ _ _ _ _ c.run_from.ensures.keeps c.run_from-2.ensures.keeps) c.run_from-3.ensures.keeps

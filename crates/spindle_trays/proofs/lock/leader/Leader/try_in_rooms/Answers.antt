@@ -1,10 +1,16 @@
 -- A fresh tally fits all marks.
-use Rattle.std.proofs.Common.{ℕ, true, refl, ap, subst, ◌∙◌}
+use Rattle.std.proofs.Common.{ℕ, true, ⊎_elim, inl, refl, ap, sym, subst, ◌∙◌, arith}
+use Rattle.std.proofs.lemmas.Bool.{false≢true}
 use Rattle.spindle_threads.specs.Posts.{LastPublished, party_view}
 use Rattle.spindle_rounds.specs.Leftovers.{AreUnbegun, IsMarked}
 use Rattle.spindle_rounds.specs.RoundSlots.{bare}
+use Rattle.spindle_rounds.specs.RoundShown.{Stopped}
 use Rattle.spindle_rounds.specs.RoundSteps.{round_of}
+use Rattle.spindle_rounds.specs.RoundViews.{shown_of, stopped_of}
+use Rattle.spindle_rounds.specs.SlotSteps.{IsDeed}
+use Rattle.spindle_rounds.proofs.Leftovers.{stopped_begun}
 use Rattle.spindle_trays.specs.Leaders.{view_of}
+use Rattle.spindle_trays.specs.Stops.{HasStoppedAt}
 use Rattle.spindle_trays.proofs.LeaderRounds.{not_one, not_two, passed_on}
 use Rattle.spindle_trays.proofs.lock.leader.Leader.try_in_rooms.Goals as goal
 
@@ -13,6 +19,16 @@ tally_rooms-requires-clause-fresh g c κs within = c.requires.blank.fresh c.as_s
 
 pub tally_rooms-requires-2-clause-fresh : goal.tally_rooms-requires-2-clause-fresh
 tally_rooms-requires-2-clause-fresh g c κs within = c.requires.blank.fresh c.as_slice-2.result.now
+
+pub tally_rooms-requires-2-clause-unmarked : goal.tally_rooms-requires-2-clause-unmarked
+tally_rooms-requires-2-clause-unmarked g c κs within = λ lt marked. let p = c.play_rooms.ensures in let m = c.mark_left.ensures in
+    let n = c.args.pieces.now.count in let f = c.play_rooms.result in let q = round_of (view_of c.args.self.now).standing in
+    let w = party_view c.mark_left.new.self.post.barrier in let marks = c.mark_left.new.marks.items in
+    let v = party_view c.play_rooms.new.leader.post.barrier in
+    ⊎_elim (λ none. absurd (omega (arith, lt, none.0)))
+    (λ (at : HasStoppedAt n f (view_of c.args.self.now) v). stopped_begun bare w q n f (IsMarked marks) m.moment
+    (subst (λ (n : ℕ). LastPublished q n true v → AreUnbegun bare q n w (IsMarked marks)) c.requires.blank.counted (m.unbegun q true) p.last)
+    (subst (IsDeed (Stopped q f)) (sym (ap stopped_of m.deeds ∙ at.2)) (inl refl)) (rw c.as_slice-2.ensures.value at marked)) p.stops
 
 pub returns-in_err-rooms : goal.returns-in_err-rooms
 returns-in_err-rooms g c = rw (passed_on c.from_residual.result c.from_residual.ensures.1 c.in_err-rooms.ensures.memory)
@@ -26,7 +42,7 @@ returns g c = let p = c.play_rooms.ensures in let m = c.mark_left.ensures in let
       tallied = record {
         counted = m.count ∙ c.requires.blank.counted;
         tried = λ two. (
-          (m.published ∙ p.played.0, m.standing ∙ p.played.1),
+          (ap shown_of m.deeds ∙ p.played.0, m.standing ∙ p.played.1),
           (
             rw (p.tables, c.requires.blank.counted) at m.left,
             subst (λ (n : ℕ). LastPublished q n true v → AreUnbegun bare q n w (IsMarked marks)) c.requires.blank.counted (m.unbegun q true) p.last,
@@ -35,7 +51,10 @@ returns g c = let p = c.play_rooms.ensures in let m = c.mark_left.ensures in let
         direct = λ one. absurd (not_one _ _ c.count.ensures.number c.count.ensures.some c.if-count-eq1.false one);
         noted = rw (← c.as_slice-2.ensures.value) e.noted;
         one = λ _. e.whole;
-        alone = λ _. e.whole;
+        alone = λ _. (
+          e.whole,
+          λ two none. ⊎_elim (λ still. ap stopped_of m.deeds ∙ still.1) (λ at. absurd (false≢true (sym none ∙ e.told at.0))) p.stops,
+        );
       };
       memory = tt;
       lock = (ap (λ t. t.now.counts.most) (m.tables ∙ p.tables), ap (λ t. t.now.counts.threads) (m.tables ∙ p.tables));
@@ -50,7 +69,7 @@ returns-then-count-eq1 g c = let e = c.tally_rooms.ensures in
         direct = λ _. (refl, c.requires.blank.unmarked);
         noted = rw (← c.as_slice.ensures.value) e.noted;
         one = λ _. e.whole;
-        alone = λ _. e.whole;
+        alone = λ _. (e.whole, λ two none. refl);
       };
       memory = tt;
       lock = (refl, refl);

@@ -4,6 +4,7 @@ use Rattle.spindle_threads.specs.Posts.{LastPublished, party_view}
 use Rattle.spindle_rounds.specs.Leftovers.{AreUnbegun, IsMarked}
 use Rattle.spindle_rounds.specs.RoundSlots.{bare}
 use Rattle.spindle_rounds.specs.RoundSteps.{round_of}
+use Rattle.spindle_rounds.specs.RoundViews.{shown_of}
 use Rattle.spindle_trays.specs.Leaders.{view_of}
 use Rattle.spindle_trays.proofs.LeaderRounds.{passed_on}
 use Rattle.spindle_trays.proofs.lock.leader.Leader.try_in_trays.Goals as goal
@@ -24,7 +25,7 @@ returns g c = let p = c.play_in_trays.ensures in let m = c.mark_left.ensures in 
       tallied = record {
         counted = m.count ∙ c.requires.blank.counted;
         tried = λ two. (
-          (m.published ∙ played.0, m.standing ∙ played.1),
+          (ap shown_of m.deeds ∙ played.0, m.standing ∙ played.1),
           (
             rw (p.tables, c.requires.blank.counted) at m.left,
             subst (λ (n : ℕ). LastPublished q n true v → AreUnbegun bare q n w (IsMarked marks)) c.requires.blank.counted (m.unbegun q true) last,

@@ -1,9 +1,9 @@
 -- The tally goes on with one piece more.
-use Rattle.std.proofs.Common.{◌≡◌, ◌||◌, ℕ, ◌∙◌, ap, false, true, Option, Some, IfSome, Vec, Global, rules, refl, subst, unwrap_or}
+use Rattle.std.proofs.Common.{◌≡◌, ◌||◌, ℕ, ◌∙◌, ap, false, true, Option, Some, IfSome, Vec, Global, rules, refl, subst, unwrap_or, ⊎_elim}
 use Rattle.std.specs.List.{AllZip, Any}
 use Rattle.spindle_trays.specs.PieceRuns.{piece_at}
 use Rattle.spindle_trays.specs.Reports.{is_marked}
-use Rattle.spindle_trays.proofs.Reports.{first_kept, noted_lost, noted_ran, noted_skipped}
+use Rattle.spindle_trays.proofs.Reports.{either, first_kept, noted_lost, noted_ran, noted_skipped, or_true}
 use Rattle.spindle_trays.proofs.pieces.tally.Tally.note.Goals as goal
 
 pub returns-in-Some-clause-noted : goal.returns-in-Some-clause-noted
@@ -14,10 +14,22 @@ returns-in-Some-clause-noted g c = let p = c.args.pieces.now in let old = c.args
     noted_ran g.J.Job.meets g.J.Job.fails p.items p.count c.args.left.now c.args.number old (record {
       ran = c.push_reserved.new.self;
       skipped = old.skipped;
-      failed = old.failed || c.has_failure.result;
+      failed = old.failed || (c.args.failed || c.has_failure.result);
       lost = old.lost;
-    }) c.in-Some.outputs c.has_failure.result unmarked answered (λ t. subst (Any g.J.Job.fails) c.as_slice.ensures.value (c.has_failure.ensures t))
+    }) c.in-Some.outputs (c.args.failed || c.has_failure.result) unmarked answered (λ t. ⊎_elim
+    (λ known. subst (λ (o : Option (Vec g.row.T.Denot Global)). IfSome o (λ outputs. Any g.J.Job.fails outputs.items)) c.in-Some.is (c.requires.failed known))
+    (λ found. subst (Any g.J.Job.fails) c.as_slice.ensures.value (c.has_failure.ensures found)) (either c.args.failed c.has_failure.result t))
     e.len e.capacity e.items refl refl refl c.requires.noted
+
+pub returns-in-Some-clause-failed : goal.returns-in-Some-clause-failed
+returns-in-Some-clause-failed g c = λ was. ap (λ b. b || (c.args.failed || c.has_failure.result)) was
+
+pub returns-in-Some-clause-told : goal.returns-in-Some-clause-told
+returns-in-Some-clause-told g c = λ known. rw c.in-Some.is (λ unmarked. ap (λ b. c.args.self.now.failed || (b || c.has_failure.result)) known
+    ∙ or_true c.args.self.now.failed)
+
+pub returns-in-None-clause-told : goal.returns-in-None-clause-told
+returns-in-None-clause-told g c = λ known. rw c.in-None.is tt
 
 pub returns-in-None-clause-noted : goal.returns-in-None-clause-noted
 returns-in-None-clause-noted g c = let p = c.args.pieces.now in let old = c.args.self.now in let e = c.push_reserved-in-None.ensures in

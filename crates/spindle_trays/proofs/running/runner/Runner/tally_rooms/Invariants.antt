@@ -1,6 +1,7 @@
 -- The pieces so far are noted, none of them is lost, and the rooms of the others are as they were.
-use Rattle.std.proofs.Common.{◌≡◌, None}
+use Rattle.std.proofs.Common.{◌≡◌, ◌<◌, None, true}
 use Rattle.spindle_trays.specs.Reports.{AreRooms, IsNoted}
+use Rattle.spindle_trays.specs.Stops.{HasFailedIn}
 use Rattle.spindle_trays.proofs.running.runner.Runner.tally_rooms.Given as goal
 
 abbrev pub invariant-loop-number : goal.invariant-loop-number
@@ -8,5 +9,7 @@ invariant-loop-number g l = record {
   fit : AreRooms g.J.Job.meets l.pieces.items l.pieces.count l.number l.rooms.items;
   noted : IsNoted g.J.Job.meets g.J.Job.fails l.pieces.items l.pieces.count l.left l.number l.tally;
   whole : l.tally.lost ≡ None;
+  failed : HasFailedIn g.J.Job.fails l.number l.failed l.rooms.items;
+  told : l.failed < l.number → l.tally.failed ≡ true;
   site : l.self.site ≡ l.fn.self.site;
 }
