@@ -14,7 +14,7 @@ returns g c = (
   c.new-leader.result,
   _,
   (
-    c.new-leader.ensures.threads ∙ ap (λ (k : ThreadCounts). k.most) c.muster-runner.ensures.counts,
+    c.new-leader.ensures.threads ∙ ap (λ (k : ThreadCounts). k.most) c.muster-post.ensures.counts,
     ap g.J.OpensSlots.slot_count c.new-leader.ensures.post ∙ (c.settle.ensures _ refl ∙ c.new.ensures),
   ),
   record { shown = _; shows = refl; left = _; met = c.f-answer.ensures; leaves = refl },

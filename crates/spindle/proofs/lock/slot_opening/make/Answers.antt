@@ -1,6 +1,5 @@
 -- The round table was opened for these threads.
-use Rattle.std.proofs.Common.{[], true, ap, sym, ◌∙◌}
-use Rattle.std.proofs.lemmas.Result.{IfOk-weaker}
+use Rattle.std.proofs.Common.{[], true, ap, sym, ◌∙◌, rules}
 use Rattle.spindle_rounds.specs.RoundSteps.{outsider}
 use Rattle.spindle.proofs.lock.slot_opening.make.Goals as goal
 
