@@ -19,8 +19,8 @@ loop-count-preserved g c =
           goes_on f s kernel (items_of c.args.strips.now.items) c.args.edge c.loop-count.count c.loop-count.strips.items new i.0 i.1 i.2 c.in_ok-pass.ensures.updated not,
     )
 
-pub returns-then-settled-clause-passed : goal.returns-then-settled-clause-passed
-returns-then-settled-clause-passed g c = λ kernel noted.
+pub returns-then-have_settled-clause-passed : goal.returns-then-have_settled-clause-passed
+returns-then-have_settled-clause-passed g c = λ kernel noted.
     let f = g.K.Stencil.becomes in let s = g.K.Stencil.settles in
     let new : List (Strip g.row.K-Value.Denot (Note g.row.K.Denot)) = c.pass.new.strips.items in
     let all : all_settled new ≡ true = search rules in
