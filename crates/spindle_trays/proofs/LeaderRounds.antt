@@ -1,5 +1,5 @@
 -- Rounds of a leader: their jobs, where it stands between them, refusals that are passed on, and what a lost piece tells.
-use Rattle.std.proofs.Common.{◌≡◌, ◌≢◌, ℕ, ◌<◌, ◌≤◌, ◌↔◌, Bool, true, false, if◌then◌else◌, List, Option, None, Some, ⊎_elim, inl, inr, Result, Ok, Err, ap, ◌∙◌, replicate, zero, suc, sym}
+use Rattle.std.proofs.Common.{◌≡◌, ◌≢◌, ℕ, ◌<◌, ◌≤◌, ◌↔◌, Bool, true, false, if◌then◌else◌, List, Option, None, Some, ⊎_elim, inl, inr, Result, Ok, Err, refl, ap, ◌∙◌, replicate, zero, suc, sym}
 use Rattle.std.proofs.Common.{arith, length, min, ◌==◌, Vec, Global, vec_len, IsErrOf, IsErrAnd, IfErr, OnErr, OnOk, subst}
 use Rattle.std.proofs.lemmas.Bool.{cases_lt, false≢true}
 use Rattle.spindle_parts.specs.declared.fault.Fault.{Fault}

@@ -21,10 +21,10 @@ pub tally_rooms-requires-2-clause-fresh : goal.tally_rooms-requires-2-clause-fre
 tally_rooms-requires-2-clause-fresh g c κs within = c.requires.blank.fresh c.as_slice-2.result.now
 
 pub tally_rooms-requires-2-clause-unmarked : goal.tally_rooms-requires-2-clause-unmarked
-tally_rooms-requires-2-clause-unmarked g c κs within = λ lt marked. let p = c.play_rooms.ensures in let m = c.mark_left.ensures in
-    let n = c.args.pieces.now.count in let f = c.play_rooms.result in let q = round_of (view_of c.args.self.now).standing in
+tally_rooms-requires-2-clause-unmarked g c κs within = λ lt marked. let p = c.play_rooms-failed.ensures in let m = c.mark_left.ensures in
+    let n = c.args.pieces.now.count in let f = c.play_rooms-failed.result in let q = round_of (view_of c.args.self.now).standing in
     let w = party_view c.mark_left.new.self.post.barrier in let marks = c.mark_left.new.marks.items in
-    let v = party_view c.play_rooms.new.leader.post.barrier in
+    let v = party_view c.play_rooms-failed.new.leader.post.barrier in
     ⊎_elim (λ none. absurd (omega (arith, lt, none.0)))
     (λ (at : HasStoppedAt n f (view_of c.args.self.now) v). stopped_begun bare w q n f (IsMarked marks) m.moment
     (subst (λ (n : ℕ). LastPublished q n true v → AreUnbegun bare q n w (IsMarked marks)) c.requires.blank.counted (m.unbegun q true) p.last)
@@ -35,9 +35,9 @@ returns-in_err-rooms g c = rw (passed_on c.from_residual.result c.from_residual.
     (record { tallied = tt; memory = (refl, refl); lock = (refl, refl) })
 
 pub returns : goal.returns
-returns g c = let p = c.play_rooms.ensures in let m = c.mark_left.ensures in let e = c.tally_rooms-2.ensures in
+returns g c = let p = c.play_rooms-failed.ensures in let m = c.mark_left.ensures in let e = c.tally_rooms-2.ensures in
     let q = round_of (view_of c.args.self.now).standing in let marks = c.mark_left.new.marks.items in
-    let v = party_view c.play_rooms.new.leader.post.barrier in let w = party_view c.mark_left.new.self.post.barrier in
+    let v = party_view c.play_rooms-failed.new.leader.post.barrier in let w = party_view c.mark_left.new.self.post.barrier in
     record {
       tallied = record {
         counted = m.count ∙ c.requires.blank.counted;

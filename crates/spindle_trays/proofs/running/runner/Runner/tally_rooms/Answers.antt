@@ -16,7 +16,7 @@ take_room-outputs-requires-clause-fits g c κs within = let p = c.args.pieces.no
 
 -- the room at hand has a failure where its number is the one that failed
 pub note-requires-clause-failed : goal.note-requires-clause-failed
-note-requires-clause-failed g c κs within = λ known. let i = c.loop-number in let room = c.index_mut-room.result.now in
+note-requires-clause-failed g c known = let i = c.loop-number in let room = c.index_mut-room.result.now in
     let lt : i.number < length i.rooms.items = search rules in let same : i.number ≡ c.args.failed = search rules in
     c.take_room-outputs.ensures.kept (subst (λ r. Any g.J.Job.fails r.items) (sym c.index_mut-room.ensures.value)
     (subst (λ k. Any g.J.Job.fails (get_or i.rooms.items k room).items) (sym same) (i.invariant.failed (omega arith) (omega arith) room)))
