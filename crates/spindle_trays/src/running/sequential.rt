@@ -101,8 +101,11 @@ impl<'p, 'r, 'a, J: Job, G: Gate> Work<Bare> for SequentialWork<'p, 'r, 'a, J, G
 
     ghost keeps_same = { λ w x y on same. (refl, (on.standing, inl (refl, same))) };
 
-    ghost keeps_then = { λ u v w x y z a b. (b.0 ∙ a.0, stops_then u.pieces.now.count v.pieces.now.count
-        u.failed v.failed w.failed x y z (ap (λ p. p.now.count) a.0) a.1 b.1) };
+    ghost keeps_then = { λ u v w x y z a b. (
+      b.0 ∙ a.0,
+      stops_then u.pieces.now.count v.pieces.now.count
+          u.failed v.failed w.failed x y z (ap (λ p. p.now.count) a.0) a.1 b.1,
+    ) };
 }
 
 impl<'p, 'r, 'a, J: Job, G: Gate> SequentialWork<'p, 'r, 'a, J, G> {

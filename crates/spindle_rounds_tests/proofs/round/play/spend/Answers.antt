@@ -17,8 +17,10 @@ loop-i-preserved c = let f = c.loop-i.invariant in let v = c.args.seat.now.me.0 
             table = ap (λ s. s.table_id) w.seat-is ∙ (e.seat.0 ∙ (c.next_of_share.ensures.seat.0 ∙ f.table));
             id = ap (λ s. s.id) w.seat-is ∙ (e.seat.1 ∙ (c.next_of_share.ensures.seat.1 ∙ f.id));
             on = subst (λ s. Onward v s.me.0) (sym w.seat-is) (onward_then v a.0 z f.on (onward_then a.0 b.0 z n.0 e.goes_on.0));
-            sees = (ap (λ s. s.me.0.known.seen_stop) w.seat-is ∙ (e.goes_on.1.0 ∙ (n.1.0 ∙ f.sees.0)),
-                ap (λ s. stops_of s.me.0.trail) w.seat-is ∙ (e.goes_on.1.1 ∙ (n.1.1 ∙ f.sees.1)));
+            sees = (
+              ap (λ s. s.me.0.known.seen_stop) w.seat-is ∙ (e.goes_on.1.0 ∙ (n.1.0 ∙ f.sees.0)),
+              ap (λ s. stops_of s.me.0.trail) w.seat-is ∙ (e.goes_on.1.1 ∙ (n.1.1 ∙ f.sees.1)),
+            );
             idle = ap (λ s. s.me.0.claim) w.seat-is ∙ e.share.1;
             own = (n.3.0 ∙ (sym e.share.0.0 ∙ sym (ap (λ s. s.me.0.from) w.seat-is)), n.3.1 ∙ (sym e.share.0.1 ∙ sym (ap (λ s. s.me.0.to) w.seat-is)));
             from = omega arith;

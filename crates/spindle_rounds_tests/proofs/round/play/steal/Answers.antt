@@ -19,8 +19,10 @@ returns-in-Job-clause-free c = let v = c.args.seat.now.me.0 in let w = c.try_ste
     let z = c.spend.new.seat.me.0 in
     let a = stolen bare c.args.seat.now.me c.try_steal.new.seat.me c.requires.free _ (steal.Job _ _) c.in-Job.ensures.step in let f = c.finish-number.ensures in
     let s = c.spend.ensures in
-    claims_again v z c.requires.free (onward_then v w z a.0 (onward_then w u z f.goes_on.0 s.goes_on.0)) (s.goes_on.1.0 ∙ (f.goes_on.1.0 ∙ a.1.0),
-    s.goes_on.1.1 ∙ (f.goes_on.1.1 ∙ a.1.1)) s.free.0 s.free.1
+    claims_again v z c.requires.free (onward_then v w z a.0 (onward_then w u z f.goes_on.0 s.goes_on.0)) (
+      s.goes_on.1.0 ∙ (f.goes_on.1.0 ∙ a.1.0),
+      s.goes_on.1.1 ∙ (f.goes_on.1.1 ∙ a.1.1),
+    ) s.free.0 s.free.1
 
 pub returns-in-Nothing-clause-free : goal.returns-in-Nothing-clause-free
 returns-in-Nothing-clause-free c = (stolen bare c.args.seat.now.me c.try_steal.new.seat.me c.requires.free _ steal.Nothing c.in-Nothing.ensures.step).3

@@ -16,4 +16,4 @@ pub returns-clause-knows : goal.returns-clause-knows
 returns-clause-knows g c = let may = subst (λ s. MayClaim s.me.0) (sym c.seat.ensures.value) c.requires.free in
     let a = remainder_claimed bare c.seat.result.now.me c.try_claim_rest.new.seat.me may (number_or c.seat.result.now.me.0.known.number)
     (claim.Job _) c.in-Job.ensures.step in
-    ((may.1.0, a.0.number ∙ may.1.1), a.1 ∙ may.2)
+    ((may.1.0, a.0.number ∙ may.1.1), a.1.0 ∙ may.2)

@@ -22,6 +22,8 @@ returns-clause-kept g c = λ f h. failed_kept g.J.Job.fails c.args.self.now.room
     c.index_mut-room.ensures.value c.run_in_room.ensures.kept h
 
 pub returns-clause-failed : goal.returns-clause-failed
-returns-clause-failed g c = λ t. let lt : c.args.number < c.args.self.now.pieces.now.count = search rules in
-    (lt, failed_set g.J.Job.fails c.args.self.now.rooms.items c.args.number c.run_in_room.new.room
-    (subst (Any g.J.Job.fails) c.as_slice.ensures.value (c.has_failure.ensures t)))
+returns-clause-failed g c = λ t. let lt : c.args.number < c.args.self.now.pieces.now.count = search rules in (
+  lt,
+  failed_set g.J.Job.fails c.args.self.now.rooms.items c.args.number c.run_in_room.new.room
+      (subst (Any g.J.Job.fails) c.as_slice.ensures.value (c.has_failure.ensures t)),
+)
