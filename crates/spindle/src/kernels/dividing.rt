@@ -1,0 +1,202 @@
+//! A problem that is divided level by level. In a round the branches of a level are split, and in another, once those below have been
+//! answered, they are answered.
+ghost use Rattle.std.specs.Prelude.{◌≡◌, ◌<◌, ◌++◌, IfOk, OnErr, IsErrOf, map, zip, length};
+ghost use Rattle.std.specs.List.{AllZip};
+ghost use denote.Param.Send.{IsSync};
+ghost use Rattle.spindle.specs.Divisions.{first_of, second_of, joined_at, Allows, LeadsTo};
+
+use crate::kernels::held::Again;
+use crate::kernels::tasks::{Task, tasks_of};
+use crate::kernels::{Divide, Split};
+use crate::lock::place_rounds::update;
+use spindle_parts::fault::Fault;
+use spindle_slots::job::update::{InPlace, Update};
+use spindle_slots::leader_states::place_leader_state::PlaceLeaderState;
+use spindle_trays::job::context::JobCx;
+use spindle_trays::job::gate::Gate;
+use spindle_trays::job::nest::End;
+use spindle_trays::running::runner::Runner;
+use std::alloc::{AllocError, Global};
+use std::marker::PhantomData;
+use std::sync::Wait;
+use std::thread::Threads;
+
+/// What a problem has become on the way to its answer.
+#[derive(Drop)]
+pub enum Branch<P, A> {
+    /// A problem that nobody has split yet.
+    Whole(P),
+    /// It was split into these two.
+    Parts(P, P),
+    /// These answer the two.
+    Answers(A, A),
+    /// This answers it.
+    Answered(A),
+    /// There is no problem: the second part of one that was not split.
+    Nothing,
+}
+
+impl<P: Drop, A: Drop> Branch<P, A> {
+    // The answer, where there is a problem.
+    fn answer<K: Divide<Problem = P, Answer = A>>(self, kernel: &K) -> Option<A>
+        ensures { Allows (K.solves kernel.now) (K.splits kernel.now) self result }
+    {
+        match self {
+            Branch::Whole(problem) => Some(kernel.solve(problem)),
+            Branch::Parts(first, second) => {
+                let first = kernel.solve(first);
+                let second = kernel.solve(second);
+                Some(kernel.join(first, second))
+            }
+            Branch::Answers(first, second) => Some(kernel.join(first, second)),
+            Branch::Answered(answer) => Some(answer),
+            Branch::Nothing => None,
+        }
+    }
+
+    // A problem is split, or answered where it is small. Anything else is answered.
+    fn next<K: Divide<Problem = P, Answer = A>>(self, kernel: &K) -> Branch<P, A>
+        ensures { LeadsTo (K.solves kernel.now) (K.splits kernel.now) self result }
+    {
+        match self {
+            Branch::Whole(problem) => match kernel.split(problem) {
+                Split::Whole(problem) => Branch::Answered(kernel.solve(problem)),
+                Split::Parts(first, second) => Branch::Parts(first, second),
+            },
+            branch => match branch.answer::<K>(kernel) {
+                Some(answer) => Branch::Answered(answer),
+                None => Branch::Nothing,
+            },
+        }
+    }
+}
+
+/// The kind of job that takes branches further.
+pub struct Dividing<K> {
+    kind: PhantomData<K>,
+}
+
+impl<K: Divide + Drop> Update for Dividing<K> {
+    type Item = Task<K, Branch<K::Problem, K::Answer>>;
+
+    type Inner = End;
+
+    ghost updated = { λ old new.
+        LeadsTo (K.solves old.kernel) (K.splits old.kernel) old.part new.part };
+
+    fn run<H: Threads + Wait + Sync>(
+        _rt: &H,
+        _alloc: Global,
+        task: Task<K, Branch<K::Problem, K::Answer>>,
+        _cx: &mut JobCx<End>,
+    ) -> Task<K, Branch<K::Problem, K::Answer>> {
+        let Task { kernel, part } = task;
+        let part = part.next::<K>(&kernel);
+        Task { kernel, part }
+    }
+}
+
+// One round over branches.
+fn advance<K: Divide + Again, G: Gate, H: Threads + Wait + Sync>(
+    rt: &H,
+    alloc: Global,
+    runner: &mut Runner<'_, InPlace<Dividing<K>>, G>,
+    post: &mut PlaceLeaderState<InPlace<Dividing<K>>>,
+    kernel: &K,
+    branches: Vec<Branch<K::Problem, K::Answer>>,
+) -> Result<Vec<Branch<K::Problem, K::Answer>>, Fault>
+    requires { IsSync H.row }
+    ensures advanced { IfOk result (λ new. AllZip
+        (LeadsTo (K.solves kernel.now) (K.splits kernel.now)) branches.items new.items) }
+    ensures memory { OnErr result (IsErrOf result Fault.Memory) }
+{
+    let mut tasks = tasks_of(alloc, kernel, branches)?;
+    let jobs = tasks.len();
+    update::<InPlace<Dividing<K>>, PlaceLeaderState<InPlace<Dividing<K>>>, G, H>(
+        rt, alloc, runner, post, jobs, &mut tasks,
+    )?;
+    let mut branches = Vec::with_capacity(alloc, jobs)?;
+    for task in tasks {
+        branches.push(task.part)?;
+    }
+    Ok(branches)
+}
+
+// The first parts of branches that were split, or what else they are; behind them all second parts.
+fn opened<P: Drop, A: Drop>(
+    alloc: Global,
+    branches: Vec<Branch<P, A>>,
+) -> Result<Vec<Branch<P, A>>, AllocError>
+    ensures { IfOk result (λ parts.
+        parts.items ≡ map first_of branches.items ++ map second_of branches.items) }
+{
+    let mut parts = Vec::new(alloc);
+    let mut seconds = Vec::new(alloc);
+    for branch in branches {
+        match branch {
+            Branch::Parts(first, second) => {
+                parts.push(Branch::Whole(first))?;
+                seconds.push(Branch::Whole(second))?;
+            }
+            branch => {
+                parts.push(branch)?;
+                seconds.push(Branch::Nothing)?;
+            }
+        }
+    }
+    parts.append(&mut seconds)?;
+    Ok(parts)
+}
+
+// What branches are, once this answers their first parts, and behind them their second ones.
+fn closed<P: Drop, A: Drop>(
+    alloc: Global,
+    mut firsts: Vec<Option<A>>,
+    count: usize,
+) -> Result<Vec<Branch<P, A>>, AllocError>
+    requires { length firsts.items ≡ count + count }
+    ensures { IfOk result (λ branches. branches.items
+        ≡ map joined_at (zip (take count firsts.items) (drop count firsts.items))) }
+{
+    let seconds = firsts.split_off(count)?;
+    let mut branches = Vec::new(alloc);
+    for (first, second) in firsts.into_iter().zip(seconds) {
+        branches.push(match (first, second) {
+            (Some(first), Some(second)) => Branch::Answers(first, second),
+            (Some(answer), None) => Branch::Answered(answer),
+            (None, _) => Branch::Nothing,
+        })?;
+    }
+    Ok(branches)
+}
+
+// The answers to branches that so many levels stand below: each level is split in one round, and answered in another.
+pub(crate) fn answers_to<K: Divide + Again, G: Gate, H: Threads + Wait + Sync>(
+    rt: &H,
+    alloc: Global,
+    runner: &mut Runner<'_, InPlace<Dividing<K>>, G>,
+    post: &mut PlaceLeaderState<InPlace<Dividing<K>>>,
+    kernel: &K,
+    levels: u32,
+    mut branches: Vec<Branch<K::Problem, K::Answer>>,
+) -> Result<Vec<Option<K::Answer>>, Fault>
+    requires { IsSync H.row }
+    ensures answers { IfOk result (λ answers. AllZip
+        (Allows (K.solves kernel.now) (K.splits kernel.now)) branches.items answers.items) }
+    ensures memory { OnErr result (IsErrOf result Fault.Memory) }
+{
+    if 0 < levels {
+        let count = branches.len();
+        let parts = opened(alloc, branches)?;
+        let parts = advance::<K, G, H>(rt, alloc, runner, post, kernel, parts)?;
+        let answers =
+            answers_to::<K, G, H>(rt, alloc, runner, post, kernel, levels - 1, parts)?;
+        branches = closed(alloc, answers, count)?;
+    }
+    let branches = advance::<K, G, H>(rt, alloc, runner, post, kernel, branches)?;
+    let mut answers = Vec::with_capacity(alloc, branches.len())?;
+    for branch in branches {
+        answers.push(branch.answer::<K>(kernel))?;
+    }
+    Ok(answers)
+}
