@@ -2,7 +2,7 @@
 //! between its neighbours (`Stencil`), and a call opens a lock, goes over the list in a few pieces a thread, and closes the lock.
 //!
 //! `held` says how pieces hold the kernel, `source` how they read the list.
-ghost use Rattle.std.specs.Prelude.{◌≡◌, Bool};
+ghost use Rattle.std.specs.Prelude.{◌≡◌, ◌++◌, Bool};
 ghost use Rattle.spindle.specs.Divisions.{IsJoined, IsSplit};
 
 mod dividing;
@@ -32,6 +32,7 @@ pub use self::tasks::Task;
 pub use self::tries::{Failed, Trial, Trying, try_map};
 pub(crate) use self::updates::change_each;
 pub use self::updates::{Updating, update};
+use spindle_parts::lists::ListRun;
 
 /// A kernel: what a call over a list computes of each item. It holds what it reads beside the item, as a closure holds what it
 /// captures.
@@ -92,8 +93,24 @@ pub enum Split<P> {
     Parts(P, P),
 }
 
+impl<T: Drop> Split<ListRun<T>> {
+    /// The halves of a run, or the run where it has fewer items than `least`, or one at most. No item is moved.
+    pub fn halves(run: ListRun<T>, least: usize) -> Split<ListRun<T>>
+        ensures { IsSplit (λ all first second. all ≡ first ++ second) run result }
+    {
+        let (len, middle) = (run.len(), run.len() / 2);
+        if len < least.max(2) {
+            return Split::Whole(run);
+        }
+        match (run.run(0, middle), run.run(middle, len)) {
+            (Ok(first), Ok(second)) => Split::Parts(first, second),
+            _ => Split::Whole(run),
+        }
+    }
+}
+
 /// A kernel that divides and conquers: it splits a problem in two, and joins their answers.
-pub trait Divide {
+pub trait Division {
     /// What is to be solved.
     type Problem: Drop;
 

@@ -12,8 +12,8 @@ pub mod prelude;
 
 pub use free::{for_each, for_each_raw};
 pub use kernels::{
-    Change, Divide, Failed, Kernel, PairTotalsOf, Passes, PassesOf, Shared, Split, Stencil, TotalsOf,
-    UpdatesOf, divide, map, map_pairs, passes_until, reduce_pairs, try_map, update,
+    Change, Division, Failed, Kernel, PairTotalsOf, Passes, PassesOf, Shared, Split, Stencil,
+    TotalsOf, UpdatesOf, divide, map, map_pairs, passes_until, reduce_pairs, try_map, update,
 };
 pub use lock::{
     nested, play_in_place, reduce, run_one, try_one, update_one, with_lock, with_slots,

@@ -1,8 +1,8 @@
 //! What nearly every caller imports: `use spindle::prelude::*;`.
 
 pub use crate::kernels::{
-    Change, Divide, Failed, Kernel, PairTotalsOf, Passes, PassesOf, Shared, Split, Stencil, TotalsOf,
-    UpdatesOf, divide, map, map_pairs, passes_until, reduce_pairs, try_map, update,
+    Change, Division, Failed, Kernel, PairTotalsOf, Passes, PassesOf, Shared, Split, Stencil,
+    TotalsOf, UpdatesOf, divide, map, map_pairs, passes_until, reduce_pairs, try_map, update,
 };
 pub use crate::lock::{
     Attempt, AttemptsOf, ChunkRounds, End, Gate, InPlace, Job, JobCx, Leader, Limits, LockOf,

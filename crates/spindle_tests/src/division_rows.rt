@@ -3,7 +3,7 @@ ghost use Rattle.std.specs.Prelude.{◌≡◌};
 
 use crate::checks::{holds, is};
 use spindle::lock::{Limits, NoGate, Pool};
-use spindle::{Divide, Fault, Split, divide};
+use spindle::{Division, Fault, Split, divide};
 
 // Walks from one number to another, by halves where it is longer than this.
 #[derive(Drop)]
@@ -11,7 +11,7 @@ struct Walk {
     longest: u32,
 }
 
-impl Divide for Walk {
+impl Division for Walk {
     type Problem = (u32, u32);
 
     // Where it began, where it ended, and whether each second half began where the first one ended.

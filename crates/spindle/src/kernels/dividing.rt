@@ -1,13 +1,13 @@
-//! A problem that is divided level by level. In a round the branches of a level are split, and in another, once those below have been
+//! A problem that is divided level by level: in a round the branches of a level are split, and in another, once their parts have been
 //! answered, they are answered.
-ghost use Rattle.std.specs.Prelude.{◌≡◌, ◌<◌, ◌++◌, IfOk, OnErr, IsErrOf, map, zip, length};
-ghost use Rattle.std.specs.List.{AllZip};
+ghost use Rattle.std.specs.Prelude.{◌≡◌, ◌<◌, ◌++◌, ◌/◌, IfOk, OnErr, IsErrOf, drop, length, map, take};
+ghost use Rattle.std.specs.List.{AllZip, zip};
 ghost use denote.Param.Send.{IsSync};
 ghost use Rattle.spindle.specs.Divisions.{first_of, second_of, joined_at, Allows, LeadsTo};
 
 use crate::kernels::held::Again;
-use crate::kernels::tasks::{Task, tasks_of};
-use crate::kernels::{Divide, Split};
+use crate::kernels::tasks::{Task, parts_in, tasks_of};
+use crate::kernels::{Division, Split};
 use crate::lock::place_rounds::update;
 use spindle_parts::fault::Fault;
 use spindle_slots::job::update::{InPlace, Update};
@@ -38,7 +38,7 @@ pub enum Branch<P, A> {
 
 impl<P: Drop, A: Drop> Branch<P, A> {
     // The answer, where there is a problem.
-    fn answer<K: Divide<Problem = P, Answer = A>>(self, kernel: &K) -> Option<A>
+    fn answer<K: Division<Problem = P, Answer = A>>(self, kernel: &K) -> Option<A>
         ensures { Allows (K.solves kernel.now) (K.splits kernel.now) self result }
     {
         match self {
@@ -54,8 +54,29 @@ impl<P: Drop, A: Drop> Branch<P, A> {
         }
     }
 
+    // Its two parts, or itself and nothing.
+    fn parts(self) -> (Branch<P, A>, Branch<P, A>)
+        ensures { result ≡ (first_of self, second_of self) }
+    {
+        match self {
+            Branch::Parts(first, second) => (Branch::Whole(first), Branch::Whole(second)),
+            branch => (branch, Branch::Nothing),
+        }
+    }
+
+    // What it becomes by what answers its parts.
+    fn joined(first: Option<A>, second: Option<A>) -> Branch<P, A>
+        ensures { result ≡ joined_at (first, second) }
+    {
+        match (first, second) {
+            (Some(first), Some(second)) => Branch::Answers(first, second),
+            (Some(answer), None) => Branch::Answered(answer),
+            (None, _) => Branch::Nothing,
+        }
+    }
+
     // A problem is split, or answered where it is small. Anything else is answered.
-    fn next<K: Divide<Problem = P, Answer = A>>(self, kernel: &K) -> Branch<P, A>
+    fn advanced<K: Division<Problem = P, Answer = A>>(self, kernel: &K) -> Branch<P, A>
         ensures { LeadsTo (K.solves kernel.now) (K.splits kernel.now) self result }
     {
         match self {
@@ -76,7 +97,7 @@ pub struct Dividing<K> {
     kind: PhantomData<K>,
 }
 
-impl<K: Divide + Drop> Update for Dividing<K> {
+impl<K: Division + Drop> Update for Dividing<K> {
     type Item = Task<K, Branch<K::Problem, K::Answer>>;
 
     type Inner = End;
@@ -91,13 +112,65 @@ impl<K: Divide + Drop> Update for Dividing<K> {
         _cx: &mut JobCx<End>,
     ) -> Task<K, Branch<K::Problem, K::Answer>> {
         let Task { kernel, part } = task;
-        let part = part.next::<K>(&kernel);
+        let part = part.advanced::<K>(&kernel);
         Task { kernel, part }
     }
 }
 
+// The first parts of branches that were split, or what else they are; behind them all second parts.
+fn opened<P: Drop, A: Drop>(
+    alloc: Global,
+    branches: Vec<Branch<P, A>>,
+) -> Result<Vec<Branch<P, A>>, AllocError>
+    ensures { IfOk result (λ parts.
+        parts.items ≡ map first_of branches.items ++ map second_of branches.items) }
+{
+    let mut parts = Vec::new(alloc);
+    let mut seconds = Vec::new(alloc);
+    for branch in branches {
+        let (first, second) = branch.parts();
+        parts.push(first)?;
+        seconds.push(second)?;
+    }
+    parts.append(&mut seconds)?;
+    Ok(parts)
+}
+
+// What branches are, once this answers their first parts, and behind them their second ones.
+fn closed<P: Drop, A: Drop>(
+    alloc: Global,
+    mut answers: Vec<Option<A>>,
+) -> Result<Vec<Branch<P, A>>, AllocError>
+    ensures { let count = length answers.items / 2 in
+        IfOk result (λ branches. branches.items
+        ≡ map joined_at (zip (take count answers.items) (drop count answers.items))) }
+{
+    let seconds = answers.split_off(answers.len() / 2)?;
+    let mut branches = Vec::new(alloc);
+    for (first, second) in answers.into_iter().zip(seconds) {
+        branches.push(Branch::joined(first, second))?;
+    }
+    Ok(branches)
+}
+
+// What answers each branch.
+fn answers_of<K: Division>(
+    alloc: Global,
+    kernel: &K,
+    branches: Vec<Branch<K::Problem, K::Answer>>,
+) -> Result<Vec<Option<K::Answer>>, AllocError>
+    ensures { IfOk result (λ answers. AllZip
+        (Allows (K.solves kernel.now) (K.splits kernel.now)) branches.items answers.items) }
+{
+    let mut answers = Vec::new(alloc);
+    for branch in branches {
+        answers.push(branch.answer::<K>(kernel))?;
+    }
+    Ok(answers)
+}
+
 // One round over branches.
-fn advance<K: Divide + Again, G: Gate, H: Threads + Wait + Sync>(
+fn advance_all<K: Division + Again, G: Gate, H: Threads + Wait + Sync>(
     rt: &H,
     alloc: Global,
     runner: &mut Runner<'_, InPlace<Dividing<K>>, G>,
@@ -115,88 +188,48 @@ fn advance<K: Divide + Again, G: Gate, H: Threads + Wait + Sync>(
     update::<InPlace<Dividing<K>>, PlaceLeaderState<InPlace<Dividing<K>>>, G, H>(
         rt, alloc, runner, post, jobs, &mut tasks,
     )?;
-    let mut branches = Vec::with_capacity(alloc, jobs)?;
-    for task in tasks {
-        branches.push(task.part)?;
-    }
-    Ok(branches)
+    Ok(parts_in(alloc, tasks)?)
 }
 
-// The first parts of branches that were split, or what else they are; behind them all second parts.
-fn opened<P: Drop, A: Drop>(
-    alloc: Global,
-    branches: Vec<Branch<P, A>>,
-) -> Result<Vec<Branch<P, A>>, AllocError>
-    ensures { IfOk result (λ parts.
-        parts.items ≡ map first_of branches.items ++ map second_of branches.items) }
-{
-    let mut parts = Vec::new(alloc);
-    let mut seconds = Vec::new(alloc);
-    for branch in branches {
-        match branch {
-            Branch::Parts(first, second) => {
-                parts.push(Branch::Whole(first))?;
-                seconds.push(Branch::Whole(second))?;
-            }
-            branch => {
-                parts.push(branch)?;
-                seconds.push(Branch::Nothing)?;
-            }
-        }
-    }
-    parts.append(&mut seconds)?;
-    Ok(parts)
-}
-
-// What branches are, once this answers their first parts, and behind them their second ones.
-fn closed<P: Drop, A: Drop>(
-    alloc: Global,
-    mut firsts: Vec<Option<A>>,
-    count: usize,
-) -> Result<Vec<Branch<P, A>>, AllocError>
-    requires { length firsts.items ≡ count + count }
-    ensures { IfOk result (λ branches. branches.items
-        ≡ map joined_at (zip (take count firsts.items) (drop count firsts.items))) }
-{
-    let seconds = firsts.split_off(count)?;
-    let mut branches = Vec::new(alloc);
-    for (first, second) in firsts.into_iter().zip(seconds) {
-        branches.push(match (first, second) {
-            (Some(first), Some(second)) => Branch::Answers(first, second),
-            (Some(answer), None) => Branch::Answered(answer),
-            (None, _) => Branch::Nothing,
-        })?;
-    }
-    Ok(branches)
-}
-
-// The answers to branches that so many levels stand below: each level is split in one round, and answered in another.
-pub(crate) fn answers_to<K: Divide + Again, G: Gate, H: Threads + Wait + Sync>(
+// The answers to branches, by one round.
+fn answered<K: Division + Again, G: Gate, H: Threads + Wait + Sync>(
     rt: &H,
     alloc: Global,
     runner: &mut Runner<'_, InPlace<Dividing<K>>, G>,
     post: &mut PlaceLeaderState<InPlace<Dividing<K>>>,
     kernel: &K,
-    levels: u32,
-    mut branches: Vec<Branch<K::Problem, K::Answer>>,
+    branches: Vec<Branch<K::Problem, K::Answer>>,
 ) -> Result<Vec<Option<K::Answer>>, Fault>
     requires { IsSync H.row }
     ensures answers { IfOk result (λ answers. AllZip
         (Allows (K.solves kernel.now) (K.splits kernel.now)) branches.items answers.items) }
     ensures memory { OnErr result (IsErrOf result Fault.Memory) }
 {
-    if 0 < levels {
-        let count = branches.len();
-        let parts = opened(alloc, branches)?;
-        let parts = advance::<K, G, H>(rt, alloc, runner, post, kernel, parts)?;
-        let answers =
-            answers_to::<K, G, H>(rt, alloc, runner, post, kernel, levels - 1, parts)?;
-        branches = closed(alloc, answers, count)?;
+    let branches = advance_all::<K, G, H>(rt, alloc, runner, post, kernel, branches)?;
+    Ok(answers_of(alloc, kernel, branches)?)
+}
+
+// The answers to branches, by so many levels below them: each is split in one round, and answered in another.
+pub(crate) fn answers_to<K: Division + Again, G: Gate, H: Threads + Wait + Sync>(
+    rt: &H,
+    alloc: Global,
+    runner: &mut Runner<'_, InPlace<Dividing<K>>, G>,
+    post: &mut PlaceLeaderState<InPlace<Dividing<K>>>,
+    kernel: &K,
+    levels: u32,
+    branches: Vec<Branch<K::Problem, K::Answer>>,
+) -> Result<Vec<Option<K::Answer>>, Fault>
+    requires { IsSync H.row }
+    ensures answers { IfOk result (λ answers. AllZip
+        (Allows (K.solves kernel.now) (K.splits kernel.now)) branches.items answers.items) }
+    ensures memory { OnErr result (IsErrOf result Fault.Memory) }
+{
+    if levels == 0 {
+        return answered::<K, G, H>(rt, alloc, runner, post, kernel, branches);
     }
-    let branches = advance::<K, G, H>(rt, alloc, runner, post, kernel, branches)?;
-    let mut answers = Vec::with_capacity(alloc, branches.len())?;
-    for branch in branches {
-        answers.push(branch.answer::<K>(kernel))?;
-    }
-    Ok(answers)
+    let parts = opened(alloc, branches)?;
+    let parts = advance_all::<K, G, H>(rt, alloc, runner, post, kernel, parts)?;
+    let answers = answers_to::<K, G, H>(rt, alloc, runner, post, kernel, levels - 1, parts)?;
+    let branches = closed(alloc, answers)?;
+    answered::<K, G, H>(rt, alloc, runner, post, kernel, branches)
 }

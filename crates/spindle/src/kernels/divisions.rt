@@ -7,7 +7,7 @@ ghost use Rattle.spindle.specs.Divisions.{Allows};
 use crate::kernels::dividing::{Branch, Dividing, answers_to};
 use crate::kernels::held::Again;
 use crate::kernels::tasks::PIECES;
-use crate::kernels::{Divide, Split};
+use crate::kernels::{Division, Split};
 use crate::lock::{RoundsInPlace, SlotLeader, play_in_place};
 use spindle_parts::fault::Fault;
 use spindle_slots::job::update::InPlace;
@@ -22,14 +22,14 @@ use std::thread::Threads;
 
 // Rounds of one lock, with the branches that they answer.
 #[derive(Drop)]
-struct Division<K, P, A> {
+struct Levels<K, P, A> {
     kernel: K,
     levels: u32,
     branches: Vec<Branch<P, A>>,
     answers: Vec<Option<A>>,
 }
 
-impl<K: Divide + Again> RoundsInPlace for Division<K, K::Problem, K::Answer> {
+impl<K: Division + Again> RoundsInPlace for Levels<K, K::Problem, K::Answer> {
     type Kind = InPlace<Dividing<K>>;
 
     ghost played = { λ old new. AllZip
@@ -44,8 +44,15 @@ impl<K: Divide + Again> RoundsInPlace for Division<K, K::Problem, K::Answer> {
         let (runner, post) = (&mut leader.runner, &mut leader.post);
         let branches = mem::replace(&mut self.branches, Vec::new(alloc));
         let levels = self.levels;
-        self.answers =
-            answers_to::<K, G, H>(rt, alloc, runner, post, &self.kernel, levels, branches)?;
+        self.answers = answers_to::<K, G, H>(
+            rt,
+            alloc,
+            runner,
+            post,
+            &self.kernel,
+            levels,
+            branches,
+        )?;
         Ok(())
     }
 }
@@ -55,7 +62,7 @@ impl<K: Divide + Again> RoundsInPlace for Division<K, K::Problem, K::Answer> {
 /// joins run side by side. Memory is the only refusal.
 ///
 /// A problem that the kernel doesn't split is solved by the caller's thread; that takes no memory, and opens no lock.
-pub fn divide<'k, K: Divide + Send + Sync, G: Gate + Sync, H: Threads + Wait + Sync>(
+pub fn divide<'k, K: Division + Send + Sync, G: Gate + Sync, H: Threads + Wait + Sync>(
     rt: &H,
     alloc: Global,
     pool: &Pool<G>,
@@ -76,16 +83,16 @@ where
     branches.push(root)?;
     let threads = pool.max_num_threads();
     let slots = threads.saturating_mul(PIECES).min(MOST_JOBS);
-    let division = Division {
+    let levels = Levels {
         kernel,
         levels: slots.ilog2(),
         branches,
         answers: Vec::new(alloc),
     };
-    let mut division = play_in_place::<Division<&'k K, K::Problem, K::Answer>, G, H>(
-        rt, alloc, pool, threads, slots, division,
+    let mut levels = play_in_place::<Levels<&'k K, K::Problem, K::Answer>, G, H>(
+        rt, alloc, pool, threads, slots, levels,
     )?;
-    match division.answers.pop() {
+    match levels.answers.pop() {
         Some(Some(answer)) => Ok(answer),
         _ => unreachable!(),
     }

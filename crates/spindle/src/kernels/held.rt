@@ -1,7 +1,7 @@
 //! How pieces of a list hold their kernel: each has a reference to it, or shares it. Both are kernels too.
 ghost use Rattle.std.specs.Prelude.{◌≡◌, IfOk};
 
-use crate::kernels::{Change, Divide, Kernel, Split, Stencil};
+use crate::kernels::{Change, Division, Kernel, Split, Stencil};
 use std::alloc::{AllocError, Global};
 use std::marker::Model;
 use std::sync::Arc;
@@ -61,7 +61,7 @@ impl<'k, K: Stencil> Stencil for &'k K {
     }
 }
 
-impl<'k, K: Divide> Divide for &'k K {
+impl<'k, K: Division> Division for &'k K {
     type Problem = K::Problem;
 
     type Answer = K::Answer;

@@ -31,3 +31,17 @@ pub(crate) fn tasks_of<K: Again, P: Drop>(
     }
     Ok(tasks)
 }
+
+// The parts, without the kernel.
+pub(crate) fn parts_in<K: Drop, P: Drop>(
+    alloc: Global,
+    tasks: Vec<Task<K, P>>,
+) -> Result<Vec<P>, AllocError>
+    ensures { IfOk result (λ parts. parts.items ≡ map (λ task. task.part) tasks.items) }
+{
+    let mut parts = Vec::new(alloc);
+    for task in tasks {
+        parts.push(task.part)?;
+    }
+    Ok(parts)
+}

@@ -10,7 +10,7 @@ use Rattle.spindle.proofs.kernels.tasks.tasks_of.Goals as goal
 pub loop-part-preserved : goal.loop-part-preserved
 loop-part-preserved g c =
     let T : Type 0 = Task g.row.K.Denot g.row.P.Denot in
-    let part : T → Piece g.row.T.Denot = λ task. task.part in
+    let part : T → g.row.P.Denot = λ task. task.part in
     let old : List T = c.loop-part.tasks.items in
     let task : T = record { kernel = c.in_ok-kernel.kernel; part = c.in-Some.part } in
     let kernel : IsOfKernel c.args.kernel.now task = c.in_ok-kernel.ensures in
