@@ -7,6 +7,7 @@ pub mod PassLists
 mod AttemptLists
 mod Pairs
 mod TryLists
+mod Divisions
 -- Those of the crates below that callers cite.
 pub use Rattle.spindle_parts.proofs.Deals
 pub use Rattle.spindle_parts.proofs.ListLaws

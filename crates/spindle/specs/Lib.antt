@@ -5,6 +5,7 @@ pub mod Folds
 pub mod Kernels
 pub mod Passes
 pub mod Tries
+pub mod Divisions
 pub mod Attempts
 -- Those of the crates below that the clauses of what is given out here name: of jobs and locks,
 pub use Rattle.spindle_trays.specs.ChunkRounds

@@ -14,6 +14,8 @@ pub mod callers;
 mod checks;
 pub mod chunks;
 #[cfg(test)]
+mod division_rows;
+#[cfg(test)]
 mod free_rows;
 #[cfg(test)]
 mod kernel_rows;

@@ -1,7 +1,7 @@
 //! How pieces of a list hold their kernel: each has a reference to it, or shares it. Both are kernels too.
 ghost use Rattle.std.specs.Prelude.{◌≡◌, IfOk};
 
-use crate::kernels::{Change, Kernel, Stencil};
+use crate::kernels::{Change, Division, Kernel, Split, Stencil};
 use std::alloc::{AllocError, Global};
 use std::marker::Model;
 use std::sync::Arc;
@@ -58,6 +58,31 @@ impl<'k, K: Stencil> Stencil for &'k K {
     fn has_settled(&self, old: K::Value, new: K::Value) -> bool {
         let kernel: &K = *self;
         kernel.has_settled(old, new)
+    }
+}
+
+impl<'k, K: Division> Division for &'k K {
+    type Problem = K::Problem;
+
+    type Answer = K::Answer;
+
+    ghost solves = { λ kernel problem answer. K.solves kernel.now problem answer };
+
+    ghost splits = { λ kernel problem first second. K.splits kernel.now problem first second };
+
+    fn split(&self, problem: K::Problem) -> Split<K::Problem> {
+        let kernel: &K = *self;
+        kernel.split(problem)
+    }
+
+    fn solve(&self, problem: K::Problem) -> K::Answer {
+        let kernel: &K = *self;
+        kernel.solve(problem)
+    }
+
+    fn join(&self, first: K::Answer, second: K::Answer) -> K::Answer {
+        let kernel: &K = *self;
+        kernel.join(first, second)
     }
 }
 

@@ -1,12 +1,10 @@
 //! Lists that a kernel changes in place. A job has a piece of the list, and takes no memory.
-ghost use Rattle.std.specs.Prelude.{◌≡◌, ◌<◌, ◌++◌, IfOk, IsOk, OnOk, OnErr, IsErrOf, All, map, vec_len};
+ghost use Rattle.std.specs.Prelude.{◌≡◌, ◌<◌, ◌++◌, IfOk, IsOk, OnOk, OnErr, IsErrOf, map, vec_len};
 ghost use Rattle.std.specs.List.{AllZip};
 ghost use Rattle.spindle_parts.specs.Pieces.{joined};
-ghost use Rattle.spindle.specs.Kernels.{IsOfKernel};
 
 use crate::kernels::Change;
-use crate::kernels::held::Again;
-use crate::kernels::tasks::{PIECES, Task};
+use crate::kernels::tasks::{PIECES, Task, tasks_of};
 use crate::lock::update_one;
 use spindle_parts::cut::{Piece, cut};
 use spindle_parts::fault::Fault;
@@ -79,23 +77,6 @@ where
     let tasks = update_one::<InPlace<Updating<&'k K>>, G, H>(rt, alloc, pool, jobs, tasks)?;
     append_items(tasks, &mut list)?;
     Ok(list)
-}
-
-// The pieces, each with the kernel.
-pub(crate) fn tasks_of<K: Again, T: Drop>(
-    alloc: Global,
-    kernel: &K,
-    pieces: Vec<Piece<T>>,
-) -> Result<Vec<Task<K, Piece<T>>>, AllocError>
-    ensures parts { IfOk result (λ tasks. map (λ task. task.part) tasks.items ≡ pieces.items) }
-    ensures kernel { IfOk result (λ tasks. All (IsOfKernel kernel.now) tasks.items) }
-{
-    let mut tasks = Vec::with_capacity(alloc, pieces.len())?;
-    for part in pieces {
-        let kernel = kernel.again()?;
-        tasks.push_reserved(Task { kernel, part });
-    }
-    Ok(tasks)
 }
 
 // Moves the items of all pieces to the end of the list, one behind the other.

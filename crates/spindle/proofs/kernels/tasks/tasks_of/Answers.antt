@@ -2,16 +2,15 @@
 use Rattle.std.proofs.Common.{◌≡◌, rules, ◌+◌, List, [], ◌∷◌, ◌++◌, map, ap, subst, sym, ◌∙◌, All}
 use Rattle.std.proofs.lemmas.List.{length-append}
 use Rattle.std.proofs.lemmas.List.Elements.{All-push}
-use Rattle.spindle_parts.specs.declared.cut.Piece.{Piece}
 use Rattle.spindle_parts.proofs.ListLaws.{map_snoc}
 use Rattle.spindle.specs.Kernels.{IsOfKernel}
 use Rattle.spindle.specs.declared.kernels.tasks.Task.{Task}
-use Rattle.spindle.proofs.kernels.updates.tasks_of.Goals as goal
+use Rattle.spindle.proofs.kernels.tasks.tasks_of.Goals as goal
 
 pub loop-part-preserved : goal.loop-part-preserved
 loop-part-preserved g c =
-    let T : Type 0 = Task g.row.K.Denot (Piece g.row.T.Denot) in
-    let part : T → Piece g.row.T.Denot = λ task. task.part in
+    let T : Type 0 = Task g.row.K.Denot g.row.P.Denot in
+    let part : T → g.row.P.Denot = λ task. task.part in
     let old : List T = c.loop-part.tasks.items in
     let task : T = record { kernel = c.in_ok-kernel.kernel; part = c.in-Some.part } in
     let kernel : IsOfKernel c.args.kernel.now task = c.in_ok-kernel.ensures in

@@ -1,0 +1,81 @@
+//! Rows of a problem that is divided, and what a refused allocation leaves of it: the same call with memory answers in full.
+ghost use Rattle.std.specs.Prelude.{◌≡◌};
+
+use crate::checks::{holds, is};
+use spindle::lock::{Limits, NoGate, Pool};
+use spindle::{Division, Fault, Split, divide};
+
+// Walks from one number to another, by halves where it is longer than this.
+#[derive(Drop)]
+struct Walk {
+    longest: u32,
+}
+
+impl Division for Walk {
+    type Problem = (u32, u32);
+
+    // Where it began, where it ended, and whether each second half began where the first one ended.
+    type Answer = (u32, u32, bool);
+
+    ghost solves = { λ walk ends answer. (answer.0 ≡ ends.0) × (answer.1 ≡ ends.1) };
+
+    ghost splits = { λ walk ends first second.
+        (first.0 ≡ ends.0) × (first.1 ≡ second.0) × (second.1 ≡ ends.1) };
+
+    fn split(&self, ends: (u32, u32)) -> Split<(u32, u32)> {
+        let (from, to) = ends;
+        if to <= from || to - from <= self.longest || to - from < 2 {
+            return Split::Whole(ends);
+        }
+        let middle = from + (to - from) / 2;
+        Split::Parts((from, middle), (middle, to))
+    }
+
+    fn solve(&self, ends: (u32, u32)) -> (u32, u32, bool) {
+        (ends.0, ends.1, true)
+    }
+
+    fn join(&self, first: (u32, u32, bool), second: (u32, u32, bool)) -> (u32, u32, bool) {
+        (
+            first.0,
+            second.1,
+            first.2 & second.2 & (first.1 == second.0),
+        )
+    }
+}
+
+#[test]
+fn a_divided_walk_goes_all_the_way(rt: HostRuntime) -> Result<(), Fault> {
+    let alloc = rt.alloc();
+    for threads in [1, 2, 4, 7] {
+        let pool = Pool::new(threads, Limits::new(), NoGate);
+        for longest in [0, 1, 10, 100] {
+            for to in [0, 1, 2, 3, 11, 1000] {
+                let walked = divide(&rt, alloc, &pool, &Walk { longest }, (0, to))?;
+                is(&rt, walked, (0, to, true));
+            }
+        }
+    }
+    Ok(())
+}
+
+#[test]
+fn refused_division_is_answered_when_asked_again(rt: HostRuntime) -> Result<(), Fault> {
+    let alloc = rt.alloc();
+    let pool = Pool::new(4, Limits::new(), NoGate);
+    let walk = Walk { longest: 10 };
+    let walked = match divide(&rt, alloc, &pool, &walk, (0, 1000)) {
+        Ok(walked) => walked,
+        Err(fault) => {
+            holds(&rt, matches!(fault, Fault::Memory));
+            divide(&rt, alloc, &pool, &walk, (0, 1000))?
+        }
+    };
+    is(&rt, walked, (0, 1000, true));
+    is(
+        &rt,
+        divide(&rt, alloc, &pool, &walk, (0, 10))?,
+        (0, 10, true),
+    );
+    Ok(())
+}
