@@ -8,7 +8,8 @@ use Rattle.spindle.specs.SlotLeaders.{WasLed}
 use Rattle.spindle.proofs.lock.slot_opening.open.Goals as goal
 
 pub new-requires-2 : goal.new-requires-2
-new-requires-2 g c = subst (λ t. AreSeatsAt t c.in_ok-tables.seats) (sym (c.deref.ensures ∙ c.in_ok-tables-2.ensures.ok)) c.in_ok-tables.ensures.made.1
+new-requires-2 g c κs within =
+    subst (λ t. AreSeatsAt t c.in_ok-tables.seats) (sym (c.deref.ensures ∙ c.in_ok-tables-2.ensures.ok)) c.in_ok-tables.ensures.made.1
 
 pub invariant_of-leader_start-clause-many : goal.invariant_of-leader_start-clause-many
 invariant_of-leader_start-clause-many g c =
