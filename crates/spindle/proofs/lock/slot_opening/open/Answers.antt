@@ -1,19 +1,9 @@
 -- The closure was called with a leader of this lock, with its slots.
-use Rattle.std.proofs.Common.{◌≡◌, ap, sym, subst, ◌∙◌}
+use Rattle.std.proofs.Common.{◌≡◌, ap, ◌∙◌}
 use Rattle.spindle_threads.specs.ThreadCounts.{lock_threads}
-use Rattle.spindle_threads.specs.Opening.{AreSeatsAt}
 use Rattle.spindle_threads.specs.declared.ThreadCounts.{ThreadCounts}
-use Rattle.spindle_rounds.specs.Seating.{slots_of}
 use Rattle.spindle.specs.SlotLeaders.{WasLed}
 use Rattle.spindle.proofs.lock.slot_opening.open.Goals as goal
-
-pub new-requires-2 : goal.new-requires-2
-new-requires-2 g c κs within =
-    subst (λ t. AreSeatsAt t c.in_ok-tables.seats) (sym (c.deref.ensures ∙ c.in_ok-tables-2.ensures.ok)) c.in_ok-tables.ensures.made.1
-
-pub invariant_of-leader_start-clause-many : goal.invariant_of-leader_start-clause-many
-invariant_of-leader_start-clause-many g c =
-    ap (λ t. slots_of t.round.init) (c.in_ok-start.ensures ∙ c.deref.ensures ∙ c.in_ok-tables-2.ensures.ok) ∙ c.in_ok-tables.ensures.made.2
 
 pub returns-clause-promise : goal.returns-clause-promise
 unfolding WasLed
