@@ -1,7 +1,7 @@
 //! The greatest sum of a run of values, by halves.
 ghost use Rattle.std.specs.Prelude.{◌≡◌, ◌++◌, IfOk};
 ghost use Rattle.std.specs.Option.{IfSome};
-ghost use Rattle.spindle_examples.specs.Runs.{greatest, AreJoined, AreSums};
+ghost use Rattle.spindle_examples.specs.Runs.{sums_of};
 
 use spindle::prelude::*;
 
@@ -16,7 +16,7 @@ impl Division for Runs {
 
     type Answer = Option<Sums>;
 
-    ghost solves = { λ runs values answer. IfSome answer (AreSums values) };
+    ghost solves = { λ runs values answer. IfSome answer (λ sums. sums ≡ sums_of values) };
 
     ghost splits = { λ runs values first second. values ≡ first ++ second };
 
@@ -41,7 +41,8 @@ impl Division for Runs {
 
 // The sums of two lists, one behind the other.
 fn joined(first: Sums, second: Sums) -> Option<Sums>
-    ensures { IfSome result (AreJoined first second) }
+    ensures { (xs ys : _) → first ≡ sums_of xs → second ≡ sums_of ys
+        → IfSome result (λ sums. sums ≡ sums_of (xs ++ ys)) }
 {
     let all = first.0.checked_add(second.0)?;
     let ahead = first.1.max(first.0.checked_add(second.1)?);
@@ -57,7 +58,7 @@ pub fn greatest_sum<G: Gate + Sync, H: Threads + Wait + Sync>(
     pool: &Pool<G>,
     values: &SharedList<i64>,
 ) -> Result<Option<i64>, Fault>
-    ensures { IfOk result (λ sum. IfSome sum (λ sum. sum ≡ greatest values.now)) }
+    ensures { IfOk result (λ sum. IfSome sum (λ sum. sum ≡ (sums_of values.now).3)) }
 {
     let sums = divide(rt, alloc, pool, &Runs, values.run(0, values.len())?)?;
     Ok(sums.map(|sums| sums.3))
