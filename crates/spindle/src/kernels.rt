@@ -1,5 +1,6 @@
 //! Calls over whole lists: a caller writes what is computed of an item (`Kernel`), what an item becomes (`Change`), or what it becomes
-//! between its neighbours (`Stencil`), and a call opens a lock, goes over the list in a few pieces a thread, and closes the lock.
+//! between its neighbours (`Stencil`), and a call opens a lock, goes over the list in a few pieces a thread, and closes the lock. So does
+//! `divide`, over a problem that a kernel splits (`Division`).
 //!
 //! `held` says how pieces hold the kernel, `source` how they read the list.
 ghost use Rattle.std.specs.Prelude.{◌≡◌, ◌++◌, Bool};

@@ -79,7 +79,8 @@ impl<A: Drop, B: Drop> Change for Unstopped<A, B> {
 /// Where `n_jobs` is 0, there are as many jobs as the pool has threads. The lock is that of `update_one`.
 ///
 /// The pieces come back in their order, of the lengths into which `cut` cuts the items. Those that ran have an output for each of their
-/// items, the others none. Which ran depends on the threads. No items are no job: that takes no memory and opens no lock. A refusal, for memory alone, gives the items up.
+/// items, the others none. Which ran depends on the threads. No items are no job: that takes no memory and opens no lock. A refusal,
+/// for memory alone, gives the items up.
 pub fn try_one<J: Job + Send, G: Gate + Sync, H: Threads + Wait + Sync>(
     rt: &H,
     alloc: Global,
