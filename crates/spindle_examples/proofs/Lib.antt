@@ -7,4 +7,3 @@ mod Passes
 mod Evaluations
 mod Reports
 mod Counts
-mod SumLists

@@ -2,6 +2,7 @@
 pub mod Wrapping
 pub mod Prefix
 pub mod Product
+pub mod Blocks
 pub mod Batch
 pub mod Checked
 pub mod Stencil
@@ -9,4 +10,3 @@ pub mod Chomp
 pub mod Ranks
 pub mod Solver
 pub mod Decimals
-pub mod Runs
