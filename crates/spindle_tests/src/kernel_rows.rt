@@ -26,7 +26,7 @@ impl<'a> Kernel for AtMost<'a> {
     }
 }
 
-// Eleven numbers; where memory for them is refused once, it is asked for again.
+/// Eleven numbers; where memory for them is refused once, it is asked for again.
 pub fn eleven_numbers(alloc: Global) -> Result<Vec<u32>, Fault> {
     let numbers = [3, 1, 4, 1, 5, 9, 2, 6, 5, 3, u32::MAX];
     match Vec::from_array(alloc, numbers) {
@@ -36,7 +36,7 @@ pub fn eleven_numbers(alloc: Global) -> Result<Vec<u32>, Fault> {
 }
 
 // Each of them, but 7 at most.
-pub const LEAST: [u32; 11] = [3, 1, 4, 1, 5, 7, 2, 6, 5, 3, 7];
+const LEAST: [u32; 11] = [3, 1, 4, 1, 5, 7, 2, 6, 5, 3, 7];
 
 #[test]
 fn outputs_of_a_map_stand_in_the_order_of_their_items(rt: HostRuntime) -> Result<(), Fault> {
@@ -82,9 +82,10 @@ fn refused_nothing_where_a_kernel_has_no_items(rt: HostRuntime) -> Result<(), Fa
     Ok(())
 }
 
-// Lowers a number to a bound.
+/// Lowers a number to a bound.
 #[derive(Drop)]
 pub struct Bound {
+    /// No number is above it.
     pub most: u32,
 }
 
@@ -98,7 +99,7 @@ impl Change for Bound {
     }
 }
 
-// The eleven numbers, none above 5.
+/// The eleven numbers, none above 5.
 pub const BOUNDED: [u32; 11] = [3, 1, 4, 1, 5, 5, 2, 5, 5, 3, 5];
 
 #[test]
@@ -139,7 +140,7 @@ fn refused_update_has_run_no_job(rt: HostRuntime) -> Result<(), Fault> {
 
 // Adds the numbers of a pair.
 #[derive(Drop)]
-pub struct Sum;
+struct Sum;
 
 impl Kernel for Sum {
     type In = (u32, u32);
