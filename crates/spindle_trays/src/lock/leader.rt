@@ -21,7 +21,7 @@ use spindle_parts::lists::shared::SharedList;
 use spindle_rounds::round_table::slots::Bare;
 use spindle_threads::leader_member::LeaderMember;
 use spindle_threads::members::Members;
-use std::alloc::Global;
+use std::alloc::{AllocError, Global};
 use std::sync::Wait;
 use std::thread::Threads;
 
@@ -237,11 +237,7 @@ impl<'a, J: Opens<L, In = usize>, G: Gate, L> Leader<'a, J, G, L> {
         if n_jobs == 0 {
             return Ok(Vec::new(alloc));
         }
-        let mut numbers = Vec::with_capacity(alloc, n_jobs)?;
-        for number in 0..n_jobs {
-            numbers.push_reserved(number);
-        }
-        self.for_each(rt, alloc, n_jobs, numbers)
+        self.for_each(rt, alloc, n_jobs, numbers(alloc, n_jobs)?)
     }
 }
 
@@ -259,4 +255,16 @@ impl<'a, J: Opens<L>, G: Gate, L> Leads for Leader<'a, J, G, L> {
         let LeaderMember { post } = self.post;
         drop(post.leave(rt));
     }
+}
+
+/// The numbers from 0 up to a count, the end not included.
+pub(crate) fn numbers(alloc: Global, count: usize) -> Result<Vec<usize>, AllocError>
+    ensures items { IfOk result (λ numbers. numbers.items ≡ counted 0 count) }
+    ensures len { IfOk result (λ numbers. vec_len numbers ≡ count) }
+{
+    let mut numbers = Vec::with_capacity(alloc, count)?;
+    for number in 0..count {
+        numbers.push_reserved(number);
+    }
+    Ok(numbers)
 }

@@ -1,6 +1,5 @@
 //! Starting the helpers of a lock, running its closure beside them, and joining them.
 ghost use Rattle.std.specs.Prelude.{◌≡◌, [], IfOk};
-ghost use Rattle.spindle_trays.specs.Leaders.{WasLed};
 ghost use Rattle.spindle_threads.specs.Opening.{AreSeatsAt};
 
 use crate::job::Job;
@@ -8,13 +7,10 @@ use crate::job::gate::Gate;
 use crate::job::nest::Nest;
 use crate::lock::helper::help;
 use crate::lock::helpers::{HelperRoom, Helpers};
-use crate::lock::leader::Leader;
-use crate::lock::nested::Leads;
 use crate::lock::part::TakesPart;
 use crate::lock::pool::Pool;
-use crate::lock::workspace::Opens;
 use crate::running::runner::Runner;
-use spindle_rounds::round_table::slots::{Bare, SlotContents};
+use spindle_rounds::round_table::slots::SlotContents;
 use spindle_threads::leader_member::LeaderMember;
 use spindle_threads::member::Member;
 use spindle_threads::seats::Seats;
@@ -29,7 +25,7 @@ use std::thread::{Scope, Threads};
 #[derive(Drop)]
 pub struct LeaderStart<'s, D: SlotContents, G: Gate, L> {
     tables: &'s Tables<D>,
-    workspace: &'s L,
+    pub(crate) workspace: &'s L,
     pool: &'s Pool<G>,
     seats: Seats<D>,
     room: HelperRoom,
@@ -153,39 +149,4 @@ pub fn take_post<'s, D: SlotContents, J: Job, G: Gate, L: TakesPart<J, D>, H: Wa
     let site = tables.site(L::members(tables), 0);
     let runner = Runner::new(workspace.children(), gate, site, signals);
     (post, runner)
-}
-
-/// Starts the helpers, runs f, and dismisses and joins them.
-pub(crate) fn lead<
-    's,
-    E,
-    J: Opens<L> + Send + 's,
-    G: Gate + Sync,
-    R,
-    F: FnOnce(&mut Leader<J, G, L>) -> R,
-    L: Send + Sync,
-    H: Threads + Wait + Sync + 's,
->(
-    scope: &Scope<'s, E>,
-    rt: &'s H,
-    alloc: Global,
-    leader_start: LeaderStart<'s, Bare, G, L>,
-    f: F,
-) -> R
-where
-    J::In: Send + Sync,
-    J::Out: Send,
-    J::Inner: Send,
-    <J::Inner as Nest>::ChildSlots: Send + Sync,
-    requires callable { F.IsAlwaysCallable f }
-    ensures { let counts = leader_start.entry.tables.now.counts in
-        WasLed counts.most counts.threads F.FnOnce f result }
-{
-    let workspace = leader_start.workspace;
-    let (post, runner, helpers) = leader_start.muster::<E, J, H>(scope, rt, alloc);
-    let mut leader = Leader::new(workspace, runner, post);
-    let answer = f(&mut leader);
-    leader.dismiss(rt);
-    helpers.join(rt);
-    answer
 }

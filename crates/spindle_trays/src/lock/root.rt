@@ -7,7 +7,8 @@ ghost use Rattle.spindle_threads.specs.ThreadCounts.{lock_threads};
 use crate::job::gate::Gate;
 use crate::job::nest::Nest;
 use crate::lock::leader::Leader;
-use crate::lock::opening::{LeaderStart, lead};
+use crate::lock::nested::Leads;
+use crate::lock::opening::LeaderStart;
 use crate::lock::pool::Pool;
 use crate::lock::workspace::Opens;
 use spindle_parts::fault::Fault;
@@ -54,7 +55,7 @@ where
     Ok(scoped(rt, alloc, leader_start, f))
 }
 
-// Opens the scope of the helpers' threads.
+// Starts the helpers, runs f, and dismisses and joins them.
 fn scoped<
     J: Opens<L> + Send,
     G: Gate + Sync,
@@ -79,6 +80,14 @@ where
             requires callable { F.IsAlwaysCallable f }
             ensures { let counts = leader_start.entry.tables.now.counts in
                 WasLed counts.most counts.threads F.FnOnce f result }
-        { lead::<_, J, G, R, F, L, H>(scope, rt, alloc, leader_start, f) },
+        {
+            let workspace = leader_start.workspace;
+            let (post, runner, helpers) = leader_start.muster::<_, J, H>(scope, rt, alloc);
+            let mut leader = Leader::new(workspace, runner, post);
+            let answer = f(&mut leader);
+            leader.dismiss(rt);
+            helpers.join(rt);
+            answer
+        },
     )
 }

@@ -8,7 +8,7 @@ ghost use Rattle.spindle_trays.specs.Rounds.{job_count, IsRefusal};
 
 use crate::job::Job;
 use crate::job::context::JobCx;
-use crate::lock::leader::MOST_JOBS;
+use crate::lock::leader::{MOST_JOBS, numbers};
 use crate::lock::nested::Under;
 use crate::running::runner::run_each;
 use spindle_parts::fault::Fault;
@@ -88,10 +88,6 @@ impl<'a, K: Job<In = usize>> JobCx<'a, Under<K>> {
         if n_jobs == 0 {
             return Ok(Vec::new(alloc));
         }
-        let mut numbers = Vec::with_capacity(alloc, n_jobs)?;
-        for number in 0..n_jobs {
-            numbers.push_reserved(number);
-        }
-        self.for_each(rt, alloc, n_jobs, numbers)
+        self.for_each(rt, alloc, n_jobs, numbers(alloc, n_jobs)?)
     }
 }

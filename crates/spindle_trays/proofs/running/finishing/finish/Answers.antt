@@ -1,9 +1,6 @@
 -- The round may have been stopped before the piece's number was counted.
-use Rattle.std.proofs.Common.{◌≡◌, ◌∷◌, ◌∙◌, ap, sym, subst}
+use Rattle.std.proofs.Common.{◌∙◌, sym, subst}
 use Rattle.spindle_rounds.specs.PartyWork.{HasFinished}
-use Rattle.spindle_rounds.specs.RoundShown.{Stopped}
-use Rattle.spindle_rounds.specs.RoundSteps.{round_of, number_or}
-use Rattle.spindle_rounds.specs.RoundViews.{stops_of}
 use Rattle.spindle_rounds.proofs.RoundClients.{stop_done}
 use Rattle.spindle_rounds.proofs.PartyWork.{finish_after}
 use Rattle.spindle_trays.proofs.running.finishing.finish.Goals as goal

@@ -1,5 +1,5 @@
 -- The piece of the number has run, and where it failed the round is stopped by that number.
-use Rattle.std.proofs.Common.{◌≡◌, ◌<◌, ◌∷◌, ◌∙◌, ℕ, false, true, inl, inr, ap, sym, subst, rules}
+use Rattle.std.proofs.Common.{◌≡◌, ◌<◌, ◌∷◌, ◌∙◌, ℕ, true, inl, inr, ap, sym, subst, rules}
 use Rattle.spindle_rounds.specs.RoundShown.{Stopped}
 use Rattle.spindle_rounds.specs.RoundSteps.{round_of}
 use Rattle.spindle_rounds.specs.RoundViews.{stops_of}

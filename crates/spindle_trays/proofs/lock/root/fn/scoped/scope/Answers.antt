@@ -1,7 +1,7 @@
 -- The leader of the closure is one of this lock.
 use Rattle.std.proofs.Common.{ap, refl, ◌∙◌}
 use Rattle.spindle_trays.specs.Leaders.{WasLed}
-use Rattle.spindle_trays.proofs.lock.opening.lead.Goals as goal
+use Rattle.spindle_trays.proofs.lock.root.fn.scoped.scope.Goals as goal
 
 pub returns : goal.returns
 unfolding WasLed
