@@ -2,8 +2,8 @@
 use Rattle.std.specs.Prelude.{◌≡◌, ◌≢◌, ◌⊎◌, ℕ, ◌%◌, ◌<◌, Option, Some, None, refl}
 use Rattle.counted_slot.specs.Counting.{readers, IsTurn, Gains}
 use Rattle.counted_slot.specs.declared.TheConstants.{FREE, PRESENT, TAKEN}
-use Rattle.spindle_parts.specs.declared.aarc_imp.word.Clearing.{Clearing}
-use Rattle.spindle_parts.specs.declared.aarc_imp.word.Clearing.TheVariants.{Empty, Take, Mark, Wait}
+use Rattle.spindle_parts.specs.declared.aarc_imp.Clearing.{Clearing}
+use Rattle.spindle_parts.specs.declared.aarc_imp.Clearing.TheVariants.{Empty, Take, Mark, Wait}
 use Rattle.std.specs.Coded.{Coded, code_by, coded×, coded_option}
 
 -- the slot's tag, and the value that the guard shows

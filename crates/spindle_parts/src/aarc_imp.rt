@@ -3,19 +3,16 @@
 //! The slot's word is `FREE` where it is empty and no thread uses it. It is `PRESENT` where a value stands, `MARKED` where
 //! that value is being cleared, so that no new guard comes, each with `ONE_READER` more for each guard that is out, and
 //! `TAKEN` while one thread writes the value or takes it. The slot has cache lines of its own.
-ghost use Rattle.std.specs.Prelude.{◌≡◌, ◌%◌, ◌<◌, ◌+◌, Option, Some, IsSomeAnd, IsSome, IfSome, IfOk, IfErr};
+ghost use Rattle.std.specs.Prelude.{◌≡◌, ◌%◌, ◌<◌, ◌+◌, Option, Some, IsSomeAnd, IsSome, IfSome, IfOk, IfErr, ◌↔◌, IsTrue};
 ghost use Rattle.counted_slot.specs.Counting.{readers};
-ghost use Rattle.spindle_parts.specs.ChildSlot.{WrittenAlone};
-
-mod word;
+ghost use Rattle.spindle_parts.specs.ChildSlot.{WrittenAlone, IsClearing};
 
 use crate::pauses::Pauses;
 pub use counted_slot::Fits;
-use counted_slot::{Claim, Counted, FREE, MARKED, ONE_READER, PRESENT, TAKEN};
+use counted_slot::{Claim, Counted, FREE, MARKED, MOST_READERS, ONE_READER, PRESENT, TAKEN};
 use crossbeam_utils::CachePadded;
 use std::marker::Model;
 use std::sync::Wait;
-use word::{Clearing, admits, clearing_of, is_free, is_present};
 
 /// A slot for a value, named after spindle's slot for an `Arc`. Each value that ever stands there meets `T::fits` at the
 /// slot's tag, which is fixed when the slot is made. In a clause the slot is its tag.
@@ -186,3 +183,67 @@ impl<'a, T: Fits> Drop for Guard<'a, T> {
 pub fn written_alone()
     ensures { WrittenAlone }
 {}
+
+// What a clear does next, by the word that it read.
+enum Clearing {
+    /// Nothing stands, so there is nothing to hand out.
+    Empty,
+    /// The value stands and no guard is out: it is taken.
+    Take,
+    /// Guards are out, and new ones may still come: they are kept away.
+    Mark,
+    /// Another thread has the value, or marked guards are out.
+    Wait,
+}
+
+// The state of a word.
+fn state_of(word: u64) -> u64
+    ensures { result ≡ word % 4 }
+{
+    word % 4
+}
+
+// How many guards are out.
+fn reader_count(word: u64) -> u64
+    ensures { result ≡ readers word }
+{
+    word % 0x1_0000_0000 / ONE_READER
+}
+
+// Whether the slot is empty and nobody uses it.
+fn is_free(word: u64) -> bool
+    ensures { IsTrue result ↔ (word ≡ FREE) }
+{
+    word == FREE
+}
+
+// Whether a value stands that isn't being cleared.
+fn is_present(word: u64) -> bool
+    ensures { IsTrue result ↔ (word % 4 ≡ PRESENT) }
+{
+    state_of(word) == PRESENT
+}
+
+// Whether a guard may come: a value stands, and one guard more can be counted.
+fn admits(word: u64) -> bool
+    ensures { IsTrue result ↔ ((word % 4 ≡ PRESENT) × (readers word < MOST_READERS)) }
+{
+    is_present(word) && reader_count(word) < MOST_READERS
+}
+
+// What a clear does at a word.
+fn clearing_of(word: u64) -> Clearing
+    ensures { IsClearing word result }
+{
+    if is_free(word) {
+        Clearing::Empty
+    } else if state_of(word) == TAKEN {
+        Clearing::Wait
+    } else if reader_count(word) == 0 {
+        Clearing::Take
+    } else if is_present(word) {
+        Clearing::Mark
+    } else {
+        Clearing::Wait
+    }
+}

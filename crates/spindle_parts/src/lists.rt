@@ -5,14 +5,12 @@
 
 pub mod chunks;
 pub mod results;
-pub mod run;
 pub mod same;
 pub mod shared;
 pub mod strips;
 
 pub use self::chunks::Chunk;
 pub use self::results::gathered;
-pub use self::run::ListRun;
 pub use self::same::EqualIsSame;
-pub use self::shared::SharedList;
+pub use self::shared::{ListRun, SharedList};
 pub use self::strips::{Strip, joined_strips, tell_neighbours};

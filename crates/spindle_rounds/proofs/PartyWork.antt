@@ -5,8 +5,8 @@ use Rattle.std.proofs.Common.{◌≡◌, ℕ, List, Bool, true, false, ◌+◌, 
 use Rattle.atomic_table.specs.Table.{Me}
 use Rattle.atomic_table.specs.declared.shared.Seat.{Seat}
 use Rattle.spindle_rounds.specs.declared.round.Round.{Round}
-use Rattle.spindle_rounds.specs.declared.round.published_round.PublishedRound.{PublishedRound}
-use Rattle.spindle_rounds.specs.declared.round.source.Source.TheVariants.{Longest, Remainder}
+use Rattle.spindle_rounds.specs.declared.round.publishing.PublishedRound.{PublishedRound}
+use Rattle.spindle_rounds.specs.declared.round.claiming.Source.TheVariants.{Longest, Remainder}
 use Rattle.spindle_rounds.specs.declared.round.stopping.PutBack.{PutBack}
 use Rattle.spindle_rounds.specs.declared.round.stopping.PutBack.TheVariants as back
 use Rattle.spindle_rounds.specs.declared.round_table.view.View.{View}

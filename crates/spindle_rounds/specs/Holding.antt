@@ -1,12 +1,12 @@
 -- What a barrier's party holds: the seat that it was made with, and what it keeps beside it.
 use Rattle.std.specs.Prelude.{◌≡◌, ◌⊎◌, ℕ, ◌<◌, List, true, false}
 use Rattle.spindle_rounds.specs.declared.barrier.Barrier.{Barrier}
-use Rattle.spindle_rounds.specs.declared.barrier.leaving.Leave.{Leave}
-use Rattle.spindle_rounds.specs.declared.barrier.leaving.Leave.TheVariants as leave
-use Rattle.spindle_rounds.specs.declared.barrier.leaving.Exit.{Exit}
-use Rattle.spindle_rounds.specs.declared.barrier.leaving.Exit.TheVariants as exit
-use Rattle.spindle_rounds.specs.declared.barrier.ending.AfterEnd.{AfterEnd}
-use Rattle.spindle_rounds.specs.declared.barrier.ending.AfterEnd.TheVariants as end
+use Rattle.spindle_rounds.specs.declared.barrier.membership.Leave.{Leave}
+use Rattle.spindle_rounds.specs.declared.barrier.membership.Leave.TheVariants as leave
+use Rattle.spindle_rounds.specs.declared.barrier.membership.Exit.{Exit}
+use Rattle.spindle_rounds.specs.declared.barrier.membership.Exit.TheVariants as exit
+use Rattle.spindle_rounds.specs.declared.barrier.steps.AfterEnd.{AfterEnd}
+use Rattle.spindle_rounds.specs.declared.barrier.steps.AfterEnd.TheVariants as end
 use Rattle.spindle_rounds.specs.declared.barrier.steps.Arrival.TheVariants as arrival
 use Rattle.spindle_rounds.specs.declared.barrier.steps.LeaveStep.TheVariants as left
 use Rattle.spindle_rounds.specs.declared.barrier.steps.ExitStep.TheVariants as gone

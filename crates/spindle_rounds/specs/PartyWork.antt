@@ -3,7 +3,7 @@ use Rattle.std.specs.Prelude.{◌≡◌, ℕ, ◌+◌, List, None, Some, false}
 use Rattle.atomic_table.specs.Table.{Me}
 use Rattle.atomic_table.specs.declared.shared.Seat.{Seat}
 use Rattle.spindle_rounds.specs.declared.round.Round.{Round}
-use Rattle.spindle_rounds.specs.declared.round.published_round.PublishedRound.{PublishedRound}
+use Rattle.spindle_rounds.specs.declared.round.publishing.PublishedRound.{PublishedRound}
 use Rattle.spindle_rounds.specs.declared.round_table.view.View.{View}
 use Rattle.spindle_rounds.specs.RoundConditions.{HasEmptiedAll}
 use Rattle.spindle_rounds.specs.RoundSlots.{Discipline}

@@ -5,10 +5,10 @@ use Rattle.spindle_rounds.specs.declared.round.claim.Claim.{Claim}
 use Rattle.spindle_rounds.specs.declared.round.claim.Claim.TheVariants as claim
 use Rattle.spindle_rounds.specs.declared.round.claim.Steal.{Steal}
 use Rattle.spindle_rounds.specs.declared.round.claim.Steal.TheVariants as steal
-use Rattle.spindle_rounds.specs.declared.round.source.Source.{Source}
-use Rattle.spindle_rounds.specs.declared.round.source.Source.TheVariants.{Range, Longest, Remainder}
-use Rattle.spindle_rounds.specs.declared.round.source.Taken.{Taken}
-use Rattle.spindle_rounds.specs.declared.round.source.Taken.TheVariants.{Job, Nothing, Again}
+use Rattle.spindle_rounds.specs.declared.round.claiming.Source.{Source}
+use Rattle.spindle_rounds.specs.declared.round.claiming.Source.TheVariants.{Range, Longest, Remainder}
+use Rattle.spindle_rounds.specs.declared.round.claiming.Taken.{Taken}
+use Rattle.spindle_rounds.specs.declared.round.claiming.Taken.TheVariants.{Job, Nothing, Again}
 use Rattle.spindle_rounds.specs.declared.round_table.view.View.{View}
 use Rattle.spindle_rounds.specs.RoundConditions.{MayClaim, MayFinish, IsItsShare}
 use Rattle.spindle_rounds.specs.RoundShown.{IsListed}

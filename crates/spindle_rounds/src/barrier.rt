@@ -6,16 +6,13 @@ use crate::round_table::slots::SlotContents;
 use crate::round_table::{RoundTable, Seat};
 
 pub mod detached_party;
-pub mod ending;
-pub mod joining;
-pub mod leaving;
+pub mod membership;
 pub mod opening;
 pub mod steps;
 pub mod waiting;
 pub mod word;
 
-pub use self::ending::AfterEnd;
-pub use self::steps::{Arrival, Look};
+pub use self::steps::{AfterEnd, Arrival, Look};
 pub use self::waiting::{ExitStatus, Full};
 
 /// The most parties of a barrier (`MASK` of spindle).

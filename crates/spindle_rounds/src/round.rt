@@ -12,22 +12,14 @@ use std::alloc::Global;
 pub mod claim;
 pub mod claimer;
 pub mod claiming;
-pub mod collecting;
-pub mod finishing;
-pub mod holding;
-pub mod leftovers;
 pub mod pieces;
-pub mod published_round;
 pub mod publishing;
-pub mod slots;
-pub mod source;
-pub mod stealing;
 pub mod stopping;
 
 /// The rounds of a table with a range for each thread, and the barrier that ends them.
 #[derive(Drop)]
 pub struct Round<D: SlotContents> {
-    init: BarrierInit<D>,
+    pub(crate) init: BarrierInit<D>,
     ghost ranges: { 0 < init.threads },
 }
 

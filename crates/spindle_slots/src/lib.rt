@@ -8,4 +8,3 @@ pub mod job;
 pub mod leader_states;
 pub mod pieces;
 pub mod running;
-pub mod threads;

@@ -3,7 +3,6 @@
 
 pub mod chunk;
 pub mod chunk_buffers;
-pub mod in_place;
 pub mod in_slots;
 pub mod items;
 pub mod of_kind;

@@ -2,7 +2,7 @@
 use Rattle.std.specs.Prelude.{◌≡◌, false}
 use Rattle.spindle_parts.specs.ThreadNumbers.{outsider_view}
 use Rattle.spindle_parts.specs.LedgerSteps.{blank}
-use Rattle.spindle_threads.specs.declared.spare_seats.SpareSeats.{SpareSeats}
+use Rattle.spindle_threads.specs.declared.seats.SpareSeats.{SpareSeats}
 use Rattle.spindle_threads.specs.declared.tables.Tables.{Tables}
 use Rattle.spindle_rounds.specs.RoundSteps.{outsider}
 

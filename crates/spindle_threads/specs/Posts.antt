@@ -7,7 +7,7 @@ use Rattle.spindle_parts.specs.LedgerSeats as ledger
 use Rattle.spindle_parts.specs.ThreadNumbers as numbers
 use Rattle.spindle_parts.specs.declared.numbers.plays.Holding.TheVariants.{Nothing}
 use Rattle.spindle_rounds.specs.declared.barrier.Barrier.{Barrier}
-use Rattle.spindle_rounds.specs.declared.round.published_round.PublishedRound.{PublishedRound}
+use Rattle.spindle_rounds.specs.declared.round.publishing.PublishedRound.{PublishedRound}
 use Rattle.spindle_rounds.specs.declared.round_table.view.View.{View}
 use Rattle.spindle_rounds.specs.declared.round_table.view.Standing.TheVariants.{Away}
 use Rattle.spindle_rounds.specs.Holding.{IsHeld}

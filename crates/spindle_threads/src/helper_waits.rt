@@ -16,7 +16,7 @@ use crate::signals::Signals;
 use spindle_parts::numbers;
 use spindle_parts::numbers::{Numbers, Take};
 use spindle_rounds::barrier::ExitStatus;
-use spindle_rounds::round::published_round::PublishedRound;
+use spindle_rounds::round::publishing::PublishedRound;
 use spindle_rounds::round_table::slots::SlotContents;
 use std::sync::Wait;
 use std::thread;

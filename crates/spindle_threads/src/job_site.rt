@@ -2,9 +2,9 @@
 ghost use Rattle.std.specs.Prelude.{◌≡◌, ℕ, ◌<◌, ◌≤◌, None, Some, IfSome};
 ghost use Rattle.std.specs.Option.{ForSome};
 
-use crate::ThreadCounts;
 use crate::members::Members;
 use crate::sleep::Sleep;
+use crate::tables::ThreadCounts;
 
 /// What a job sees of its lock, and the number of the thread that runs it, if that has one.
 #[derive(Clone, Copy)]

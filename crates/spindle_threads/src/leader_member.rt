@@ -13,7 +13,7 @@ use crate::publish_and_end::{end_round, publish};
 use crate::signals::Signals;
 use spindle_rounds::barrier::detached_party::DetachedParty;
 use spindle_rounds::round::claimer::{Claimer, Work};
-use spindle_rounds::round::published_round::PublishedRound;
+use spindle_rounds::round::publishing::PublishedRound;
 use spindle_rounds::round_table::slots::{Bare, SlotContents};
 use std::sync::Wait;
 use std::thread::Threads;

@@ -10,7 +10,7 @@ ghost use Rattle.spindle_rounds.specs.Seating.{IsSeatAt, IsSameSeat, IsSameTable
 use crate::tables::Tables;
 use spindle_rounds::barrier::Barrier;
 use spindle_rounds::round::claimer::{Claimer, Work};
-use spindle_rounds::round::published_round::PublishedRound;
+use spindle_rounds::round::publishing::PublishedRound;
 use spindle_rounds::round_table::Seat;
 use spindle_rounds::round_table::slots::SlotContents;
 use std::sync::Wait;
@@ -149,7 +149,7 @@ impl<'a, D: SlotContents> Member<'a, D> {
         let departure = barrier.depart(rt);
         tables.present.go();
         if departure.has_closed {
-            tables.wake_for_end(rt);
+            tables.sleep.wake_for_end(rt);
         }
         departure.seat
     }

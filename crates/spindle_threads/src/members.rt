@@ -1,7 +1,7 @@
 //! Where the number of a lock's threads is read, in a form that names no slots of the lock's round table.
 ghost use Rattle.std.specs.Prelude.{◌≡◌, ◌<◌, ◌≤◌, IfSome};
 
-use crate::present::Present;
+use crate::tables::Present;
 use spindle_rounds::barrier::BarrierInit;
 use spindle_rounds::round_table::slots::Bare;
 

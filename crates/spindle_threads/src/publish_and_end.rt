@@ -24,7 +24,7 @@ use crate::tables::Tables;
 use spindle_rounds::barrier::steps::{Arrival, Look};
 use spindle_rounds::barrier::{Barrier, ExitStatus};
 use spindle_rounds::round::Round;
-use spindle_rounds::round::published_round::PublishedRound;
+use spindle_rounds::round::publishing::PublishedRound;
 use spindle_rounds::round_table::Seat;
 use spindle_rounds::round_table::pieces::{PieceKind, PieceSlots};
 use spindle_rounds::round_table::slots::SlotContents;
@@ -59,7 +59,7 @@ pub fn publish<'a, D: SlotContents, H: Wait>(
     tables.round.fill(barrier.seat(), task.jobs);
     signals.end_rest();
     publish_task(&tables.round, barrier.seat(), task);
-    tables.wake_for_news(rt);
+    tables.sleep.wake_for_news(rt);
 }
 
 // One store of the task's word: that of a plain round, or of one that may stop.
@@ -98,7 +98,7 @@ pub fn publish_held<A: PieceKind, H: Wait>(
 {
     signals.end_rest();
     tables.round.publish_held(seat, jobs);
-    tables.wake_for_news(rt);
+    tables.sleep.wake_for_news(rt);
 }
 
 /// Arrives, and waits until the round has ended. The closer ends it, and wakes the others.
@@ -116,7 +116,7 @@ pub fn end_round<'a, D: SlotContents, H: Wait>(
     match barrier.arrive() {
         Arrival::Closer => {
             barrier.close();
-            tables.wake_for_end(rt);
+            tables.sleep.wake_for_end(rt);
         }
         Arrival::Arrived => await_end(rt, tables, barrier),
     }
@@ -158,7 +158,7 @@ pub fn end_or_leave<'a, D: SlotContents, H: Wait>(
     match barrier.arrive() {
         Arrival::Closer => {
             barrier.close();
-            tables.wake_for_end(rt);
+            tables.sleep.wake_for_end(rt);
             ExitStatus::Remain(barrier)
         }
         Arrival::Arrived => await_end_or_leave(rt, tables, barrier, signals),

@@ -18,6 +18,7 @@ const QUIET_TURNS: u32 = 64;
 #[derive(Drop)]
 pub struct Sleep {
     idling: Idling,
+    alone: bool,
     news: CachePadded<Sleepers>,
     end: CachePadded<Sleepers>,
 }
@@ -60,12 +61,13 @@ impl Sleepers {
 }
 
 impl Sleep {
-    /// A place to sleep for threads that idle so.
-    pub fn new(idling: Idling) -> Sleep
+    /// A place to sleep for threads that idle so. A thread that is alone wakes nobody.
+    pub fn new(idling: Idling, alone: bool) -> Sleep
         ensures { result.idling ≡ idling }
     {
         Sleep {
             idling,
+            alone,
             news: CachePadded::new(Sleepers::new()),
             end: CachePadded::new(Sleepers::new()),
         }
@@ -86,12 +88,16 @@ impl Sleep {
 
     /// Wakes those who wait for a round, for requests, or for the announcement of exit. A word was changed before.
     pub fn wake_for_news<H: Wait>(&self, rt: &H) {
-        self.news.wake(rt);
+        if !self.alone {
+            self.news.wake(rt);
+        }
     }
 
     /// Wakes those who wait for a round's end. The round was ended before.
     pub fn wake_for_end<H: Wait>(&self, rt: &H) {
-        self.end.wake(rt);
+        if !self.alone {
+            self.end.wake(rt);
+        }
     }
 
     /// The pauses of a thread that begins to wait for a round, for requests, or for the announcement of exit.

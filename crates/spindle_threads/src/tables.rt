@@ -1,18 +1,17 @@
-//! What the threads of a lock share, whatever the kind of job: rounds, thread numbers, signals, a place to sleep, and who is
-//! there. What the slots of its round table hold is a parameter.
-ghost use Rattle.std.specs.Prelude.{◌≡◌, ◌<◌, Some};
+//! What the threads of a lock share, whatever the kind of job: how many they are, rounds, thread numbers, signals, a place to sleep, and
+//! who is there. What the slots of its round table hold is a parameter.
+ghost use Rattle.std.specs.Prelude.{◌≡◌, ◌<◌, Some, ◌≤◌};
 ghost use Rattle.spindle_parts.specs.LedgerSeats.{slot_count};
 
-use crate::ThreadCounts;
+use crate::MOST_THREADS;
 use crate::job_site::JobSite;
 use crate::members::Members;
-use crate::present::Present;
 use crate::sleep::Sleep;
 use spindle_parts::numbers::Numbers;
 use spindle_parts::requests::Requests;
 use spindle_rounds::round::Round;
 use spindle_rounds::round_table::slots::SlotContents;
-use std::sync::Wait;
+use std::sync::atomic::{AtomicUsize, Ordering};
 
 /// The tables of a lock.
 #[derive(Drop)]
@@ -37,20 +36,6 @@ pub struct Tables<D: SlotContents> {
 }
 
 impl<D: SlotContents> Tables<D> {
-    /// Wakes those who wait for news, unless the leader is the only thread: a round was published, or exit announced.
-    pub fn wake_for_news<H: Wait>(&self, rt: &H) {
-        if self.counts.threads() > 1 {
-            self.sleep.wake_for_news(rt);
-        }
-    }
-
-    /// The same for those who wait for a round's end: it was ended.
-    pub fn wake_for_end<H: Wait>(&self, rt: &H) {
-        if self.counts.threads() > 1 {
-            self.sleep.wake_for_end(rt);
-        }
-    }
-
     /// Where the thread of this number runs jobs, which read there how many threads take part.
     pub fn site<'a>(&'a self, members: Members<'a>, thread: usize) -> JobSite<'a>
         requires thread { thread < self.now.counts.threads }
@@ -63,6 +48,109 @@ impl<D: SlotContents> Tables<D> {
             members,
             sleep: &self.sleep,
             index: Some(thread),
+        }
+    }
+}
+
+/// The threads that have joined the barrier of a lock and haven't left it. Each counts itself, after it has joined or left.
+#[derive(Drop)]
+pub struct Present {
+    threads: AtomicUsize,
+}
+
+impl Present {
+    /// No thread has joined.
+    pub fn new() -> Present {
+        Present {
+            threads: AtomicUsize::new(0),
+        }
+    }
+
+    /// A thread has joined the barrier.
+    pub fn come(&self) {
+        self.threads.fetch_add(1, Ordering::SeqCst);
+    }
+
+    /// A thread has left the barrier.
+    pub fn go(&self) {
+        self.threads.fetch_sub(1, Ordering::SeqCst);
+    }
+
+    /// How many are there now.
+    pub fn threads(&self) -> usize {
+        self.threads.load(Ordering::SeqCst)
+    }
+}
+
+/// A lock's threads, its leader counted, and those of the pool that it was opened from.
+#[derive(Clone, Copy)]
+pub struct ThreadCounts {
+    pool: usize,
+    most: usize,
+    threads: usize,
+    ghost some: { 0 < pool },
+    ghost led: { 0 < threads },
+    ghost within: { threads ≤ most },
+    ghost few: { most ≤ 32767 },
+}
+
+impl ThreadCounts {
+    ghost use Rattle.spindle_threads.specs.ThreadCounts.{lock_threads};
+
+    /// The threads of a lock that is opened for at most `max_threads`.
+    pub fn new(pool_threads: usize, max_threads: usize) -> ThreadCounts
+        requires pool { 0 < pool_threads }
+        requires some { 0 < max_threads }
+        ensures most { result.most ≡ lock_threads pool_threads max_threads }
+        ensures all { result.threads ≡ result.most }
+        ensures pool { result.pool ≡ pool_threads }
+    {
+        let threads = pool_threads.min(max_threads).min(MOST_THREADS);
+        ThreadCounts {
+            pool: pool_threads,
+            most: threads,
+            threads,
+        }
+    }
+
+    /// The lock's threads.
+    pub fn most(&self) -> usize
+        ensures number { result ≡ self.now.most }
+        ensures some { 0 < result }
+    {
+        self.most
+    }
+
+    /// How many of them may come: 1 where the leader works alone.
+    pub fn threads(&self) -> usize
+        ensures number { result ≡ self.now.threads }
+        ensures some { 0 < result }
+        ensures within { result ≤ self.now.most }
+        ensures most { result ≤ 32767 }
+    {
+        self.threads
+    }
+
+    /// The threads of a lock that a job opens in a lock with these.
+    pub fn nested(&self, max_threads: usize) -> ThreadCounts
+        requires some { 0 < max_threads }
+        ensures most { result.most ≡ lock_threads self.now.pool max_threads }
+        ensures all { result.threads ≡ result.most }
+        ensures pool { result.pool ≡ self.now.pool }
+    {
+        ThreadCounts::new(self.pool, max_threads)
+    }
+
+    /// The same, where the leader works alone.
+    pub fn alone(&self) -> ThreadCounts
+        ensures most { result.most ≡ self.now.most }
+        ensures alone { result.threads ≡ 1 }
+        ensures pool { result.pool ≡ self.now.pool }
+    {
+        ThreadCounts {
+            pool: self.pool,
+            most: self.most,
+            threads: 1,
         }
     }
 }

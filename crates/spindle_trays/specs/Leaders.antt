@@ -20,7 +20,7 @@ use Rattle.spindle_parts.specs.declared.fault.Fault.TheVariants.{Memory, Lost}
 use Rattle.spindle_parts.specs.declared.requests.plays.Account.{Account}
 use Rattle.spindle_threads.specs.Accounts as accounts
 use Rattle.spindle_threads.specs.Signals as signals
-use Rattle.spindle_threads.specs.declared.ThreadCounts.{ThreadCounts}
+use Rattle.spindle_threads.specs.declared.tables.ThreadCounts.{ThreadCounts}
 use Rattle.spindle_threads.specs.declared.leader_member.LeaderMember.{LeaderMember}
 use Rattle.spindle_trays.specs.Reports.{HasFailed, IsAnswered, IsNoted}
 use Rattle.spindle_trays.specs.declared.lock.leader.Leader.{Leader}

@@ -4,12 +4,11 @@
 //! `rounds` what the leaders of all kinds of lock have in common, `helper` the life of its other
 //! threads, `helpers` their start and join, `part` what they do in a round, and `nested` the locks that jobs open.
 
-mod helper;
+pub mod helper;
 pub mod helpers;
 pub mod leader;
 pub mod nested;
 pub mod opening;
-pub mod part;
 pub mod pool;
 pub mod root;
 pub mod rounds;

@@ -12,7 +12,7 @@ use spindle_parts::lists::SharedList;
 use spindle_trays::pieces::finished::Finished;
 use spindle_trays::pieces::gathering::gather;
 use spindle_trays::pieces::list_runs::ListRuns;
-use spindle_trays::pieces::spare_lists::SpareLists;
+use spindle_trays::pieces::place::SpareLists;
 use spindle_trays::pieces::trays::Trays;
 use std::alloc::{AllocError, Global};
 use std::process::Abort;

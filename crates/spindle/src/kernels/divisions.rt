@@ -11,7 +11,7 @@ use crate::kernels::{Division, Split};
 use crate::lock::{RoundsInPlace, SlotLeader, play_in_place};
 use spindle_parts::fault::Fault;
 use spindle_slots::job::update::InPlace;
-use spindle_slots::leader_states::place_leader_state::PlaceLeaderState;
+use spindle_slots::running::in_place::PlaceLeaderState;
 use spindle_trays::job::gate::Gate;
 use spindle_trays::lock::leader::MOST_JOBS;
 use spindle_trays::lock::pool::Pool;

@@ -10,16 +10,16 @@ use crate::lock::slot_leader::SlotLeader;
 use crate::lock::slot_nest::{NestedLeaderStart, NestedSlots, UnderPieces};
 use spindle_parts::fault::Fault;
 use spindle_rounds::round_table::pieces::PieceSlots;
-use spindle_slots::leader_states::slot_workspace::{MakesSlots, SlotWorkspace};
-use spindle_slots::running::in_slots::RunsPieces;
-use spindle_slots::threads::slot_member::LeaderSeats;
+use spindle_slots::leader_states::leader_state::LeaderSeats;
+use spindle_slots::leader_states::opens_slots::MakesSlots;
+use spindle_slots::running::in_slots::{RunsPieces, SlotWorkspace};
 use spindle_threads::ThreadCounts;
 use spindle_threads::limits::Idling;
 use spindle_trays::job::Job;
 use spindle_trays::job::context::{JobCx, child_slots_of, site_of};
 use spindle_trays::job::gate::NoGate;
+use spindle_trays::lock::helper::join_as_leader;
 use spindle_trays::lock::nested::{ChildLease, close};
-use spindle_trays::lock::opening::take_post;
 use std::alloc::Global;
 use std::sync::Wait;
 use std::thread::Threads;
@@ -115,7 +115,7 @@ fn take_lead<
         slots,
     } = entry;
     let tables = &*nested.tables;
-    let (post, runner) = take_post::<PieceSlots<A>, J, NoGate, SlotWorkspace<J>, H>(
+    let (post, runner) = join_as_leader::<PieceSlots<A>, J, NoGate, SlotWorkspace<J>, H>(
         rt,
         tables,
         &nested.workspace,

@@ -9,7 +9,7 @@ use crate::lock::slot_leader::SlotLeader;
 use crate::lock::slot_root::with_slots_in_place;
 use spindle_parts::fault::Fault;
 use spindle_slots::job::update::Updates;
-use spindle_slots::leader_states::place_leader_state::{PlaceLeaderState, PlaysInPlace};
+use spindle_slots::running::in_place::{PlaceLeaderState, PlaysInPlace};
 use spindle_trays::job::Job;
 use spindle_trays::job::gate::Gate;
 use spindle_trays::job::nest::Nest;

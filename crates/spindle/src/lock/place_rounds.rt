@@ -8,7 +8,7 @@ use crate::lock::slot_leader::SlotLeader;
 use spindle_parts::fault::Fault;
 use spindle_parts::lists::{Strip, tell_neighbours};
 use spindle_slots::job::update::{InPlace, Updates};
-use spindle_slots::leader_states::place_leader_state::{PlaceLeaderState, PlaysInPlace};
+use spindle_slots::running::in_place::{PlaceLeaderState, PlaysInPlace};
 use spindle_trays::job::gate::Gate;
 use std::alloc::Global;
 use std::sync::Wait;

@@ -5,8 +5,8 @@
 ghost use Rattle.std.specs.Prelude.{◌≡◌, ◌<◌, ◌≤◌, IsNone};
 ghost use Rattle.spindle.specs.SlotLeaders.{threads_of, AnnouncedRest, IsAsBefore};
 
-use spindle_slots::leader_states::slot_leader_state::SlotLeaderState;
-use spindle_slots::leader_states::slot_workspace::OpensSlots;
+use spindle_slots::leader_states::opens_slots::OpensSlots;
+use spindle_slots::running::over_lists::SlotLeaderState;
 use spindle_threads::ThreadCounts;
 use spindle_trays::job::Job;
 use spindle_trays::job::gate::Gate;

@@ -11,8 +11,8 @@ ghost use Rattle.spindle.specs.SlotLeaders.{threads_of, slots_of, slot_jobs, Goe
 
 use crate::lock::slot_leader::SlotLeader;
 use spindle_parts::fault::Fault;
-use spindle_slots::leader_states::slot_leader_state::PlaysPieces;
 use spindle_slots::pieces::items::{FillsSlots, Items, Numbers};
+use spindle_slots::running::over_lists::PlaysPieces;
 use spindle_trays::job::gate::Gate;
 use spindle_trays::lock::rounds::RunsRounds;
 use std::alloc::Global;

@@ -6,9 +6,8 @@ ghost use Rattle.spindle_parts.specs.Chunks.{own_items, chunk_from, chunks_aroun
 
 use crate::cut::piece_lengths;
 use crate::fault::Fault;
-use crate::lists::run::ListRun;
 use crate::lists::same::EqualIsSame;
-use crate::lists::shared::SharedList;
+use crate::lists::shared::{ListRun, SharedList};
 use std::alloc::{AllocError, Global};
 use std::marker::Model;
 

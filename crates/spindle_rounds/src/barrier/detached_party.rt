@@ -4,7 +4,8 @@ ghost use Rattle.std.specs.Borrow.{sem};
 ghost use Rattle.spindle_rounds.specs.Seats.{LendsDetachedSeat};
 ghost use Rattle.spindle_rounds.specs.Stances.{IsStanceOf};
 
-use crate::barrier::{Barrier, BarrierInit};
+use crate::barrier::Barrier;
+use crate::round::Round;
 use crate::round_table::Seat;
 use crate::round_table::slots::SlotContents;
 
@@ -49,11 +50,11 @@ impl<D: SlotContents> DetachedParty<D> {
     }
 }
 
-impl<D: SlotContents> BarrierInit<D> {
-    /// The party at this barrier.
+impl<D: SlotContents> Round<D> {
+    /// The party at the barrier of this table.
     pub fn resume(&self, stance: DetachedParty<D>) -> Barrier<'_, D>
         ensures party { IsStanceOf result stance }
-        ensures barrier { result.init.now ≡ self.now }
+        ensures barrier { result.init.now ≡ self.now.init }
     {
         let DetachedParty {
             seat,
@@ -62,7 +63,7 @@ impl<D: SlotContents> BarrierInit<D> {
             thread_id,
         } = stance;
         Barrier {
-            init: self,
+            init: &self.init,
             seat,
             sense,
             is_member,

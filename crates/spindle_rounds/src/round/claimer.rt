@@ -23,8 +23,8 @@ ghost use Rattle.spindle_rounds.specs.PartyWork.{IsAtTask, WentOn, HasTaken, Has
 
 use crate::round::Round;
 use crate::round::claim::{Claimed, Share};
-use crate::round::published_round::PublishedRound;
-use crate::round::source::{Source, Taken};
+use crate::round::claiming::{Source, Taken};
+use crate::round::publishing::PublishedRound;
 use crate::round::stopping::PutBack;
 use crate::round_table::Seat;
 use crate::round_table::slots::SlotContents;

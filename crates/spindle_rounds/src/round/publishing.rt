@@ -1,9 +1,10 @@
-//! The leader's part of a round, and the published word.
-ghost use Rattle.std.specs.Prelude.{◌≡◌, ◌≤◌, true, false};
+//! The leader's part of a round, and the published word: how many jobs its round has, and whether it may stop.
+ghost use Rattle.std.specs.Prelude.{◌≡◌, ◌≤◌, true, false, ◌%◌, ◌↔◌, IsTrue};
 ghost use Rattle.spindle_rounds.specs.RoundAnswers.{FilledBy};
 ghost use Rattle.spindle_rounds.specs.RoundSteps.{learning, publishing};
 ghost use Rattle.spindle_rounds.specs.RoundConditions.{MayFill, MayPublish};
 ghost use Rattle.spindle_rounds.specs.Seating.{IsSeatAt, IsSameSeat};
+ghost use Rattle.spindle_rounds.specs.Words.{high_half};
 
 use crate::round::Round;
 use crate::round_table::plays::{Fills, Learns, Publishes, PublishesTry};
@@ -67,5 +68,27 @@ impl<D: SlotContents> Round<D> {
             .table
             .shared
             .store::<PublishesTry>(seat, PUBLISHED, jobs + HIGH);
+    }
+}
+
+/// What a published word says of its round.
+#[derive(Clone, Copy)]
+pub struct PublishedRound {
+    /// How many jobs.
+    pub jobs: u64,
+    /// Whether one of them may stop it.
+    pub may_stop: bool,
+}
+
+impl PublishedRound {
+    /// The task of a word, which isn't 0.
+    pub fn new(word: u64) -> PublishedRound
+        ensures jobs { result.jobs ≡ word % high_half }
+        ensures may_stop { IsTrue result.may_stop ↔ (high_half ≤ word) }
+    {
+        PublishedRound {
+            jobs: word % HIGH,
+            may_stop: word >= HIGH,
+        }
     }
 }

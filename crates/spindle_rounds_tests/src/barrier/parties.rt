@@ -7,7 +7,7 @@ ghost use Rattle.spindle_rounds.specs.declared.round_table.view.Standing.TheVari
 ghost use Rattle.spindle_rounds.specs.Seating.{IsSeatAt};
 
 use crate::checks::holds;
-use spindle_rounds::barrier::leaving::Exit;
+use spindle_rounds::barrier::membership::Exit;
 use spindle_rounds::barrier::steps::Arrival;
 use spindle_rounds::barrier::{Barrier, BarrierInit};
 use spindle_rounds::round_table::Seat;

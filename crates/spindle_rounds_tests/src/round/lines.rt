@@ -9,7 +9,7 @@ use spindle_parts::fault::Fault;
 use spindle_parts::steps::Step::{Exit as Exits, Join};
 use spindle_parts::steps::{Machine, Reply, Step};
 use spindle_rounds::barrier::Barrier;
-use spindle_rounds::barrier::leaving::Exit;
+use spindle_rounds::barrier::membership::Exit;
 use spindle_rounds::round::Round;
 use spindle_rounds::round_table::slots::Bare;
 use spindle_rounds::round_table::{BARRIER, PUBLISHED, Seat};

@@ -9,8 +9,7 @@ ghost use Rattle.spindle_rounds.specs.Words.{words_of};
 
 use spindle_rounds::barrier::Barrier;
 use spindle_rounds::round::Round;
-use spindle_rounds::round::claim::{Claim, Claimed, Share, Steal};
-use spindle_rounds::round::finishing::Numbered;
+use spindle_rounds::round::claim::{Claim, Claimed, Numbered, Share, Steal};
 use spindle_rounds::round::stopping::PutBack;
 use spindle_rounds::round_table::Seat;
 use spindle_rounds::round_table::slots::Bare;

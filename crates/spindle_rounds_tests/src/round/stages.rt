@@ -11,9 +11,8 @@ use spindle_parts::steps::Step::{
     Arrive, Clear, End, Exit as Exits, Finish, Join, Leave as Leaves, Publish, Rest,
 };
 use spindle_parts::steps::{Reply, Why};
-use spindle_rounds::barrier::ending::AfterEnd;
-use spindle_rounds::barrier::leaving::{Exit, Leave};
-use spindle_rounds::barrier::steps::Arrival;
+use spindle_rounds::barrier::membership::{Exit, Leave};
+use spindle_rounds::barrier::steps::{AfterEnd, Arrival};
 use spindle_rounds::barrier::{Barrier, JoinRefused};
 use spindle_rounds::round::Round;
 use spindle_rounds::round_table::Seat;

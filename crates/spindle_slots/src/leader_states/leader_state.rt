@@ -1,18 +1,27 @@
-//! The post of the leader of a lock with slots, with what it keeps from round to round, and how such a lock is made.
-ghost use Rattle.std.specs.Prelude.{◌≡◌};
-ghost use Rattle.spindle_threads.specs.SlotMembers.{view_in};
+//! The state of the leader of a lock with slots: its membership, by a share of the lock's tables, so that it borrows nothing, and what
+//! it keeps from round to round. So too how such a lock is made.
+ghost use Rattle.std.specs.Prelude.{◌≡◌, ◌≤◌, [], IsSome};
+ghost use Rattle.spindle_threads.specs.SlotMembers.{view_in, HoldsEmpty, StandsAt};
+ghost use Rattle.std.specs.Option.{ForSome};
+ghost use Rattle.std.specs.Arc.{arc_value};
+ghost use Rattle.spindle_rounds.specs.RoundConditions.{MayFill};
+ghost use Rattle.spindle_rounds.specs.Seating.{HasSlots};
 
+use crate::leader_states::opens_slots::{MakesSlots, OpensSlots};
 use crate::leader_states::sealed::HasLeaderState;
-use crate::leader_states::slot_workspace::{MakesSlots, OpensSlots, SlotWorkspace};
 use crate::pieces::of_kind::Reuses;
-use crate::running::in_slots::RunsPieces;
-use crate::threads::slot_member::{LeaderSeats, SlotMember};
+use crate::running::in_slots::{RunsPieces, SlotWorkspace};
 use spindle_parts::fault::Fault;
-use spindle_rounds::round_table::pieces::PieceSlots;
+use spindle_rounds::barrier::detached_party::DetachedParty;
+use spindle_rounds::round_table::pieces::{PieceKind, PieceSlots};
+use spindle_rounds::round_table::slots::SlotContents;
+use spindle_threads::leader_member::LeaderMember;
+use spindle_threads::member::Member;
+use spindle_threads::tables::Tables;
 use spindle_trays::job::Job;
 use spindle_trays::job::nest::Nest;
 use std::alloc::Global;
-use std::sync::Wait;
+use std::sync::{Arc, Wait};
 
 /// The post of a leader whose rounds have such pieces, with what it keeps from one round to the next.
 #[derive(Drop)]
@@ -35,7 +44,7 @@ impl<J: Job, A: RunsPieces<J>> OpensSlots<LeaderState<A>> for J {
     }
 
     fn wake<H: Wait>(rt: &H, post: &LeaderState<A>) {
-        post.post.tables.wake_for_news(rt);
+        post.post.tables.sleep.wake_for_news(rt);
     }
 
     fn leave<H: Wait>(rt: &H, post: LeaderState<A>) {
@@ -58,4 +67,98 @@ impl<J: Job, A: RunsPieces<J>> MakesSlots<LeaderState<A>, PieceSlots<A>, SlotWor
             kept: None,
         }
     }
+}
+
+/// A leader that stands at its barrier, and has done nothing with the slots: its share of the tables, and what it keeps.
+#[derive(Drop)]
+pub struct LeaderSeats<D: SlotContents> {
+    pub(crate) tables: Arc<Tables<D>>,
+    pub(crate) stance: DetachedParty<D>,
+    pub(crate) slots: usize,
+    ghost stands: { StandsAt (arc_value tables) stance },
+    ghost hand: { stance.seat.me.1 ≡ [] },
+    ghost board: { stance.seat.me.0.board ≡ [] },
+    ghost many: { HasSlots (arc_value tables).round.init slots },
+    ghost few: { (1 ≤ slots) × (slots ≤ 4294967295) },
+}
+
+impl<D: SlotContents> LeaderSeats<D> {
+    /// The leader of this post.
+    pub fn new(tables: Arc<Tables<D>>, post: LeaderMember<'_, D>, slots: usize) -> LeaderSeats<D>
+        requires tables { arc_value tables ≡ post.post.tables.now }
+        requires fresh { let seat = post.post.barrier.seat in
+            (seat.me.1 ≡ []) × (seat.me.0.board ≡ []) }
+        requires slots { HasSlots post.post.tables.now.round.init slots
+            × (1 ≤ slots) × (slots ≤ 4294967295) }
+        ensures { result.slots ≡ slots }
+    {
+        let stance = post.part();
+        LeaderSeats {
+            tables,
+            stance,
+            slots,
+        }
+    }
+}
+
+/// The post of a leader that holds all slots between its rounds.
+#[derive(Drop)]
+pub struct SlotMember<A: PieceKind> {
+    pub(crate) tables: Arc<Tables<PieceSlots<A>>>,
+    pub(crate) slots: usize,
+    pub(crate) stance: Option<DetachedParty<PieceSlots<A>>>,
+    ghost there: { IsSome stance },
+    ghost stands: { ForSome stance (λ s. StandsAt (arc_value tables) s) },
+    ghost holds: { ForSome stance (λ s. HoldsEmpty slots s) },
+    ghost many: { HasSlots (arc_value tables).round.init slots },
+    ghost few: { (1 ≤ slots) × (slots ≤ 4294967295) },
+}
+
+impl<A: PieceKind> SlotMember<A> {
+    /// The post of a leader that comes: it takes the slots.
+    pub(crate) fn new(leader_seats: LeaderSeats<PieceSlots<A>>) -> SlotMember<A>
+        ensures { result.slots ≡ leader_seats.slots }
+    {
+        let LeaderSeats {
+            tables,
+            mut stance,
+            slots,
+        } = leader_seats;
+        tables.round.hold_slots(stance.seat(), slots);
+        SlotMember {
+            tables,
+            slots,
+            stance: Some(stance),
+        }
+    }
+
+    /// How many slots there are.
+    pub(crate) fn slots(&self) -> usize
+        ensures number { result ≡ self.now.slots }
+        ensures range { (1 ≤ result) × (result ≤ 4294967295) }
+        ensures between { MayFill (view_in self.now.stance) }
+    {
+        self.slots
+    }
+
+    /// Leaves the barrier. The slots go with the post.
+    pub(crate) fn leave<H: Wait>(self, rt: &H) {
+        let SlotMember {
+            tables,
+            slots: _,
+            stance,
+        } = self;
+        let Some(stance) = stance else { unreachable!() };
+        let tables: &Tables<PieceSlots<A>> = &*tables;
+        let barrier = tables.round.resume(stance);
+        drop(Member::new(tables, barrier, 0).leave(rt));
+    }
+}
+
+/// A lock's tables, with the number of its round table's slots.
+#[derive(Drop)]
+pub struct SlotTables<'t, D: SlotContents> {
+    pub(crate) tables: &'t Tables<D>,
+    pub(crate) slots: usize,
+    ghost many: { HasSlots tables.now.round.init slots },
 }

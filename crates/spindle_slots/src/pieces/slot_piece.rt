@@ -5,7 +5,7 @@
 ghost use Rattle.std.specs.Prelude.{◌≡◌, ◌+◌, ◌≤◌, ◌++◌, [], IfOk, length, vec_len, vec_capacity};
 ghost use Rattle.spindle_slots.specs.SlotPieces.{all_of};
 
-use spindle_parts::lists::run::ListRun;
+use spindle_parts::lists::shared::ListRun;
 use std::alloc::{AllocError, Global};
 use std::marker::Model;
 

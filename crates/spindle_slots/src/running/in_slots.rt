@@ -1,4 +1,5 @@
-//! The work of one thread in a round whose pieces stand in the slots of the round table: whoever begins a number has its piece.
+//! The work of a thread in a round whose pieces stand in the slots of the round table: whoever begins a number has its piece. The
+//! threads share nothing else but the child slots.
 ghost use Rattle.std.specs.Prelude.{◌≡◌, ◌≤◌, [], true, IsSome};
 ghost use Rattle.std.specs.Option.{ForSome};
 ghost use Rattle.std.proofs.Common.{refl, ◌∙◌};
@@ -8,17 +9,22 @@ ghost use Rattle.spindle_rounds.specs.Working.{PlayedRound};
 ghost use Rattle.spindle_rounds.specs.SlotLoops.{IsEmpty, IsPiece, Turning};
 ghost use Rattle.spindle_slots.specs.SlotRounds.{LeadsAt, PlayedPieces};
 
+use crate::leader_states::leader_state::SlotTables;
 use crate::pieces::of_kind::Reuses;
-use crate::threads::slot_tables::SlotTables;
 use spindle_rounds::barrier::Barrier;
 use spindle_rounds::round::claim::Claimed;
 use spindle_rounds::round::claimer::{Claimer, Work};
-use spindle_rounds::round::published_round::PublishedRound;
+use spindle_rounds::round::publishing::PublishedRound;
 use spindle_rounds::round_table::Seat;
 use spindle_rounds::round_table::pieces::{PieceKind, PieceSlots};
+use spindle_threads::member::Member;
+use spindle_threads::members::Members;
 use spindle_threads::publish_and_end::{end_round, publish_held};
+use spindle_threads::tables::Tables;
 use spindle_trays::job::Job;
 use spindle_trays::job::gate::Gate;
+use spindle_trays::job::nest::Nest;
+use spindle_trays::lock::workspace::TakesPart;
 use spindle_trays::running::runner::Runner;
 use std::alloc::Global;
 use std::sync::Wait;
@@ -112,4 +118,43 @@ impl<'r, 'a, J: Job, G: Gate, A: RunsPieces<J>> Work<PieceSlots<A>> for SlotWork
     ghost keeps_same = { λ work x y on same. refl };
 
     ghost keeps_then = { λ old then new x y z a b. b ∙ a };
+}
+
+/// What the threads of a lock with slots over jobs of kind J share beside its tables.
+#[derive(Drop)]
+pub struct SlotWorkspace<J: Job> {
+    children: <J::Inner as Nest>::ChildSlots,
+}
+
+impl<J: Job> SlotWorkspace<J> {
+    /// These child slots.
+    pub fn new(children: <J::Inner as Nest>::ChildSlots) -> SlotWorkspace<J> {
+        SlotWorkspace { children }
+    }
+}
+
+impl<J: Job, A: RunsPieces<J>> TakesPart<J, PieceSlots<A>> for SlotWorkspace<J> {
+    fn children(&self) -> &<J::Inner as Nest>::ChildSlots {
+        &self.children
+    }
+
+    fn members<'a>(tables: &'a Tables<PieceSlots<A>>) -> Members<'a> {
+        Members::Present(&tables.present)
+    }
+
+    fn take_part<'a, G: Gate, H: Threads + Wait + Sync>(
+        &self,
+        rt: &H,
+        alloc: Global,
+        post: &mut Member<'a, PieceSlots<A>>,
+        runner: &mut Runner<'_, J, G>,
+        task: PublishedRound,
+    ) {
+        let work = SlotWork {
+            runner,
+            alloc,
+            leads: false,
+        };
+        drop(post.join_in(rt, task, work));
+    }
 }

@@ -7,9 +7,8 @@ ghost use Rattle.std.specs.Prelude.{◌≡◌, ◌+◌, ◌<◌, ◌≤◌, IfSo
 use crate::job::nest::Nest;
 use spindle_rounds::round_table::slots::SlotContents;
 use spindle_threads::ThreadCounts;
-use spindle_threads::helper_requests::HelperRequest;
 use spindle_threads::job_site::JobSite;
-use spindle_threads::signals::Signals;
+use spindle_threads::signals::{HelperRequest, Signals};
 use spindle_threads::tables::Tables;
 use std::marker::Model;
 
@@ -57,21 +56,6 @@ impl<'a, N: Nest> JobCx<'a, N> {
     ghost use Rattle.spindle_threads.specs.Signals.{AnnouncedRest};
     ghost use Rattle.spindle_threads.specs.ThreadCounts.{lock_threads};
     ghost use Rattle.spindle_trays.specs.Locks.{RunsDirectly, context_at, knowing, nested_hands};
-
-    /// The context of a job that runs at this site.
-    pub fn new(
-        slots: Option<&'a N::ChildSlots>,
-        signals: Signals<'a>,
-        site: JobSite<'a>,
-    ) -> JobCx<'a, N>
-        ensures { result ≡ context_at (is_some slots.entry) site.entry (account_of signals.entry) }
-    {
-        JobCx {
-            slots,
-            asks: Asks { signals },
-            site,
-        }
-    }
 
     /// The context of a job that one at this site runs directly.
     pub(crate) fn within(signals: Signals<'a>, site: &JobSite<'a>) -> JobCx<'a, N>

@@ -1,17 +1,20 @@
-//! The life of a helper: it takes a number, joins the barrier, works in each round, and ends once exit is announced.
-ghost use Rattle.std.specs.Prelude.{◌≡◌, ◌<◌, false};
+//! Who comes to a lock: its leader, who becomes a member with number 0, and helpers. A helper takes a number, joins the barrier, works in
+//! each round, and ends once exit is announced.
+ghost use Rattle.std.specs.Prelude.{◌≡◌, ◌<◌, false, []};
 ghost use Rattle.spindle_threads.specs.Posts.{IsOut, AreOut, AreSameSeats, party_view};
 ghost use Rattle.spindle_threads.specs.Helpers.{IsHelperAt, IsNews, seat_of};
 ghost use Rattle.spindle_rounds.specs.Seating.{IsSameSeat};
+ghost use Rattle.spindle_threads.specs.Opening.{AreSeatsAt};
 
 use crate::job::Job;
 use crate::job::gate::Gate;
 use crate::job::nest::Nest;
-use crate::lock::part::TakesPart;
+use crate::lock::workspace::TakesPart;
 use crate::running::runner::Runner;
 use spindle_rounds::round_table;
 use spindle_rounds::round_table::slots::SlotContents;
 use spindle_threads::helper_waits::{News, await_news, end_part, take_number};
+use spindle_threads::leader_member::LeaderMember;
 use spindle_threads::member::{Member, Whereabouts};
 use spindle_threads::seats::{HelperSeats, Seats};
 use spindle_threads::signals::Signals;
@@ -131,4 +134,25 @@ fn return_to_post<'a, D: SlotContents, J: Job, G: Gate, H: Threads + Wait + Sync
             Member::join(rt, tables, seat, thread)
         }
     }
+}
+
+/// Makes the leader of a lock a member. The leader runs jobs with what comes beside.
+pub fn join_as_leader<'s, D: SlotContents, J: Job, G: Gate, L: TakesPart<J, D>, H: Wait>(
+    rt: &H,
+    tables: &'s Tables<D>,
+    workspace: &'s L,
+    gate: &'s G,
+    seats: Seats<D>,
+) -> (LeaderMember<'s, D>, Runner<'s, J, G>)
+    requires seats { AreSeatsAt tables.now seats }
+    ensures tables { result.0.post.tables.now ≡ tables.now }
+    ensures counts { result.1.site.counts ≡ tables.now.counts }
+    ensures slots { let seat = result.0.post.barrier.seat in
+        (seat.me.1 ≡ []) × (seat.me.0.board ≡ []) }
+{
+    let signals = Signals::new(&tables.ledger, seats.ledger, tables.child_slots);
+    let post = LeaderMember::new(Member::join(rt, tables, seats.round, 0));
+    let site = tables.site(L::members(tables), 0);
+    let runner = Runner::new(workspace.children(), gate, site, signals);
+    (post, runner)
 }

@@ -13,8 +13,8 @@ use crate::job::gate::Gate;
 use crate::lock::nested::Leads;
 use crate::lock::workspace::{Opens, Workspace};
 use crate::pieces::list_runs::ListRuns;
-use crate::pieces::spare_lists::SpareLists;
-use crate::running::ahead::{play_ahead, play_alone};
+use crate::pieces::place::SpareLists;
+use crate::running::in_trays::{play_ahead, play_alone};
 use crate::running::runner::Runner;
 use spindle_parts::fault::Fault;
 use spindle_parts::lists::shared::SharedList;
@@ -248,7 +248,7 @@ impl<'a, J: Opens<L>, G: Gate, L> Leads for Leader<'a, J, G, L> {
 
     fn dismiss<H: Wait>(&mut self, rt: &H) {
         self.runner.signals.announce_exit();
-        self.post.post.tables.wake_for_news(rt);
+        self.post.post.tables.sleep.wake_for_news(rt);
     }
 
     fn leave<H: Wait>(self, rt: &H) {

@@ -5,16 +5,14 @@ ghost use Rattle.spindle_threads.specs.Opening.{AreSeatsAt};
 use crate::job::Job;
 use crate::job::gate::Gate;
 use crate::job::nest::Nest;
-use crate::lock::helper::help;
+use crate::lock::helper::{help, join_as_leader};
 use crate::lock::helpers::{HelperRoom, Helpers};
-use crate::lock::part::TakesPart;
 use crate::lock::pool::Pool;
+use crate::lock::workspace::TakesPart;
 use crate::running::runner::Runner;
 use spindle_rounds::round_table::slots::SlotContents;
 use spindle_threads::leader_member::LeaderMember;
-use spindle_threads::member::Member;
 use spindle_threads::seats::Seats;
-use spindle_threads::signals::Signals;
 use spindle_threads::tables::Tables;
 use std::alloc::{AllocError, Global};
 use std::sync::Wait;
@@ -85,7 +83,7 @@ impl<'s, D: SlotContents + Send + 's, G: Gate + Sync, L: Send + Sync> LeaderStar
         let helpers = start::<_, D, J, G, L, H>(
             scope, rt, alloc, tables, workspace, gate, &mut seats, room,
         );
-        let (post, runner) = take_post::<D, J, G, L, H>(rt, tables, workspace, gate, seats);
+        let (post, runner) = join_as_leader::<D, J, G, L, H>(rt, tables, workspace, gate, seats);
         (post, runner, helpers)
     }
 }
@@ -128,25 +126,4 @@ where
         }
     }
     Helpers { threads }
-}
-
-/// Makes the leader of a lock a member. The leader runs jobs with what comes beside.
-pub fn take_post<'s, D: SlotContents, J: Job, G: Gate, L: TakesPart<J, D>, H: Wait>(
-    rt: &H,
-    tables: &'s Tables<D>,
-    workspace: &'s L,
-    gate: &'s G,
-    seats: Seats<D>,
-) -> (LeaderMember<'s, D>, Runner<'s, J, G>)
-    requires seats { AreSeatsAt tables.now seats }
-    ensures tables { result.0.post.tables.now ≡ tables.now }
-    ensures counts { result.1.site.counts ≡ tables.now.counts }
-    ensures slots { let seat = result.0.post.barrier.seat in
-        (seat.me.1 ≡ []) × (seat.me.0.board ≡ []) }
-{
-    let signals = Signals::new(&tables.ledger, seats.ledger, tables.child_slots);
-    let post = LeaderMember::new(Member::join(rt, tables, seats.round, 0));
-    let site = tables.site(L::members(tables), 0);
-    let runner = Runner::new(workspace.children(), gate, site, signals);
-    (post, runner)
 }

@@ -4,11 +4,10 @@ ghost use Rattle.std.specs.List.{AllZip, Any};
 ghost use Rattle.spindle_trays.specs.Rounds.{AddsAnswers};
 
 use crate::job::Job;
-use crate::pieces::ready::Ready;
+use crate::pieces::place::Ready;
 use crate::pieces::tally::has_failure;
-use spindle_parts::lists::run::ListRun;
-use spindle_parts::lists::shared::are_equal;
-use spindle_rounds::round::finishing::Numbered;
+use spindle_parts::lists::shared::{ListRun, are_equal};
+use spindle_rounds::round::claim::Numbered;
 use std::alloc::Global;
 use std::marker::Model;
 

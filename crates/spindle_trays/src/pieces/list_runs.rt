@@ -1,11 +1,11 @@
-//! The pieces of a round's items, as `cut` cuts them: runs of one list, which no piece moves or clones.
-ghost use Rattle.std.specs.Prelude.{◌≡◌, ◌+◌, ◌/◌, ◌%◌, ◌^◌, ◌<◌, ◌≤◌, IfOk, get_or, length, min};
-ghost use Rattle.spindle_parts.specs.Pieces.{cut_lengths};
+//! The pieces of a round's items, as `cut` cuts them: runs of one list, which no piece moves or clones. An address tells where `deal`
+//! deals a number to.
+ghost use Rattle.std.specs.Prelude.{◌≡◌, ◌+◌, ◌/◌, ◌%◌, ◌^◌, ◌<◌, ◌≤◌, IfOk, get_or, length, min, Some, slice_get};
+ghost use Rattle.spindle_parts.specs.Pieces.{cut_lengths, counted, dealt};
 ghost use Rattle.spindle_trays.specs.PieceRuns.{piece_start, piece_at};
 
-use spindle_parts::lists::run::ListRun;
-use spindle_parts::lists::shared::SharedList;
-use spindle_rounds::round::published_round::PublishedRound;
+use spindle_parts::lists::shared::{ListRun, SharedList};
+use spindle_rounds::round::publishing::PublishedRound;
 use std::alloc::AllocError;
 
 /// A list of items, and how many pieces it is cut into.
@@ -104,5 +104,66 @@ impl<T: Drop> ListRuns<T> {
     {
         let start = self.start(number);
         self.items.run(start, start + self.length(number))
+    }
+}
+
+/// The thread number whose tray has a piece, and the piece's place in that tray.
+#[derive(Clone, Copy)]
+pub(crate) struct Address {
+    pub(crate) thread: usize,
+    pub(crate) place: usize,
+}
+
+impl Address {
+    /// The address of a number, where so many pieces were dealt to so many threads.
+    pub(crate) fn new(number: usize, pieces: usize, threads: usize) -> Address
+        requires number { number < pieces }
+        requires threads { 0 < threads }
+        ensures thread { result.thread < threads }
+        ensures place { slice_get (dealt (counted 0 pieces) threads result.thread) result.place
+            ≡ Some number }
+    {
+        let each = pieces / threads;
+        let in_runs = each * threads;
+        if number < in_runs {
+            Address {
+                thread: number / each,
+                place: number % each,
+            }
+        } else {
+            Address {
+                thread: number - in_runs,
+                place: each,
+            }
+        }
+    }
+
+    /// The number that stands at an address.
+    pub(crate) fn number(self, pieces: usize, threads: usize) -> usize
+        requires thread { self.thread < threads }
+        requires place { self.place < length (dealt (counted 0 pieces) threads self.thread) }
+        ensures number { slice_get (dealt (counted 0 pieces) threads self.thread) self.place
+            ≡ Some result }
+        ensures below { result < pieces }
+    {
+        let each = pieces / threads;
+        if self.place < each {
+            each * self.thread + self.place
+        } else {
+            each * threads + self.thread
+        }
+    }
+}
+
+/// How many of so many pieces a thread is dealt.
+pub(crate) fn hand_length(thread: usize, pieces: usize, threads: usize) -> usize
+    requires { thread < threads }
+    ensures { result ≡ length (dealt (counted 0 pieces) threads thread) }
+{
+    let each = pieces / threads;
+    if thread < pieces % threads {
+        each + 1
+    } else {
+        each
     }
 }

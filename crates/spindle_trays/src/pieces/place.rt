@@ -1,5 +1,5 @@
-//! The place of a piece in a tray: the piece until a thread takes it, and then what the thread brings back.
-ghost use Rattle.std.specs.Prelude.{◌≡◌, ◌+◌, ◌≤◌, ◌↔◌, None, Some, OnOk, OnErr, IfErr, IfSome, IsSome, IsTrue, IsOk, true, length, vec_len, vec_capacity};
+//! The place of a piece in a tray: the piece, ready to be run, until a thread takes it, and then what the thread brings back.
+ghost use Rattle.std.specs.Prelude.{◌≡◌, ◌+◌, ◌≤◌, ◌↔◌, None, Some, OnOk, OnErr, IfErr, IfSome, IsSome, IsTrue, IsOk, true, length, vec_len, vec_capacity, [], IfOk};
 ghost use Rattle.std.specs.List.{AllZip};
 ghost use Rattle.spindle_trays.specs.Rounds.{AddsAnswers};
 ghost use Rattle.spindle_trays.specs.Outputs.{IsDoneOf};
@@ -7,9 +7,7 @@ ghost use Rattle.spindle_trays.specs.Trays.{Awaits};
 
 use crate::job::Job;
 use crate::pieces::finished::Finished;
-use crate::pieces::ready::Ready;
-use crate::pieces::spare_lists::SpareLists;
-use spindle_parts::lists::run::ListRun;
+use spindle_parts::lists::shared::ListRun;
 use std::alloc::{AllocError, Global};
 use std::marker::Model;
 
@@ -143,6 +141,88 @@ impl<J: Job> Place<J> {
                 true
             }
             _ => false,
+        }
+    }
+}
+
+/// A piece with room for an output for each of its items.
+#[derive(Drop)]
+pub struct Ready<J: Job> {
+    number: usize,
+    inputs: ListRun<J::In>,
+    room: Vec<J::Out>,
+}
+
+impl<J: Job> Model for Ready<J> {
+    ghost use Rattle.std.specs.Prelude.{◌≡◌, ◌≤◌, [], length, vec_capacity};
+    ghost use Rattle.spindle_trays.specs.Done.{Given};
+
+    ghost Value = { Given J.In };
+
+    ghost view = { λ piece. record { number = piece.number; inputs = piece.inputs } };
+
+    ghost invariant = { λ piece. (piece.room.items ≡ [])
+        × (length piece.inputs ≤ vec_capacity piece.room) };
+}
+
+impl<J: Job> Ready<J> {
+    /// A piece with room for its outputs. What the vector held goes; its room is used.
+    pub fn new(
+        number: usize,
+        inputs: ListRun<J::In>,
+        mut room: Vec<J::Out>,
+    ) -> Result<Ready<J>, AllocError>
+        ensures number { IfOk result (λ ready. ready.number ≡ number) }
+        ensures inputs { IfOk result (λ ready. ready.inputs ≡ inputs) }
+    {
+        room.clear();
+        room.reserve(inputs.len())?;
+        Ok(Ready {
+            number,
+            inputs,
+            room,
+        })
+    }
+
+    /// The piece's number.
+    pub fn number(&self) -> usize
+        ensures { result ≡ self.now.number }
+    {
+        self.number
+    }
+
+    /// The piece's inputs, and the empty room for their outputs.
+    pub fn into_parts(self) -> (ListRun<J::In>, Vec<J::Out>)
+        ensures inputs { result.0 ≡ self.inputs }
+        ensures empty { result.1.items ≡ [] }
+        ensures room { length result.0 ≤ vec_capacity result.1 }
+    {
+        (self.inputs, self.room)
+    }
+}
+
+/// Lists to be had instead of new ones, each with the number of the piece that it came from.
+#[derive(Drop)]
+pub struct SpareLists<T> {
+    lists: Vec<(usize, Vec<T>)>,
+}
+
+impl<T> SpareLists<T> {
+    /// These lists, whatever stands in them.
+    pub fn new(lists: Vec<(usize, Vec<T>)>) -> SpareLists<T> {
+        SpareLists { lists }
+    }
+
+    /// No list. Takes no memory.
+    pub fn none(alloc: Global) -> SpareLists<T> {
+        SpareLists::new(Vec::new(alloc))
+    }
+
+    /// A list with what stands in it, or a new one where there is no other. Takes no memory.
+    pub(crate) fn take(&mut self, alloc: Global) -> Vec<T> {
+        match self.lists.pop() {
+            Some((_, list)) => list,
+            None => Vec::new(alloc),
         }
     }
 }

@@ -12,12 +12,9 @@ ghost use Rattle.spindle_trays.specs.Reports.{IsNoted};
 ghost use Rattle.spindle_trays.specs.Trays.{ready_at, finished_at, number_at, AwaitsHand, HoldsDone, IsFirstMissing};
 
 use crate::job::Job;
-use crate::pieces::address::{Address, hand_length};
 use crate::pieces::finished::Finished;
-use crate::pieces::list_runs::ListRuns;
-use crate::pieces::place::Place;
-use crate::pieces::ready::Ready;
-use crate::pieces::spare_lists::SpareLists;
+use crate::pieces::list_runs::{Address, ListRuns, hand_length};
+use crate::pieces::place::{Place, Ready, SpareLists};
 use crate::pieces::tally::Tally;
 use std::alloc::{AllocError, Global};
 use std::mem;

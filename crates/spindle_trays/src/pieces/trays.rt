@@ -6,11 +6,9 @@ ghost use Rattle.spindle_trays.specs.PieceRuns.{items_before};
 ghost use Rattle.spindle_trays.specs.Reports.{IsNoted};
 
 use crate::job::Job;
-use crate::pieces::address::Address;
 use crate::pieces::finished::Finished;
-use crate::pieces::list_runs::ListRuns;
-use crate::pieces::ready::Ready;
-use crate::pieces::spare_lists::SpareLists;
+use crate::pieces::list_runs::{Address, ListRuns};
+use crate::pieces::place::{Ready, SpareLists};
 use crate::pieces::tally::Tally;
 use crate::pieces::tray::Tray;
 use crossbeam_utils::CachePadded;

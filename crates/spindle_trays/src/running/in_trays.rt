@@ -1,22 +1,32 @@
-//! The work of one thread in a published round: it runs the pieces of the numbers that it claims, out of the trays.
-ghost use Rattle.std.specs.Prelude.{◌≡◌, ◌≤◌};
+//! The work of a thread in a round whose pieces stand in trays: it takes the piece of each number that it claims out of its tray, runs
+//! it, and brings it back. The leader runs the piece whose outputs come next where it lies; alone it runs each piece so.
+ghost use Rattle.std.specs.Prelude.{◌≡◌, ◌≤◌, ◌∷◌, true, MatchBool, ◌+◌, ◌<◌, [], length, vec_capacity};
 ghost use Rattle.spindle_threads.specs.Posts.{LastPublished, party_view};
 ghost use Rattle.spindle_rounds.specs.RoundSteps.{round_of};
-ghost use Rattle.spindle_rounds.specs.Working.{PlayedRoundOf};
+ghost use Rattle.spindle_rounds.specs.Working.{PlayedRoundOf, PlayedRound};
+ghost use Rattle.spindle_rounds.specs.PartyWork.{HasFinished, IsAtTask};
+ghost use Rattle.spindle_rounds.specs.RoundConditions.{MayFinish};
+ghost use Rattle.spindle_rounds.specs.RoundShown.{Stopped};
+ghost use Rattle.spindle_rounds.specs.RoundViews.{StopsAsBefore, stops_of};
+ghost use Rattle.spindle_rounds.specs.Seating.{IsSameSeat};
+ghost use Rattle.std.specs.List.{AllZip};
+ghost use Rattle.std.proofs.Common.{refl, ◌∙◌};
+ghost use Rattle.spindle_trays.specs.Ahead.{HasAnswered};
 
 use crate::job::Job;
 use crate::job::gate::Gate;
 use crate::pieces::finished::Finished;
+use crate::pieces::list_runs::ListRuns;
 use crate::pieces::trays::Trays;
-use crate::running::finishing::finish;
 use crate::running::runner::Runner;
-use spindle_rounds::round::claim::Claimed;
+use spindle_rounds::round::claim::{Claimed, Numbered};
 use spindle_rounds::round::claimer::{Claimer, Work};
-use spindle_rounds::round::published_round::PublishedRound;
+use spindle_rounds::round::publishing::PublishedRound;
 use spindle_rounds::round_table::Seat;
 use spindle_rounds::round_table::slots::Bare;
 use spindle_threads::leader_member::LeaderMember;
 use std::alloc::Global;
+use std::mem;
 use std::sync::Wait;
 use std::thread::Threads;
 
@@ -116,4 +126,155 @@ impl<J: Job> Trays<J> {
             drop(self.put(rt, pieces, finished));
         }
     }
+}
+
+/// Finishes a number whose piece was run. Where the piece failed in a round that may stop, the round is stopped before.
+pub(crate) fn finish<P: Numbered>(
+    party: &Claimer<'_, Bare>,
+    seat: &mut Seat<Bare>,
+    claimed: Claimed,
+    piece: &P,
+    failed: bool,
+) -> u64
+    requires at { IsAtTask party.now.round.now party.now.task seat.old }
+    requires own { MayFinish claimed seat.old.me.0 }
+    requires piece { P.number piece.now ≡ claimed }
+    requires failed { failed ≡ true → party.now.task.may_stop ≡ true }
+    ensures seat { IsSameSeat seat.old seat.new }
+    ensures finished { HasFinished result seat.old.me.0 seat.new.me.0 }
+    ensures stops { let v = seat.old.me.0 in let w = seat.new.me.0 in MatchBool failed
+        (stops_of w.trail ≡ Stopped (round_of v.standing) claimed ∷ stops_of v.trail)
+        (StopsAsBefore v w) }
+{
+    if failed {
+        party.round.stop(seat, &claimed);
+    }
+    party.round.finish(seat, claimed, piece)
+}
+
+/// What runs the next piece where it lies, with the outputs of those before it, and others out of their trays. It holds the last one of
+/// these until it takes another.
+#[derive(Drop)]
+struct AheadWork<'t, 'p, 'r, 'a, J: Job, G: Gate> {
+    trays: &'t Trays<J>,
+    pieces: &'p ListRuns<J::In>,
+    runner: &'r mut Runner<'a, J, G>,
+    alloc: Global,
+    next: usize,
+    outputs: Vec<J::Out>,
+    held: Option<Finished<J>>,
+}
+
+/// Publishes the pieces, takes part, and waits until the round has ended. Answers how many pieces the outputs answer, from
+/// the first on; what came of the others lies in the trays, if they stood there.
+pub(crate) fn play_ahead<'a, J: Job, G: Gate, H: Threads + Wait + Sync>(
+    rt: &H,
+    alloc: Global,
+    leader: &mut LeaderMember<'a, Bare>,
+    trays: &Trays<J>,
+    runner: &mut Runner<'a, J, G>,
+    pieces: &ListRuns<J::In>,
+    outputs: &mut Vec<J::Out>,
+) -> usize
+    requires counted { (2 ≤ pieces.now.count) × (pieces.now.count ≤ 4294967295) }
+    requires empty { outputs.old.items ≡ [] }
+    requires room { length pieces.now.items ≤ vec_capacity outputs.old }
+    ensures answered { HasAnswered J.meets
+        pieces.now.items pieces.now.count result outputs.new }
+    ensures played { PlayedRound pieces.now.count
+        leader.old.post.barrier.seat.me.0 leader.new.post.barrier.seat.me.0 }
+    ensures tables { leader.new.post.tables ≡ leader.old.post.tables }
+{
+    let signals = runner.signals.another();
+    let work = AheadWork {
+        trays,
+        pieces,
+        runner,
+        alloc,
+        next: 0,
+        outputs: mem::replace(outputs, Vec::new(alloc)),
+        held: None,
+    };
+    let work = leader.lead(rt, signals, pieces.task(false), work);
+    trays.bring_back(rt, pieces.count(), work.held);
+    *outputs = work.outputs;
+    work.next
+}
+
+/// The same where no piece stands in a tray: the leader, which is the only thread, runs them all.
+pub(crate) fn play_alone<'a, J: Job, G: Gate, H: Threads + Wait + Sync>(
+    rt: &H,
+    alloc: Global,
+    leader: &mut LeaderMember<'a, Bare>,
+    trays: &Trays<J>,
+    runner: &mut Runner<'a, J, G>,
+    pieces: &ListRuns<J::In>,
+    outputs: &mut Vec<J::Out>,
+)
+    requires counted { (2 ≤ pieces.now.count) × (pieces.now.count ≤ 4294967295) }
+    requires empty { outputs.old.items ≡ [] }
+    requires room { length pieces.now.items ≤ vec_capacity outputs.old }
+    ensures answered { AllZip J.meets pieces.now.items outputs.new.items }
+    ensures played { PlayedRound pieces.now.count
+        leader.old.post.barrier.seat.me.0 leader.new.post.barrier.seat.me.0 }
+    ensures tables { leader.new.post.tables ≡ leader.old.post.tables }
+{
+    let first = play_ahead(rt, alloc, leader, trays, runner, pieces, outputs);
+    for number in first..pieces.count() {
+        run_next(rt, alloc, runner, pieces, number, outputs);
+    }
+}
+
+impl<'t, 'p, 'r, 'a, J: Job, G: Gate> Work<Bare> for AheadWork<'t, 'p, 'r, 'a, J, G> {
+    ghost holds = { λ w hands. HasAnswered J.meets w.pieces.now.items w.pieces.now.count w.next w.outputs };
+
+    ghost keeps = { λ v x w y. w.pieces ≡ v.pieces };
+
+    // The next piece runs where it lies. Another is held until one more is taken.
+    fn run<H: Threads + Wait + Sync>(
+        &mut self,
+        rt: &H,
+        party: &Claimer<'_, Bare>,
+        seat: &mut Seat<Bare>,
+        claimed: Claimed,
+    ) -> u64 {
+        let number = claimed.number() as usize;
+        let (alloc, pieces) = (self.alloc, self.pieces);
+        if number == self.next && number < pieces.count() {
+            run_next(rt, alloc, self.runner, pieces, number, &mut self.outputs);
+            self.next = number + 1;
+            let finished: Finished<J> = Finished::empty(alloc, number);
+            party.round.finish(seat, claimed, &finished)
+        } else {
+            let (count, held) = (pieces.count(), self.held.take());
+            let finished = self
+                .trays
+                .run_piece(rt, alloc, self.runner, count, held, number);
+            let before = party.round.finish(seat, claimed, &finished);
+            self.held = Some(finished);
+            before
+        }
+    }
+
+    ghost keeps_same = { λ w x y on same. refl };
+
+    ghost keeps_then = { λ u v w x y z a b. b ∙ a };
+}
+
+// Runs the piece of a number where it lies, once those before it have run.
+fn run_next<J: Job, G: Gate, H: Threads + Wait + Sync>(
+    rt: &H,
+    alloc: Global,
+    runner: &mut Runner<'_, J, G>,
+    pieces: &ListRuns<J::In>,
+    number: usize,
+    outputs: &mut Vec<J::Out>,
+)
+    requires left { number < pieces.now.count }
+    requires answered { HasAnswered J.meets
+        pieces.now.items pieces.now.count number outputs.old }
+    ensures { HasAnswered J.meets pieces.now.items pieces.now.count (number + 1) outputs.new }
+{
+    let items = pieces.piece(number);
+    runner.run(rt, alloc, Some(number), items, outputs);
 }

@@ -3,7 +3,7 @@ ghost use Rattle.std.specs.Prelude.{◌≡◌, ◌+◌, ◌≤◌, ◌++◌, Lis
 ghost use Rattle.spindle_trays.specs.Rounds.{AddsAnswers};
 
 use crate::job::Job;
-use crate::job::context::JobCx;
+use crate::job::context::{Asks, JobCx};
 use crate::job::gate::Gate;
 use crate::job::nest::Nest;
 use spindle_threads::job_site::JobSite;
@@ -48,7 +48,12 @@ impl<'a, J: Job, G: Gate> Runner<'a, J, G> {
             Some(_) => self.site,
             None => self.site.directly(),
         };
-        let context = JobCx::new(Some(self.slots), self.signals.another(), site);
+        let signals = self.signals.another();
+        let context = JobCx {
+            slots: Some(self.slots),
+            asks: Asks { signals },
+            site,
+        };
         self.gate.begun(number.unwrap_or(0));
         context
     }

@@ -7,20 +7,22 @@ ghost use denote.Param.Send.{IsSync};
 
 use crate::job::Job;
 use crate::job::gate::NoGate;
+use crate::job::is_nest::IsNest;
 use crate::job::nest::Nest;
 use crate::lock::helper::help;
-use crate::lock::part::TakesPart;
-use crate::lock::workspace::{Opens, Workspace};
+use crate::lock::nested::child_lease::{ChildSlot, make_slots, serve_slots};
+use crate::lock::workspace::{Opens, TakesPart, Workspace};
 use spindle_parts::aarc_imp::Fits;
 use spindle_parts::fault::Fault;
 use spindle_rounds::round::Round;
 use spindle_rounds::round_table::slots::{Bare, SlotContents};
 use spindle_threads::ThreadCounts;
 use spindle_threads::limits::Idling;
-use spindle_threads::seats::Seats;
-use spindle_threads::spare_seats::SpareSeats;
+use spindle_threads::seats::{Seats, SpareSeats};
+use spindle_threads::signals::Signals;
 use spindle_threads::tables::Tables;
 use std::alloc::Global;
+use std::marker::PhantomData;
 use std::sync::{Arc, Wait};
 use std::thread::Threads;
 
@@ -130,5 +132,33 @@ impl<K: Job> TakesHelpers for Nested<K> {
     fn help<H: Threads + Wait + Sync>(&self, rt: &H, alloc: Global) {
         let spare_seats = self.spare_seats.as_slice();
         help_from::<_, K, Workspace<K>, H>(rt, alloc, &self.tables, &self.workspace, spare_seats);
+    }
+}
+
+/// Nested locks over jobs of kind K.
+pub struct Under<K> {
+    kind: PhantomData<K>,
+}
+
+impl<K: Job> IsNest for Under<K> {}
+
+impl<K: Job> Nest for Under<K> {
+    type ChildSlots = Vec<ChildSlot<Nested<K>>>;
+
+    fn slot_count(threads: usize) -> usize {
+        threads
+    }
+
+    fn make(alloc: Global, threads: usize) -> Result<Vec<ChildSlot<Nested<K>>>, Fault> {
+        make_slots(alloc, threads)
+    }
+
+    fn serve<H: Threads + Wait + Sync>(
+        rt: &H,
+        alloc: Global,
+        slots: &Vec<ChildSlot<Nested<K>>>,
+        signals: &mut Signals<'_>,
+    ) {
+        serve_slots(rt, alloc, slots, signals);
     }
 }

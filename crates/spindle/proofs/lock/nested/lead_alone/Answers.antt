@@ -1,6 +1,6 @@
 -- The closure was called with a leader of a lock of these threads, with so many slots.
 use Rattle.std.proofs.Common.{ap, sym, refl, ◌∙◌}
-use Rattle.spindle_threads.specs.declared.ThreadCounts.{ThreadCounts}
+use Rattle.spindle_threads.specs.declared.tables.ThreadCounts.{ThreadCounts}
 use Rattle.spindle.proofs.lock.nested.lead_alone.Goals as goal
 
 pub returns-clause-promise : goal.returns-clause-promise

@@ -1,6 +1,6 @@
 -- The closure was called with a leader of this lock.
 use Rattle.std.proofs.Common.{◌≡◌, ap, sym, ◌∙◌, rules}
-use Rattle.spindle_threads.specs.declared.ThreadCounts.{ThreadCounts}
+use Rattle.spindle_threads.specs.declared.tables.ThreadCounts.{ThreadCounts}
 use Rattle.spindle_trays.specs.Leaders.{WasLed}
 use Rattle.spindle_threads.specs.ThreadCounts.{lock_threads}
 use Rattle.spindle_trays.proofs.lock.root.with_lock.Goals as goal

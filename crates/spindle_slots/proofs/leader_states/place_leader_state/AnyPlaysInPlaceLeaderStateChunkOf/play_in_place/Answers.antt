@@ -1,9 +1,0 @@
--- The post is between two rounds, whether it has played one or was refused.
-use Rattle.spindle_slots.proofs.SlotMembers.{may_begin}
-use Rattle.spindle_slots.proofs.leader_states.place_leader_state.AnyPlaysInPlaceLeaderStateChunkOf.play_in_place.Goals as goal
-
-pub returns-in_err-prepare-clause-between : goal.returns-in_err-prepare-clause-between
-returns-in_err-prepare-clause-between g c = let p = c.args.post.now.post in may_begin p.tables.value p.stance p.there p.stands
-
-pub returns-clause-between : goal.returns-clause-between
-returns-clause-between g c = let p = c.update.new.self in may_begin p.tables.value p.stance p.there p.stands

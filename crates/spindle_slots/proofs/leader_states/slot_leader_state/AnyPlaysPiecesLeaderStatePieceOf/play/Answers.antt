@@ -1,6 +1,0 @@
--- The post is between two rounds, whether it has played one or was refused.
-use Rattle.spindle_slots.proofs.SlotMembers.{may_begin}
-use Rattle.spindle_slots.proofs.leader_states.slot_leader_state.AnyPlaysPiecesLeaderStatePieceOf.play.Goals as goal
-
-pub returns-clause-between : goal.returns-clause-between
-returns-clause-between g c = let p = c.play.new.self in may_begin p.tables.value p.stance p.there p.stands
