@@ -45,7 +45,7 @@ add-to() {
     grep -E "^$crate[ :]" crates.txt >>"$to/crates.txt"
   done
   cp LICENSE "$to/crates/spindle/"
-  printf "A crate of yours: a line 'mine: spindle' in %s/crates.txt; 'mine may_wait=N: spindle' with the N that rt verdict prints.\n" "$to"
+  printf "A crate of yours, once rt new has made it: a line 'mine: spindle' in %s/crates.txt; 'mine may_wait=N: spindle' with the N that rt verdict prints.\n" "$to"
   if [ "$(cat "$to/HANDLES" 2>/dev/null)" != "$(cat HANDLES)" ]; then
     printf "%s/HANDLES must hold this line: %s\n" "$to" "$(cat HANDLES)"
   fi

@@ -113,6 +113,8 @@ pub enum Why {
 /// The machine: members, the closer, and the jobs of the published round, with one counter for each thread.
 ///
 /// A counter at v > 0 stands for the last v jobs of its thread's own, the remainder at v > 0 for the last v of all.
+///
+/// It keeps up to 64 bytes for each party that ever joined, until it is dropped.
 #[derive(Drop)]
 pub struct Machine {
     registers: Registers,

@@ -12,6 +12,7 @@ use spindle::lock::{Nest, Opens};
 use spindle::prelude::*;
 use spindle::round_table::runs::every_moment;
 use spindle::round_table::slots::SlotContents;
+use std::alloc::AllocGlobal;
 
 /// Squares a number.
 pub struct Square;
@@ -25,38 +26,21 @@ impl Job for Square {
 
     ghost meets = { λ x y. y ≡ x * x };
 
-    fn run<H: Threads + Wait + Sync>(
-        _rt: &H,
-        _alloc: Global,
-        input: &u32,
-        _cx: &mut JobCx<End>,
-    ) -> u64 {
-        u64::from(*input) * u64::from(*input)
+    fn run<H: Threads + Wait + Sync>(_: &H, _: Global, x: &u32, _: &mut JobCx<End>) -> u64 {
+        u64::from(*x) * u64::from(*x)
     }
 
     ghost equal_is_same = { Prim.search rules };
 }
 
-/// The squares of the numbers, by one round of so many jobs.
-pub fn squares<G: Gate + Sync, H: Threads + Wait + Sync>(
+/// The squares of the numbers, by one round in a lock of the machine's threads.
+pub fn squares<H: Threads + Wait + AllocGlobal + Sync>(
     rt: &H,
-    alloc: Global,
-    pool: &Pool<G>,
-    jobs: usize,
     numbers: Vec<u32>,
 ) -> Result<Vec<u64>, Fault>
-    requires { 0 < jobs }
     ensures { IfOk result (λ squares. squares.items ≡ map (λ x. x * x) numbers.items) }
 {
-    LockOf::<Square>::with_lock(
-        rt,
-        alloc,
-        pool,
-        pool.max_num_threads(),
-        |leader|
-            requires { 0 < jobs }
-        { leader.for_each(rt, alloc, jobs, numbers) },
-    )?
+    run_one::<Square>(rt, rt.alloc(), &Pool::of_machine(rt), 0, numbers)
 }
 
 /// What so many jobs answer to the items.

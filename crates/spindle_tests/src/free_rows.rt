@@ -151,7 +151,7 @@ fn a_pool_of_the_machine_has_as_many_threads_as_std_tells(rt: HostRuntime) -> Re
     };
     let pool = Pool::of_machine(&rt);
     is(&rt, pool.max_num_threads(), threads);
-    let by_lock = callers::squares(&rt, alloc, &pool, 3, vec![in alloc; 0, 1, 2, 3]?)?;
+    let by_lock = callers::squares(&rt, vec![in alloc; 0, 1, 2, 3]?)?;
     let numbers = vec![in alloc; 0, 1, 2, 3]?;
     let by_list = callers::squares_without_a_lock(&rt, alloc, &pool, 3, numbers)?;
     are(&rt, &by_lock, &[0, 1, 4, 9]);
