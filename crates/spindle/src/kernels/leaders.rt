@@ -6,7 +6,7 @@ ghost use Rattle.spindle.specs.Tries.{IsTried};
 ghost use Rattle.std.specs.List.{AllZip};
 ghost use Rattle.spindle.specs.SlotLeaders.{threads_of, lock_slots};
 
-use crate::kernels::held::Shared;
+use crate::kernels::held::{Again, Shared};
 use crate::kernels::maps::{Mapping, append_outputs, map_tasks};
 use crate::kernels::pairs::PairRun;
 use crate::kernels::passes::Passes;
@@ -55,13 +55,13 @@ impl<'a, K: Change + Drop, G: Gate> PlaceLeader<'a, Updating<Shared<K>>, G> {
     }
 }
 
-impl<'a, K: Stencil + Drop, G: Gate> PlaceLeader<'a, Passing<Shared<K>>, G> {
+impl<'a, K: Stencil + Again, G: Gate> PlaceLeader<'a, Passing<K>, G> {
     /// Passes over the list as `spindle::passes_until` does, each pass a round of this lock. A refusal gives the values up.
     pub fn passes_until<H: Threads + Wait + Sync>(
         &mut self,
         rt: &H,
         alloc: Global,
-        kernel: &Shared<K>,
+        kernel: &K,
         mut list: Vec<K::Value>,
         edge: K::Value,
         most: usize,
@@ -75,7 +75,7 @@ impl<'a, K: Stencil + Drop, G: Gate> PlaceLeader<'a, Passing<Shared<K>>, G> {
     {
         let jobs = self.max_num_threads().saturating_mul(PIECES);
         let mut strips = strips_of(alloc, kernel, cut(alloc, &mut list, jobs)?, edge)?;
-        let ended = play_passes::<Shared<K>, G, H>(rt, alloc, self, &mut strips, edge, most)?;
+        let ended = play_passes::<K, G, H>(rt, alloc, self, &mut strips, edge, most)?;
         append_strips(strips, &mut list)?;
         Ok(Passes {
             values: list,

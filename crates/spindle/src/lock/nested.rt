@@ -13,8 +13,6 @@ use spindle_rounds::round_table::pieces::PieceSlots;
 use spindle_slots::leader_states::leader_state::LeaderSeats;
 use spindle_slots::leader_states::opens_slots::MakesSlots;
 use spindle_slots::running::in_slots::{RunsPieces, SlotWorkspace};
-use spindle_threads::ThreadCounts;
-use spindle_threads::limits::Idling;
 use spindle_trays::job::Job;
 use spindle_trays::job::context::{JobCx, child_slots_of, site_of};
 use spindle_trays::job::gate::NoGate;
@@ -63,34 +61,9 @@ pub(crate) fn open<
             return Ok(answer);
         }
     }
-    lead_alone::<J, A, R, F, P, H>(rt, alloc, counts, idling, slots, f)
-}
-
-// Runs f with the leader of a lock of so many threads that stands in no child slot, so that no helper comes to it.
-fn lead_alone<
-    J: Job + MakesSlots<P, PieceSlots<A>, SlotWorkspace<J>>,
-    A: RunsPieces<J>,
-    R,
-    F: FnOnce(&mut SlotLeader<J, NoGate, P>) -> R,
-    P: Drop,
-    H: Threads + Wait + Sync,
->(
-    rt: &H,
-    alloc: Global,
-    counts: ThreadCounts,
-    idling: Idling,
-    slots: usize,
-    f: F,
-) -> Result<R, Fault>
-    requires slots { (1 ≤ slots) × (slots ≤ 4294967295) }
-    requires callable { TakesLeaders J.OpensSlots.slot_count slots F.FnOnce f }
-    ensures promise { IfOk result (λ r. (old : _) × (new : _)
-        × IsLeaderOf J.OpensSlots.slot_count counts.most slots old
-        × FnOnceReturnsAtMut F.FnOnce f old r new) }
-    ensures memory { OnErr result (IsErrOf result Fault.Memory) }
-{
     let (child, entry) = NestedSlots::open(alloc, counts.alone(), idling, slots)?;
-    Ok(f(&mut take_lead(rt, &*child.shared, &NoGate, entry)))
+    let mut leader = take_lead(rt, &*child.shared, &NoGate, entry);
+    Ok(f(&mut leader))
 }
 
 // The leader of a lock that nobody leads yet.

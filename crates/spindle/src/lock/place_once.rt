@@ -118,21 +118,10 @@ where
         |leader| -> Result<Vec<J::Item>, Fault>
             ensures updated { IfOk result (λ new. AllZip J.updated items.items new.items) }
             ensures memory { OnErr result (IsErrOf result Fault.Memory) }
-        { update_all(rt, alloc, leader, items) },
+        {
+            let (jobs, mut items) = (items.len(), items);
+            leader.update_each(rt, alloc, jobs, &mut items)?;
+            Ok(items)
+        },
     )?
-}
-
-// One round over a list, in as many jobs as the list has items or its lock slots.
-fn update_all<J: PlaysInPlace<P>, P, G: Gate, H: Threads + Wait + Sync>(
-    rt: &H,
-    alloc: Global,
-    leader: &mut SlotLeader<J, G, P>,
-    mut items: Vec<J::Item>,
-) -> Result<Vec<J::Item>, Fault>
-    ensures updated { IfOk result (λ new. AllZip J.updated items.items new.items) }
-    ensures memory { OnErr result (IsErrOf result Fault.Memory) }
-{
-    let jobs = items.len();
-    leader.update_each(rt, alloc, jobs, &mut items)?;
-    Ok(items)
 }

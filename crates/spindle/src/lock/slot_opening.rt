@@ -12,7 +12,6 @@ use crate::lock::slot_leader::SlotLeader;
 use spindle_parts::fault::Fault;
 use spindle_rounds::round::Round;
 use spindle_rounds::round_table::pieces::{PieceKind, PieceSlots};
-use spindle_rounds::round_table::slots::SlotContents;
 use spindle_slots::leader_states::leader_state::LeaderSeats;
 use spindle_slots::leader_states::opens_slots::MakesSlots;
 use spindle_threads::ThreadCounts;
@@ -29,7 +28,7 @@ use spindle_trays::lock::workspace::TakesPart;
 use std::alloc::Global;
 use std::sync::{Arc, Wait};
 use std::thread;
-use std::thread::{Scope, Threads};
+use std::thread::Threads;
 
 /// Opens a lock whose slots hold A's pieces, runs f with its leader, and closes the lock. A refusal hasn't run f.
 pub(crate) fn open<
@@ -61,23 +60,8 @@ where
     let (tables, seats) = make::<J, A>(alloc, counts, pool.idling(), slots)?;
     let tables = Arc::new(alloc, tables)?;
     let start = LeaderStart::new(alloc, &*tables, &workspace, pool, seats)?;
-    let leader_start = SlotLeaderStart {
-        start,
-        share: Arc::try_clone(&tables)?,
-        slots,
-    };
-    Ok(scoped::<J, A, L, G, R, F, P, H>(rt, alloc, leader_start, f))
-}
-
-/// What the leader of a lock with slots comes to, with its own share of the lock's tables, and the number of slots.
-#[derive(Drop)]
-struct SlotLeaderStart<'s, D: SlotContents, G: Gate, L> {
-    start: LeaderStart<'s, D, G, L>,
-    share: Arc<Tables<D>>,
-    slots: usize,
-    ghost same: { arc_value share ≡ start.tables.now },
-    ghost many: { HasSlots start.tables.now.round.init slots },
-    ghost few: { (1 ≤ slots) × (slots ≤ 4294967295) },
+    let share = Arc::try_clone(&tables)?;
+    Ok(scoped::<J, A, L, G, R, F, P, H>(rt, alloc, start, share, slots, f))
 }
 
 /// The tables of such a lock, and the leader's seats at them.
@@ -98,7 +82,7 @@ pub(crate) fn make<J: Job, A: PieceKind>(
     Ok(Tables::new(alloc, counts, idling, child_slots, round, seat)?)
 }
 
-// Opens the scope of the helpers' threads.
+// Starts the helpers, runs f with a leader that has a share of the tables, and dismisses and joins them.
 fn scoped<
     J: MakesSlots<P, PieceSlots<A>, L> + Send,
     A: PieceKind + Send,
@@ -108,47 +92,12 @@ fn scoped<
     F: FnOnce(&mut SlotLeader<J, G, P>) -> R,
     P: Drop,
     H: Threads + Wait + Sync,
->(rt: &H, alloc: Global, leader_start: SlotLeaderStart<'_, PieceSlots<A>, G, L>, f: F) -> R
-where
-    A::Piece: Send,
-    A::Answer: Send,
-    J::In: Send + Sync,
-    J::Out: Send,
-    J::Inner: Send,
-    <J::Inner as Nest>::ChildSlots: Send + Sync,
-    requires callable { TakesLeaders J.OpensSlots.slot_count leader_start.slots F.FnOnce f }
-    ensures { let of = leader_start.entry in
-        WasLed J.OpensSlots.slot_count of.start.tables.now.counts.most of.slots F.FnOnce f result }
-{
-    thread::scope(
-        thread::scope_env(),
-        rt,
-        |scope| -> R
-            requires callable { TakesLeaders J.OpensSlots.slot_count leader_start.slots F.FnOnce f }
-            requires sync { IsSync H.row }
-            ensures { let of = leader_start.entry in
-                WasLed J.OpensSlots.slot_count of.start.tables.now.counts.most of.slots F.FnOnce f result }
-        { lead::<_, J, A, L, G, R, F, P, H>(scope, rt, alloc, leader_start, f) },
-    )
-}
-
-// Starts the helpers, runs f, and dismisses and joins them.
-fn lead<
-    's,
-    E,
-    J: MakesSlots<P, PieceSlots<A>, L> + Send + 's,
-    A: PieceKind + Send + 's,
-    L: TakesPart<J, PieceSlots<A>> + Send + Sync,
-    G: Gate + Sync,
-    R,
-    F: FnOnce(&mut SlotLeader<J, G, P>) -> R,
-    P: Drop,
-    H: Threads + Wait + Sync + 's,
 >(
-    scope: &Scope<'s, E>,
-    rt: &'s H,
+    rt: &H,
     alloc: Global,
-    leader_start: SlotLeaderStart<'s, PieceSlots<A>, G, L>,
+    start: LeaderStart<'_, PieceSlots<A>, G, L>,
+    share: Arc<Tables<PieceSlots<A>>>,
+    slots: usize,
     f: F,
 ) -> R
 where
@@ -158,16 +107,31 @@ where
     J::Out: Send,
     J::Inner: Send,
     <J::Inner as Nest>::ChildSlots: Send + Sync,
-    requires callable { TakesLeaders J.OpensSlots.slot_count leader_start.slots F.FnOnce f }
-    ensures { let of = leader_start.entry in
-        WasLed J.OpensSlots.slot_count of.start.tables.now.counts.most of.slots F.FnOnce f result }
+    requires share { arc_value share ≡ start.tables.now }
+    requires slots { HasSlots (arc_value share).round.init slots × (1 ≤ slots) × (slots ≤ 4294967295) }
+    requires callable { TakesLeaders J.OpensSlots.slot_count slots F.FnOnce f }
+    ensures { let counts = start.entry.tables.now.counts in
+        WasLed J.OpensSlots.slot_count counts.most slots F.FnOnce f result }
 {
-    let (start, share, slots) = (leader_start.start, leader_start.share, leader_start.slots);
-    let (post, runner, helpers) = start.muster::<E, J, H>(scope, rt, alloc);
-    let mut leader_seats = Some(LeaderSeats::new(share, post, slots));
-    let mut leader = SlotLeader::new(runner, J::settle(&mut leader_seats));
-    let answer = f(&mut leader);
-    leader.dismiss(rt);
-    helpers.join(rt);
-    answer
+    thread::scope(
+        thread::scope_env(),
+        rt,
+        |scope| -> R
+            requires share { arc_value share ≡ start.tables.now }
+            requires slots { HasSlots (arc_value share).round.init slots
+                × (1 ≤ slots) × (slots ≤ 4294967295) }
+            requires callable { TakesLeaders J.OpensSlots.slot_count slots F.FnOnce f }
+            requires sync { IsSync H.row }
+            ensures { let counts = start.entry.tables.now.counts in
+                WasLed J.OpensSlots.slot_count counts.most slots F.FnOnce f result }
+        {
+            let (post, runner, helpers) = start.muster::<_, J, H>(scope, rt, alloc);
+            let mut leader_seats = Some(LeaderSeats::new(share, post, slots));
+            let mut leader = SlotLeader::new(runner, J::settle(&mut leader_seats));
+            let answer = f(&mut leader);
+            leader.dismiss(rt);
+            helpers.join(rt);
+            answer
+        },
+    )
 }

@@ -1,22 +1,10 @@
--- The strips are the list, and the passes went over them.
+-- An empty list has settled.
 use Rattle.std.proofs.Common.{◌≡◌, List, [], rules, ap, subst, sym, ◌∙◌}
 use Rattle.spindle_parts.specs.Pieces.{joined}
 use Rattle.spindle_parts.specs.Strips.{items_of}
 use Rattle.spindle.specs.Passes.{HavePassed}
 use Rattle.spindle.proofs.PassLists.{empty_list, none_passed}
 use Rattle.spindle.proofs.kernels.passes.passes_until.Goals as goal
-
-pub returns-clause-answer : goal.returns-clause-answer
-returns-clause-answer g c =
-    let f = g.K.Stencil.becomes c.args.kernel.now in let s = g.K.Stencil.settles c.args.kernel.now in
-    let V : Type 0 = g.row.K-Value.Denot in
-    let until = c.in_ok-until.until in
-    let start : List V = items_of c.in_ok-strips.strips.items in
-    let whole : start ≡ c.args.list.items = ap joined c.in_ok-strips.ensures.items ∙ c.in_ok-pieces.ensures.joined in
-    let values : c.append_strips.new.list.items ≡ items_of until.strips.items = search rules in
-    let passed = c.in_ok-until.ensures.played c.args.kernel c.in_ok-strips.ensures.kernel in
-    subst (λ l. HavePassed f s c.args.edge c.args.most c.args.list.items until.count until.settled l) (sym values)
-    (subst (λ l. HavePassed f s c.args.edge c.args.most l until.count until.settled (items_of until.strips.items)) whole passed)
 
 pub returns-then-is_empty-clause-answer : goal.returns-then-is_empty-clause-answer
 returns-then-is_empty-clause-answer g c =

@@ -1,6 +1,5 @@
 -- The closure was called with a leader of a lock of these threads, with so many slots.
 use Rattle.std.proofs.Common.{ap, sym, refl, ◌∙◌}
-use Rattle.std.proofs.lemmas.Result.{IfOk-weaker}
 use Rattle.spindle_threads.specs.declared.tables.ThreadCounts.{ThreadCounts}
 use Rattle.spindle_threads.specs.ThreadCounts.{lock_threads}
 use Rattle.spindle.proofs.lock.nested.open.Goals as goal
@@ -23,4 +22,15 @@ returns-in-Some-take-clause-promise g c =
 pub returns-clause-promise : goal.returns-clause-promise
 returns-clause-promise g c =
     let size = c.nested-counts.ensures.most ∙ ap (λ pool. lock_threads pool c.args.max_threads) c.site_of-site.ensures.pool in
-    IfOk-weaker c.lead_alone.result _ _ (λ r p. (p.0, p.1, (p.2.0 ∙ size, p.2.1), p.3)) c.lead_alone.ensures.promise
+    let made = c.in_ok-child-2.ensures in let leads = c.take_lead-leader-2.ensures in (
+      c.take_lead-leader-2.result,
+      _,
+      (
+        leads.0
+            ∙ (ap (λ n. n.tables.value.counts.most) c.deref-3.ensures
+            ∙ (sym (ap (λ t. t.counts.most) made.share)
+            ∙ (ap (λ (k : ThreadCounts). k.most) made.counts ∙ (c.alone.ensures.most ∙ size)))),
+        leads.1 ∙ made.slots,
+      ),
+      record { shown = _; shows = refl; left = _; met = c.f.ensures; leaves = refl },
+    )

@@ -3,7 +3,7 @@ use Rattle.std.proofs.Common.{◌≡◌, List, rules, ap, subst, sym, ◌∙◌}
 use Rattle.spindle_parts.specs.Pieces.{joined}
 use Rattle.spindle_parts.specs.Strips.{items_of}
 use Rattle.spindle.specs.Passes.{HavePassed}
-use Rattle.spindle.proofs.kernels.leaders.PlaceLeader+Passing+Shared+K+G.passes_until.Goals as goal
+use Rattle.spindle.proofs.kernels.leaders.PlaceLeader+Passing+K+G.passes_until.Goals as goal
 
 pub returns-clause-answer : goal.returns-clause-answer
 returns-clause-answer g c =
