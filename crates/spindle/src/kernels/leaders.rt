@@ -140,9 +140,10 @@ where
         ensures slots { lock_slots self.new ≡ lock_slots self.old }
     {
         let jobs = self.max_num_threads().saturating_mul(PIECES);
-        let mut outputs = Vec::with_capacity(alloc, source.count())?;
-        let mut tasks = map_tasks(alloc, kernel, parts_of(alloc, source, jobs)?)?;
+        let parts = parts_of(alloc, source, jobs)?;
+        let mut tasks = map_tasks(alloc, kernel, parts, source.count())?;
         self.update_each(rt, alloc, jobs, &mut tasks)?;
+        let mut outputs = Vec::new(alloc);
         append_outputs(tasks, &mut outputs)?;
         Ok(outputs)
     }
@@ -173,10 +174,9 @@ where
         ensures slots { lock_slots self.new ≡ lock_slots self.old }
     {
         let jobs = self.max_num_threads().saturating_mul(PIECES);
-        let values = Vec::with_capacity(alloc, run.len())?;
-        let mut tasks = trials_of(alloc, kernel, parts_of(alloc, run, jobs)?)?;
+        let mut tasks = trials_of(alloc, kernel, parts_of(alloc, run, jobs)?, run.len())?;
         self.update_each(rt, alloc, jobs, &mut tasks)?;
-        let tried = gathered_trials(kernel, tasks, values)?;
+        let tried = gathered_trials(kernel, tasks, Vec::new(alloc))?;
         Ok(tried)
     }
 }

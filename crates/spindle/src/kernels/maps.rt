@@ -7,7 +7,7 @@ ghost use Rattle.spindle.specs.Kernels.{IsOfKernel};
 use crate::kernels::Kernel;
 use crate::kernels::held::Again;
 use crate::kernels::source::{Source, parts_of};
-use crate::kernels::tasks::{PIECES, Task};
+use crate::kernels::tasks::{PIECES, Task, append_list};
 use crate::lock::update_one;
 use spindle_parts::fault::Fault;
 use spindle_parts::lists::SharedList;
@@ -30,11 +30,11 @@ pub struct Run<S: Source, U> {
 }
 
 impl<S: Source, U: Drop> Run<S, U> {
-    // The piece, with room for what is computed of it.
-    fn new(alloc: Global, source: S) -> Result<Run<S, U>, AllocError>
+    // The piece, with room for what is computed of it, and for so many outputs at least.
+    fn new(alloc: Global, source: S, room: usize) -> Result<Run<S, U>, AllocError>
         ensures { IfOk result (λ run. run.source ≡ source) }
     {
-        let outputs = Vec::with_capacity(alloc, source.count())?;
+        let outputs = Vec::with_capacity(alloc, source.count().max(room))?;
         Ok(Run { source, outputs })
     }
 
@@ -118,18 +118,21 @@ where
     ensures memory { OnErr result (IsErrOf result Fault.Memory) }
 {
     let jobs = pool.max_num_threads().saturating_mul(PIECES);
-    let mut outputs = Vec::with_capacity(alloc, source.count())?;
-    let tasks = map_tasks(alloc, &kernel, parts_of(alloc, source, jobs)?)?;
+    let parts = parts_of(alloc, source, jobs)?;
+    let tasks = map_tasks(alloc, &kernel, parts, source.count())?;
     let tasks = update_one::<InPlace<Mapping<&'k K, S>>, G, H>(rt, alloc, pool, jobs, tasks)?;
+    let mut outputs = Vec::new(alloc);
     append_outputs(tasks, &mut outputs)?;
     Ok(outputs)
 }
 
-// The parts, each with the kernel and with room for what is computed of it.
+// The parts, each with the kernel and with room for what is computed of it. The first has room for
+// `all` outputs, so that its list can take those of the others.
 pub(crate) fn map_tasks<K: Again, S: Source, U: Drop>(
     alloc: Global,
     kernel: &K,
     parts: Vec<S>,
+    all: usize,
 ) -> Result<Vec<Task<K, Run<S, U>>>, AllocError>
     ensures parts { IfOk result (λ tasks.
         map (λ task. task.part.source) tasks.items ≡ parts.items) }
@@ -138,7 +141,8 @@ pub(crate) fn map_tasks<K: Again, S: Source, U: Drop>(
     let mut tasks = Vec::with_capacity(alloc, parts.len())?;
     for part in parts {
         let kernel = kernel.again()?;
-        let part = Run::new(alloc, part)?;
+        let room = if tasks.is_empty() { all } else { 0 };
+        let part = Run::new(alloc, part, room)?;
         tasks.push_reserved(Task { kernel, part });
     }
     Ok(tasks)
@@ -154,8 +158,8 @@ pub(crate) fn append_outputs<K: Drop, S: Source, U: Drop>(
 {
     for task in tasks {
         let Task { part, .. } = task;
-        let Run { mut outputs, .. } = part;
-        all.append(&mut outputs)?;
+        let Run { outputs, .. } = part;
+        append_list(outputs, all)?;
     }
     Ok(())
 }
