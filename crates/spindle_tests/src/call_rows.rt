@@ -1,13 +1,16 @@
 //! Rows of calls that spare a caller his own. No clause says how many jobs one call has, on how many threads, and that the memory of
 //! a list which the caller keeps serves again.
 ghost use Rattle.std.specs.Prelude.{◌≡◌, ◌<◌};
+ghost use Rattle.std.proofs.Common.{rules};
 ghost use denote.Param.Send.{IsSync};
 
 use crate::callers;
 use crate::checks::{are, holds, is};
 use crate::jobs::{Calls, Counting, Place, Square};
-use spindle::lock::{Limits, NoGate, Pool, RunsRounds};
+use spindle::lock::{Job, JobCx, Limits, NoGate, Pool, RunsRounds, Under};
 use spindle::{Fault, run_one, with_lock};
+use spindle_trays_tests::jobs::each_ran;
+use spindle_trays_tests::staying::{MOST_ROUNDS, STAY, Staying};
 use std::alloc::Global;
 use std::process::Abort;
 use std::sync::Wait;
@@ -36,6 +39,53 @@ fn one_call_has_no_more_threads_than_jobs(rt: HostRuntime) -> Result<(), Fault> 
         is(&rt, places.len(), 10);
         holds(&rt, places.iter().all(|place| place.2 == threads));
     }
+    Ok(())
+}
+
+// Plays rounds of so many jobs until each runs in a thread of its own: whether one had as many.
+struct Playing;
+
+impl Job for Playing {
+    type In = usize;
+
+    type Out = bool;
+
+    type Inner = Under<Staying>;
+
+    ghost meets = { λ _ _. Unit {0} };
+
+    fn run<H: Threads + Wait + Sync>(
+        rt: &H,
+        alloc: Global,
+        jobs: &usize,
+        cx: &mut JobCx<Under<Staying>>,
+    ) -> bool {
+        for _ in 0..MOST_ROUNDS {
+            let Ok(stays) = Vec::from_elem(alloc, STAY, *jobs) else {
+                return false;
+            };
+            match cx.for_each(rt, alloc, (*jobs).max(1), stays) {
+                Ok(places) if each_ran(&places, *jobs, 1) => return true,
+                Ok(_) => {}
+                Err(_) => return false,
+            }
+        }
+        false
+    }
+
+    ghost equal_is_same = { Prim.search rules };
+}
+
+#[test]
+fn helpers_run_rounds_in_the_only_job_of_a_call(rt: HostRuntime) -> Result<(), Fault> {
+    let alloc = rt.alloc();
+    let pool = Pool::new(3, Limits::new(), NoGate);
+    let jobs = vec![in alloc; 3]?;
+    are(
+        &rt,
+        &run_one::<Playing>(&rt, alloc, &pool, 1, jobs)?,
+        &[true],
+    );
     Ok(())
 }
 

@@ -1,5 +1,5 @@
 //! One round in a lock of its own: for callers who run one list, and no other in the same lock.
-ghost use Rattle.std.specs.Prelude.{◌≡◌, ◌<◌, IfOk, IfErr, vec_len};
+ghost use Rattle.std.specs.Prelude.{◌≡◌, ◌<◌, ◌≤◌, IfOk, IfErr, vec_len};
 ghost use Rattle.std.specs.List.{AllZip};
 ghost use Rattle.spindle_trays.specs.Leaders.{hands_of};
 ghost use Rattle.spindle_threads.specs.ThreadCounts.{lock_threads};
@@ -20,8 +20,9 @@ use std::thread::Threads;
 /// Opens a lock over jobs of kind J, runs the items in one round of `n_jobs` jobs, and closes the lock. Where `n_jobs` is 0,
 /// there are as many jobs as the pool has threads. Outputs stand in the order of the items, as those of a leader's `for_each`.
 ///
-/// The lock has the least of the pool's threads, the jobs and 32767. Its helpers start and end with the call, so rounds that
-/// follow each other belong into one lock. No items are no job: that takes no memory and opens no lock.
+/// The lock has the least of the pool's threads, the jobs and 32767; where jobs open locks, to which
+/// helpers go, the jobs don't count. Its helpers start and end with the call, so rounds that follow
+/// each other belong into one lock. No items are no job: that takes no memory and opens no lock.
 pub fn run_one<J: Job + Send>(
     rt: &(impl Threads + Wait + Sync),
     alloc: Global,
@@ -49,7 +50,7 @@ where
         rt,
         alloc,
         pool,
-        jobs,
+        wished_threads::<J>(threads, jobs),
         |leader|
             requires { 0 < jobs }
             ensures answer { IfOk result (λ outputs. AllZip J.meets items.items outputs.items) }
@@ -57,4 +58,16 @@ where
                 (IsRefusal (hands_of leader.old) (job_count (vec_len items) jobs)) }
         { leader.for_each(rt, alloc, jobs, items) },
     )?
+}
+
+/// The threads to ask for where a lock has one round of so many jobs: one a job, or all of the pool
+/// where the jobs open locks, to which idle threads go.
+pub(crate) fn wished_threads<J: Job>(pool: usize, jobs: usize) -> usize
+    ensures { jobs ≤ result }
+{
+    if J::Inner::slot_count(pool) == 0 {
+        jobs
+    } else {
+        pool.max(jobs)
+    }
 }

@@ -5,6 +5,7 @@ ghost use Rattle.std.specs.List.{AllZip};
 ghost use denote.Param.Send.{IsSync};
 ghost use Rattle.spindle.specs.SlotLeaders.{IsForMemory};
 
+use crate::lock::one_round::wished_threads;
 use crate::lock::slot_leader::SlotLeader;
 use crate::lock::slot_root::with_slots_in_place;
 use spindle_parts::fault::Fault;
@@ -83,9 +84,9 @@ where
 /// Opens a lock over J, which is `InPlace<M>` for a kind M of updating, updates the items in one round of `n_jobs` jobs, and closes the
 /// lock. Where `n_jobs` is 0, there are as many jobs as the pool has threads. What becomes of an item stands where the item stood.
 ///
-/// The lock has the least of the pool's threads, the jobs and 32767. Its helpers start and end with the call, so rounds that follow
-/// each other belong into one lock. No items are no job: that takes no memory and opens no lock. A refusal, for memory alone, gives
-/// the items up.
+/// The lock has as many threads as that of `run_one`. Its helpers start and end with the call, so
+/// rounds that follow each other belong into one lock. No items are no job: that takes no memory and
+/// opens no lock. A refusal, for memory alone, gives the items up.
 pub fn update_one<J: Updates + Send, G: Gate + Sync, H: Threads + Wait + Sync>(
     rt: &H,
     alloc: Global,
@@ -112,7 +113,7 @@ where
         rt,
         alloc,
         pool,
-        jobs,
+        wished_threads::<J>(threads, jobs),
         jobs,
         |leader| -> Result<Vec<J::Item>, Fault>
             ensures updated { IfOk result (λ new. AllZip J.updated items.items new.items) }

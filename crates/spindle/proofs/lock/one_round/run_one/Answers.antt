@@ -11,4 +11,6 @@ with_lock-requires-clause-some g c κs within =
       | then-n_jobs-eq0 w ↦ subst (λ (n : ℕ). 0 < n) (sym w.asked-is) c.max_num_threads-threads.ensures.some
       | else-n_jobs-eq0 w ↦ subst (λ (n : ℕ). 0 < n) (sym w.asked-is) (pos_of_ne-zero w.if-n_jobs-eq0.false)
     ] in
-    (some_jobs _ _ _ _ _ _ c.if-is_empty.ensures (λ more. asked) (omega arith) c.len.ensures c.min.ensures c.min-jobs.ensures).0
+    let some : 0 < c.min-jobs.result =
+    (some_jobs _ _ _ _ _ _ c.if-is_empty.ensures (λ more. asked) (omega arith) c.len.ensures c.min.ensures c.min-jobs.ensures).0 in
+    omega (arith, c.wished_threads.ensures)
