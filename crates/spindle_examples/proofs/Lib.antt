@@ -7,3 +7,4 @@ mod Passes
 mod Evaluations
 mod Reports
 mod Counts
+mod SumLists

@@ -2,7 +2,6 @@
 pub mod Wrapping
 pub mod Prefix
 pub mod Product
-pub mod Blocks
 pub mod Batch
 pub mod Checked
 pub mod Stencil
@@ -10,3 +9,4 @@ pub mod Chomp
 pub mod Ranks
 pub mod Solver
 pub mod Decimals
+pub mod Runs

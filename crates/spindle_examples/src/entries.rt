@@ -1,18 +1,15 @@
 //! The entries of a matrix product, as plain code: of a row and a column, of a row, and of several rows. The columns stand one behind
 //! the other, each as long as a row.
-ghost use Rattle.std.specs.Prelude.{◌≡◌, ◌++◌, IfOk, OnOk};
+ghost use Rattle.std.specs.Prelude.{◌≡◌, ◌++◌, IfOk, OnOk, map};
 ghost use Rattle.spindle_examples.specs.Product.{dot, row_of, product};
 ghost use Rattle.spindle_examples.specs.Wrapping.{wrapped};
 
-use spindle::prelude::*;
+use std::alloc::{AllocError, Global};
 
 /// The entries of these rows, row by row.
-pub fn filled(
-    alloc: Global,
-    rows: &[SharedList<u64>],
-    columns: &[u64],
-) -> Result<Vec<u64>, AllocError>
-    ensures { IfOk result (λ entries. entries.items ≡ product rows.now columns.now) }
+pub fn filled(alloc: Global, rows: &[Vec<u64>], columns: &[u64]) -> Result<Vec<u64>, AllocError>
+    ensures { IfOk result (λ entries.
+        entries.items ≡ product (map (λ row. row.items) rows.now) columns.now) }
 {
     let mut entries = Vec::new(alloc);
     for row in rows {

@@ -1,41 +1,61 @@
-//! A matrix product in blocks, by one round in place over them, whose jobs run rounds of their own over the tiles of their block. The
-//! rows and the columns are shared lists, so nobody copies them.
-ghost use Rattle.std.specs.Prelude.{◌≡◌, ◌<◌, IfOk, map};
+//! A matrix product by divide and conquer: rows are halved until there are some parts a thread, and
+//! the entries of halves are joined. Rows are shared and columns are borrowed, so nobody copies them.
+ghost use Rattle.std.specs.Prelude.{◌≡◌, ◌++◌, IfOk, map};
 ghost use Rattle.spindle_examples.specs.Product.{product};
 
-use crate::block::{Multiply, blocks_of, entries_of};
+use crate::entries::filled;
 use spindle::prelude::*;
 
-/// The product of a matrix that is given by its rows and one whose columns stand one behind the other, each as long as a row:
-/// row by row, in 64 bits, by one round over so many blocks.
+/// Multiplies rows by columns, which stand one behind the other, each as long as a row.
+#[derive(Drop)]
+pub struct Multiply<'a> {
+    alloc: Global,
+    columns: &'a [u64],
+}
+
+impl<'a> Division for Multiply<'a> {
+    type Problem = ListRun<Vec<u64>>;
+
+    type Answer = Result<Vec<u64>, AllocError>;
+
+    ghost solves = { λ kernel rows answer. IfOk answer (λ entries.
+        entries.items ≡ product (map (λ row. row.items) rows) kernel.columns.now) };
+
+    ghost splits = { λ kernel rows first second. rows ≡ first ++ second };
+
+    fn split(&self, rows: ListRun<Vec<u64>>) -> Split<ListRun<Vec<u64>>> {
+        Split::halves(rows, 2)
+    }
+
+    fn solve(&self, rows: ListRun<Vec<u64>>) -> Result<Vec<u64>, AllocError> {
+        filled(self.alloc, rows.as_slice(), self.columns)
+    }
+
+    fn join(
+        &self,
+        first: Result<Vec<u64>, AllocError>,
+        second: Result<Vec<u64>, AllocError>,
+    ) -> Result<Vec<u64>, AllocError> {
+        let mut entries = first?;
+        let mut others = second?;
+        entries.append(&mut others)?;
+        Ok(entries)
+    }
+}
+
+/// The product of a matrix that is given by its rows and one whose columns stand one behind the
+/// other, each as long as a row: row by row, in 64 bits.
 pub fn multiplied<G: Gate + Sync, H: Threads + Wait + Sync>(
     rt: &H,
     alloc: Global,
     pool: &Pool<G>,
-    blocks: usize,
     rows: Vec<Vec<u64>>,
-    columns: Vec<u64>,
+    columns: &[u64],
 ) -> Result<Vec<u64>, Fault>
-    requires { 0 < blocks }
     ensures { IfOk result (λ entries.
-        entries.items ≡ product (map (λ row. row.items) rows.items) columns.items) }
+        entries.items ≡ product (map (λ row. row.items) rows.items) columns.now) }
 {
-    let columns = SharedList::from_vec(alloc, columns)?;
-    let rows = SharedList::from_vec(alloc, shared(alloc, rows)?)?;
-    let runs = rows.share_out_evenly(alloc, blocks)?;
-    let unfilled = blocks_of(alloc, runs, &columns)?;
-    let filled = update_one::<InPlace<Multiply>, _, _>(rt, alloc, pool, blocks, unfilled)?;
-    let lists = entries_of(alloc, filled)?;
-    Ok(gathered(alloc, lists)??)
-}
-
-// The rows as shared lists.
-fn shared(alloc: Global, rows: Vec<Vec<u64>>) -> Result<Vec<SharedList<u64>>, Fault>
-    ensures { IfOk result (λ lists. lists.items ≡ map (λ row. row.items) rows.items) }
-{
-    let mut lists = Vec::new(alloc);
-    for row in rows {
-        lists.push(SharedList::from_vec(alloc, row)?)?;
-    }
-    Ok(lists)
+    let len = rows.len();
+    let rows = SharedList::from_vec(alloc, rows)?.run(0, len)?;
+    Ok(divide(rt, alloc, pool, &Multiply { alloc, columns }, rows)??)
 }

@@ -1,9 +1,9 @@
-//! Calls over whole lists: decimals, and a solver, against the same computed plainly.
+//! Calls over whole lists: decimals, a solver, and sums of runs, against the same computed plainly.
 
 use crate::tests::next;
-use spindle::Fault;
 use spindle::lock::{Limits, NoGate, Pool};
-use spindle_examples::{decimals, solver};
+use spindle::{Fault, SharedList};
+use spindle_examples::{decimals, runs, solver};
 use std::alloc::Global;
 
 #[test]
@@ -70,5 +70,38 @@ fn a_solver_ends_where_nothing_changes(rt: HostRuntime) -> Result<(), Fault> {
             }
         }
     }
+    Ok(())
+}
+
+// The greatest sum of a run of the values, 0 for an empty one.
+fn plain_greatest(values: &[i64]) -> i64 {
+    let (mut here, mut greatest) = (0i64, 0i64);
+    for value in values {
+        here = here.wrapping_add(*value).max(0);
+        greatest = greatest.max(here);
+    }
+    greatest
+}
+
+#[test]
+fn the_greatest_sum_of_a_run_is_that_of_one_loop(rt: HostRuntime) -> Result<(), Fault> {
+    let alloc = rt.alloc();
+    let mut state = 23;
+    for count in [0, 1, 2, 999, 5000] {
+        let mut values = Vec::new(alloc);
+        for _ in 0..count {
+            values.push(i64::from(next(&mut state)) - 2147483648)?;
+        }
+        let plain = plain_greatest(values.as_slice());
+        let values = SharedList::from_vec(alloc, values)?;
+        for threads in [1, 2, 4] {
+            let pool = Pool::new(threads, Limits::new(), NoGate);
+            let sum = runs::greatest_sum(&rt, alloc, &pool, &values)?;
+            assert_eq!(rt; sum, Some(plain), "{count} values, {threads} threads");
+        }
+    }
+    let values = SharedList::from_vec(alloc, vec![in alloc; 1i64, i64::MAX]?)?;
+    let pool = Pool::new(2, Limits::new(), NoGate);
+    assert_eq!(rt; runs::greatest_sum(&rt, alloc, &pool, &values)?, None);
     Ok(())
 }

@@ -33,7 +33,7 @@ fn main(rt: HostRuntime) -> Result<(), Stop> {
     println!(rt; "prefix {sums:?}")?;
     let rows = vec![in alloc; vec![in alloc; 1u64, 2, 3]?, vec![in alloc; 4u64, 5, 6]?]?;
     let columns = vec![in alloc; 1u64, 0, 1, 0, 2, 2]?;
-    let entries = product::multiplied(&rt, alloc, &pool, 2, rows, columns)?;
+    let entries = product::multiplied(&rt, alloc, &pool, rows, columns.as_slice())?;
     println!(rt; "product {entries:?}")?;
     let heat = vec![in alloc; 0u32, 0, 0, 0, 4096, 0, 0, 0, 0]?;
     let smooth = stencil::smoothed(&rt, alloc, &pool, 4, heat, 8)?;
