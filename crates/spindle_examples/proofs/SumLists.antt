@@ -19,3 +19,10 @@ pub sums_joined : (xs ys : List ℤ) (first second sums : ℤ × ℤ × ℤ × �
 sums_joined xs ys first second sums f s j =
     let k = subst (λ t. AreJoined (sums_of xs) t sums) s (subst (λ t. AreJoined t second sums) f j) in
     let h = sums_append xs ys in λ i. ((k.0 ∙ sym h.0) i, (k.1 ∙ sym h.1) i, (k.2 ∙ sym h.2) i, (k.3 ∙ sym h.3) i)
+
+-- the sums of one value
+pub sums_of_one : (x most : ℤ) → most ≡ int_max x (pos 0) → (x, most, most, most) ≡ sums_of (x ∷ [])
+sums_of_one x most m =
+    let all : x ≡ x +ℤ pos 0 = omega (arith, ints) in
+    let ahead : most ≡ int_max (pos 0) (x +ℤ pos 0) = omega (arith, ints, clamps) in
+    let behind : most ≡ int_max (x +ℤ pos 0) (pos 0) = omega (arith, ints, clamps) in λ i. (all i, ahead i, behind i, behind i)

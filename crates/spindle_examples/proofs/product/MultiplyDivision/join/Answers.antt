@@ -9,8 +9,8 @@ pub returns : goal.returns
 returns c = λ rows xs ys whole f s.
     let items : Vec ℕ Global → List ℕ = λ row. row.items in
     let columns : List ℕ = c.args.self.now.columns.now in
-    let first : c.in_ok-first.field-0.items ≡ product (map items xs) columns = search rules in
-    let second : c.in_ok-second.field-0.items ≡ product (map items ys) columns = search rules in
-    let both : c.append.new.self.items ≡ c.in_ok-first.field-0.items ++ c.in_ok-second.field-0.items = search rules in
+    let first : c.in_ok-entries.entries.items ≡ product (map items xs) columns = search rules in
+    let second : c.in_ok-others.others.items ≡ product (map items ys) columns = search rules in
+    let both : c.append.new.self.items ≡ c.in_ok-entries.entries.items ++ c.in_ok-others.others.items = search rules in
     both ∙ (λ i. first i ++ second i) ∙ sym (product_append (map items xs) (map items ys) columns)
     ∙ ap (λ l. product l columns) (sym (map-append items xs ys)) ∙ ap (λ l. product (map items l) columns) (sym whole)
