@@ -41,7 +41,7 @@ add-to() {
   if [ -s "$to/crates.txt" ] && [ -n "$(tail -c 1 "$to/crates.txt")" ]; then echo >>"$to/crates.txt"; fi
   for crate in $(chain spindle | awk '!seen[$0]++'); do
     mkdir "$to/crates/$crate"
-    tar -c -C "crates/$crate" --exclude=must-fail --exclude=out . | tar -x -C "$to/crates/$crate"
+    tar -c -C "crates/$crate" --exclude=faults --exclude=out . | tar -x -C "$to/crates/$crate"
     grep -E "^$crate[ :]" crates.txt >>"$to/crates.txt"
   done
   cp LICENSE "$to/crates/spindle/"
@@ -86,8 +86,12 @@ soak() {
   (cd crates/spindle_bench && rt try --seconds $((600 + 2 * seconds)) -- soak "$seconds")
 }
 
-#: edits CRATE          try a crate's must-fail edits, which the prover must refuse, one after another
-edits() { rt must-fail "${1:?which crate}"; }
+#: edits CRATE..        try the crates' must-fail edits: the prover must refuse each in the function that it changes
+edits() {
+  local crate
+  for crate in "${@:?which crate}"; do (cd "crates/$crate" && rt lib); done
+  .ci/edits "$@"
+}
 
 #: bench [check]        time the rounds of locks and of the kit's rayon, as THREADS, SHAPE and POOL say, or only check their results
 bench() {
