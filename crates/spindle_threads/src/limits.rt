@@ -7,7 +7,7 @@ use crate::{DEFAULT_PAUSE_LIMIT, DEFAULT_SPIN_LIMIT};
 /// and `PAUSE_LIMIT`.
 #[derive(Clone, Copy)]
 pub struct Limits {
-    /// So many pauses in all, then it sleeps; 0 to sleep at once. Where other processes use the same cores, 512 serves
+    /// So many pauses in all, then it sleeps; 0 to sleep at once. Where a lock has more threads than processors, 512 serves
     /// better than the default.
     pub spin: u32,
     /// So many pauses a turn, between two looks; for the number of turns 0 counts as 1.
@@ -15,7 +15,7 @@ pub struct Limits {
 }
 
 impl Limits {
-    /// The two defaults, for a machine whose cores are the program's own.
+    /// The two defaults, for locks with no more threads than processors.
     pub fn new() -> Limits
         ensures spin { result.spin ≡ 65536 }
         ensures pause { result.pause ≡ 8 }

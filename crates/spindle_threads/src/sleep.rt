@@ -6,12 +6,12 @@
 ghost use Rattle.std.specs.Prelude.{◌≡◌, ◌+◌, ◌<◌, ◌≤◌, max, min, false, true, IsNone, IsSome};
 
 use crate::limits::Idling;
-use crossbeam_utils::{Backoff, CachePadded};
+use crossbeam_utils::CachePadded;
 use std::hint::spin_loop;
 use std::sync::{Condvar, Mutex, MutexGuard, Wait};
 use std::thread;
 
-/// So many turns of a wait don't yield the processor; each one after them does.
+/// So many turns pass before a wait yields the processor for the first time, and as many as before until it does so again.
 const QUIET_TURNS: u32 = 64;
 
 /// Where the idle threads of a lock sleep.
@@ -24,25 +24,25 @@ pub struct Sleep {
 }
 
 // How many sleep, behind the mutex of those who are about to. Whoever wakes them writes here, so it shares no cache line with what
-// waiting threads read, nor with the other bed.
+// waiting threads read, nor with the other sleepers.
 #[derive(Drop)]
 struct Sleepers {
-    sleepers: Mutex<usize>,
+    asleep: Mutex<usize>,
     changed: Condvar,
 }
 
 impl Sleepers {
     fn new() -> Sleepers {
         Sleepers {
-            sleepers: Mutex::new(0),
+            asleep: Mutex::new(0),
             changed: Condvar::new(),
         }
     }
 
     // Wakes all who sleep here.
     fn wake<H: Wait>(&self, rt: &H) {
-        let sleepers = *self.sleepers.lock(rt);
-        if sleepers > 0 {
+        let asleep = *self.asleep.lock(rt);
+        if asleep > 0 {
             self.changed.notify_all();
         }
     }
@@ -114,18 +114,17 @@ impl Sleep {
         self.idle(&self.end)
     }
 
-    fn idle<'a>(&self, bed: &'a Sleepers) -> Idle<'a>
+    fn idle<'a>(&self, sleepers: &'a Sleepers) -> Idle<'a>
         ensures { (result.patience ≡ self.now.idling.patience) × (result.waited ≡ 0) }
     {
         let Idling { limits, patience } = self.idling;
         Idle {
-            bed,
+            sleepers,
             pauses: limits.pause,
             turns: limits.spin / limits.pause.max(1),
             patience,
             turn: 0,
             waited: 0,
-            backoff: Backoff::new(),
             guard: None,
         }
     }
@@ -134,13 +133,12 @@ impl Sleep {
 /// The pauses of one thread, from its first look on.
 #[derive(Drop)]
 pub struct Idle<'a> {
-    bed: &'a Sleepers,
+    sleepers: &'a Sleepers,
     pauses: u32,
     turns: u32,
     patience: u32,
     turn: u32,
     waited: u32,
-    backoff: Backoff,
     guard: Option<MutexGuard<'a, usize>>,
 }
 
@@ -160,10 +158,10 @@ impl<'a> Idle<'a> {
         ensures { self.new.patience ≡ self.old.patience }
     {
         match self.guard.take() {
-            Some(guard) => self.guard = Some(self.bed.sleep(rt, guard)),
+            Some(guard) => self.guard = Some(self.sleepers.sleep(rt, guard)),
             None => {
                 if rest || self.turn >= self.turns {
-                    self.guard = Some(self.bed.sleepers.lock(rt));
+                    self.guard = Some(self.sleepers.asleep.lock(rt));
                 } else {
                     self.take_turn();
                 }
@@ -196,8 +194,8 @@ impl<'a> Idle<'a> {
         for _ in 0..self.pauses {
             spin_loop();
         }
-        if self.turn > QUIET_TURNS {
-            self.backoff.snooze();
+        if self.turn >= QUIET_TURNS && self.turn.is_power_of_two() {
+            thread::yield_now();
         }
     }
 }
