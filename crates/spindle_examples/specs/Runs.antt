@@ -9,6 +9,10 @@ sums_of (x ∷ xs) =
     let rest = sums_of xs in
     (x +ℤ rest.0, int_max (pos 0) (x +ℤ rest.1), int_max (x +ℤ rest.0) rest.2, int_max (x +ℤ rest.1) rest.3)
 
+-- these are the sums of the values
+abbrev pub AreSums : List ℤ → ℤ × ℤ × ℤ × ℤ → Type 0
+AreSums xs sums = let all = sums_of xs in (sums.0 ≡ all.0) × (sums.1 ≡ all.1) × (sums.2 ≡ all.2) × (sums.3 ≡ all.3)
+
 -- these are the sums of two lists, one behind the other, by theirs
 abbrev pub AreJoined : (first second sums : ℤ × ℤ × ℤ × ℤ) → Type 0
 AreJoined first second sums = (sums.0 ≡ first.0 +ℤ second.0) × (sums.1 ≡ int_max first.1 (first.0 +ℤ second.1))

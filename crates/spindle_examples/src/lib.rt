@@ -3,8 +3,7 @@
 //! run by divide and conquer, a stencil of many passes, in place too, a solver that runs until nothing changes, keys looked up in a
 //! table that all jobs are lent, and a game evaluated by rounds in rounds.
 //!
-//! Beside them `trace` records who ran which job of a round when. The program that runs each once, and the tests that compute the
-//! same plainly, are the crate above.
+//! Beside them `trace` records who ran which job of a round when. The program that runs each once is the crate above.
 #![tactic(auto)]
 
 pub mod batch;

@@ -1,23 +1,17 @@
 //! The program of the examples: it runs each once over fixed numbers, and prints what comes out. Where the variable TRACE is set, it
 //! also prints who ran which job of recorded rounds when, which differs from run to run.
 //!
-//! The tests beside it compute the same plainly.
+//! The file `stdout` has what it must print. What comes out is proved; that no call is refused memory, nor answers none, is shown here.
 #![tactic(auto)]
 
-#[cfg(test)]
-mod batch_tests;
-#[cfg(test)]
-mod list_tests;
-#[cfg(test)]
-mod tests;
-
+use spindle::SharedList;
 use spindle::lock::{NoGate, Pool};
 use spindle_examples::batch::{self, Order};
 use spindle_examples::checked::{self, Checked};
 use spindle_examples::chomp::Board;
 use spindle_examples::evaluator::{self, Evaluate, Recurse};
 use spindle_examples::stop::Stop;
-use spindle_examples::{prefix, product, ranks, stencil, trace};
+use spindle_examples::{decimals, prefix, product, ranks, runs, solver, stencil, trace, vectors};
 use std::alloc::Global;
 use std::env;
 use std::io::Print;
@@ -28,20 +22,10 @@ fn main(rt: HostRuntime) -> Result<(), Stop> {
     let alloc = rt.alloc();
     let pool = Pool::of_machine(&rt);
     batches(&rt, alloc, &pool)?;
-    let table = vec![in alloc; 3u64, 1, 4, 1, 5, 9, 2, 6]?;
-    let sums = prefix::summed(&rt, alloc, &pool, 3, table)?;
-    println!(rt; "prefix {sums:?}")?;
-    let rows = vec![in alloc; vec![in alloc; 1u64, 2, 3]?, vec![in alloc; 4u64, 5, 6]?]?;
-    let columns = vec![in alloc; 1u64, 0, 1, 0, 2, 2]?;
-    let entries = product::multiplied(&rt, alloc, &pool, rows, columns.as_slice())?;
-    println!(rt; "product {entries:?}")?;
-    let heat = vec![in alloc; 0u32, 0, 0, 0, 4096, 0, 0, 0, 0]?;
-    let smooth = stencil::smoothed(&rt, alloc, &pool, 4, heat, 8)?;
-    println!(rt; "stencil {smooth:?}")?;
-    let limits = vec![in alloc; 50u32, 20, 90, 20]?;
-    let keys = vec![in alloc; 21u32, 20, 90, 100]?;
-    let ranks = ranks::ranks(&rt, alloc, &pool, limits, keys)?;
-    println!(rt; "ranks {ranks:?}")?;
+    lists(&rt, alloc, &pool)?;
+    greatest(&rt)?;
+    sums(&rt, alloc, &pool)?;
+    passes(&rt, alloc, &pool)?;
     game(&rt, alloc, &pool)?;
     if env::var(&rt, "TRACE").is_ok() {
         trace::print(&rt, alloc)?;
@@ -71,6 +55,68 @@ fn batches<H: Threads + Wait + Sync + Print>(
             Checked::Stopped(piece, _) => println!(rt; "checked, and stopped at {piece}")?,
         }
     }
+    Ok(())
+}
+
+// Calls over whole lists.
+fn lists<H: Threads + Wait + Sync + Print>(
+    rt: &H,
+    alloc: Global,
+    pool: &Pool<NoGate>,
+) -> Result<(), Stop> {
+    let texts = vec![in alloc; format!(in alloc; "12")?, format!(in alloc; "7x")?]?;
+    match decimals::numbers(rt, alloc, pool, texts)? {
+        Ok(numbers) => println!(rt; "decimals {numbers:?}")?,
+        Err(failed) => println!(rt; "decimals {:?}, none at {}", failed.before, failed.place)?,
+    }
+    let values = vec![in alloc; 0u32, 1000, 400]?;
+    let solved = solver::solved(rt, alloc, pool, 500, values, 100)?;
+    println!(rt; "solver {solved:?}")?;
+    let numbers = SharedList::from_vec(alloc, vec![in alloc; 1u32, 2, 3]?)?;
+    let dot = vectors::dot(rt, alloc, pool, &numbers, &numbers)?;
+    println!(rt; "dot {dot}")?;
+    Ok(())
+}
+
+// The greatest sum of a run of four thousand values, which are split.
+fn greatest<H: Threads + Wait + AllocGlobal + Sync + Print>(rt: &H) -> Result<(), Stop> {
+    let alloc = rt.alloc();
+    let values = (0..4000u32).map(|at| i64::from(at % 8) - 3);
+    let values = SharedList::from_vec(alloc, values.collect(alloc)?)?;
+    let greatest = runs::greatest_sum(rt, values.run(0, values.len())?)?;
+    println!(rt; "runs {greatest:?}")?;
+    Ok(())
+}
+
+// Sums up to each value of a table, and the product of two matrices.
+fn sums<H: Threads + Wait + Sync + Print>(
+    rt: &H,
+    alloc: Global,
+    pool: &Pool<NoGate>,
+) -> Result<(), Stop> {
+    let table = vec![in alloc; 3u64, 1, 4, 1, 5, 9, 2, 6]?;
+    let sums = prefix::summed(rt, alloc, pool, 3, table)?;
+    println!(rt; "prefix {sums:?}")?;
+    let rows = vec![in alloc; vec![in alloc; 1u64, 2, 3]?, vec![in alloc; 4u64, 5, 6]?]?;
+    let columns = vec![in alloc; 1u64, 0, 1, 0, 2, 2]?;
+    let entries = product::multiplied(rt, alloc, pool, rows, columns.as_slice())?;
+    println!(rt; "product {entries:?}")?;
+    Ok(())
+}
+
+// Passes over values, and keys looked up in a table.
+fn passes<H: Threads + Wait + Sync + Print>(
+    rt: &H,
+    alloc: Global,
+    pool: &Pool<NoGate>,
+) -> Result<(), Stop> {
+    let heat = vec![in alloc; 0u32, 0, 0, 0, 4096, 0, 0, 0, 0]?;
+    let smooth = stencil::smoothed(rt, alloc, pool, 4, heat, 8)?;
+    println!(rt; "stencil {smooth:?}")?;
+    let limits = vec![in alloc; 50u32, 20, 90, 20]?;
+    let keys = vec![in alloc; 21u32, 20, 90, 100]?;
+    let ranks = ranks::ranks(rt, alloc, pool, limits, keys)?;
+    println!(rt; "ranks {ranks:?}")?;
     Ok(())
 }
 

@@ -1,11 +1,10 @@
 //! Child slots.
 //!
-//! Clauses say that what a slot shows or hands out meets its tag. These rows show what no clause says: what an empty slot and a full
-//! one answer, that each value is handed out once and dropped once, that a clear waits for each guard, and that it answers once the
-//! slot is empty.
+//! Clauses say that what a slot shows or hands out meets its tag, and that nobody writes while a guard is out. These rows show what no
+//! clause says: what an empty slot and a full one answer, that each value is handed out once and dropped once, and that a clear answers
+//! once the slot is empty.
 ghost use Rattle.std.specs.Prelude.{◌≡◌, ◌≤◌, IfSome};
 
-mod guards;
 mod turns;
 
 use crate::checks::{holds, is};
@@ -14,10 +13,6 @@ use std::alloc::{AllocError, Global};
 use std::process::Abort;
 use std::sync::Wait;
 use std::sync::atomic::{AtomicU64, Ordering};
-use std::thread;
-
-/// How often an idle thread looks again before it gives up.
-const LOOKS: u64 = 10_000_000;
 
 /// How many words a child has, so that to move one takes a while.
 const WEIGHT: usize = 64;
@@ -58,10 +53,6 @@ impl<'a> Child<'a> {
             weight: [7; WEIGHT],
         }
     }
-
-    fn was_dropped(&self) -> bool {
-        drops_of(self.drops, self.number) > 0
-    }
 }
 
 /// So many counts, each zero.
@@ -99,47 +90,27 @@ fn cleared<R: Wait>(rt: &R, slot: &AtomicArc<Child<'_>>) -> Option<usize>
     Some(child.number)
 }
 
-/// Waits until the count is there, or gives up.
-fn wait_for(count: &AtomicU64, want: u64) {
-    for _ in 0..LOOKS {
-        if count.load(Ordering::SeqCst) >= want {
-            break;
-        }
-        thread::yield_now();
-    }
-}
-
-/// Whether the slot is null, and whether it is free.
-fn state<'a>(slot: &AtomicArc<Child<'a>>) -> (bool, bool) {
-    (slot.is_null(), slot.is_free())
-}
-
 /// Whether the slot takes a child of number 0.
 fn takes<'a>(slot: &AtomicArc<Child<'a>>, drops: &'a [AtomicU64]) -> bool {
     slot.compare_exchange_null(Child::new(0, drops)).is_ok()
 }
 
-/// Whether the slot refuses a child of number 1, and hands it back.
-fn takes_none<'a>(slot: &AtomicArc<Child<'a>>, drops: &'a [AtomicU64]) -> bool
-    requires { slot.now ≡ 1 }
-{
-    slot.compare_exchange_null(Child::new(1, drops))
-        .is_err_and(|back| back.number == 1)
-}
-
 /// The slot is empty, and answers so.
 fn is_empty<R: Wait + Abort>(rt: &R, slot: &AtomicArc<Child<'_>>) {
-    is(rt, state(slot), (true, true));
+    is(rt, (slot.is_null(), slot.is_free()), (true, true));
     is(rt, (seen(slot), cleared(rt, slot)), (None, None));
 }
 
-/// The slot has child 0, and takes no other.
+/// The slot has child 0, and hands back another.
 fn is_full<'a>(rt: &impl Abort, slot: &AtomicArc<Child<'a>>, drops: &'a [AtomicU64])
     requires { slot.now ≡ 1 }
 {
-    is(rt, (state(slot), seen(slot)), ((false, false), Some(0)));
-    holds(rt, takes_none(slot, drops));
-    is(rt, (drops_of(drops, 0), drops_of(drops, 1)), (0, 1));
+    is(rt, (slot.is_null(), slot.is_free()), (false, false));
+    is(rt, seen(slot), Some(0));
+    let Err(back) = slot.compare_exchange_null(Child::new(1, drops)) else {
+        rt.panic("a full slot has taken a child")
+    };
+    is(rt, (back.number, drops_of(drops, 0)), (1, 0));
 }
 
 #[test]
@@ -152,14 +123,7 @@ fn a_slot_shows_and_hands_out_what_was_put_in(rt: HostRuntime) {
     is(&rt, cleared(&rt, &slot), Some(0));
     is(&rt, drops_of(&drops, 0), 1);
     is_empty(&rt, &slot);
-}
-
-#[test]
-fn a_slot_that_is_dropped_drops_its_value(rt: HostRuntime) {
-    let drops = [AtomicU64::new(0)];
-    let slot = AtomicArc::null(&0);
     holds(&rt, takes(&slot, &drops));
-    is(&rt, drops_of(&drops, 0), 0);
     drop(slot);
-    is(&rt, drops_of(&drops, 0), 1);
+    is(&rt, drops_of(&drops, 0), 2);
 }

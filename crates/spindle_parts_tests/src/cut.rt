@@ -1,11 +1,11 @@
-//! Pieces and hands: a row of each call, and what a refused growth leaves.
+//! Pieces and hands: rows of each call, and what a refused growth leaves.
 //!
 //! The clauses of these calls say what an Ok answers and what a refusal leaves. These rows show what no clause says: that memory is
 //! refused only where a growth was.
 ghost use Rattle.std.specs.Prelude.{◌≡◌, map, IfOk, vec_len};
 ghost use Rattle.spindle_parts.specs.Pieces.{counted};
 
-use crate::checks::{holds, is};
+use crate::checks::{are, holds, is};
 use spindle_parts::cut::{Piece, cut, deal, piece_lengths};
 use spindle_parts::fault::Fault;
 use std::alloc::{AllocError, Global};
@@ -25,45 +25,64 @@ fn singles(alloc: Global, count: u64) -> Result<Vec<Piece<u64>>, Fault>
     cut(alloc, &mut items, usize::MAX)
 }
 
-/// Whether the hand holds the pieces of these numbers, each with its own item.
-fn is_hand_of(hand: &Vec<Piece<u64>>, want: &[u64]) -> bool {
-    hand.len() == want.len()
-        && hand.iter().zip(want).all(|(piece, number)| piece.number as u64 == *number
-            && piece.items.as_slice() == [*number].as_slice())
+#[test]
+fn refused_lengths_are_answered(rt: HostRuntime) {
+    match piece_lengths(rt.alloc(), 10, 4) {
+        Ok(lengths) => are(&rt, &lengths, &[3, 3, 2, 2]),
+        Err(fault) => holds(&rt, matches!(fault, Fault::Memory)),
+    }
+    let most = piece_lengths(rt.alloc(), usize::MAX, usize::MAX);
+    holds(&rt, matches!(most, Err(Fault::Memory)));
 }
 
 #[test]
-fn the_longer_pieces_come_first(rt: HostRuntime) -> Result<(), Fault> {
-    let lengths = piece_lengths(rt.alloc(), 10, 4)?;
-    is(&rt, lengths.as_slice(), [3, 3, 2, 2].as_slice());
-    Ok(())
-}
-
-#[test]
-fn pieces_hold_the_items_in_order(rt: HostRuntime) -> Result<(), Fault> {
-    let mut items = numbers(rt.alloc(), 10)?;
-    let pieces = cut(rt.alloc(), &mut items, 4)?;
-    is(&rt, (items.len(), pieces.len()), (0, 4));
+fn refused_cut_leaves_the_list(rt: HostRuntime) -> Result<(), Fault> {
+    let Ok(mut items) = numbers(rt.alloc(), 4) else {
+        return Ok(());
+    };
+    let pieces = match cut(rt.alloc(), &mut items, 3) {
+        Ok(pieces) => pieces,
+        Err(fault) => {
+            holds(&rt, matches!(fault, Fault::Memory));
+            are(&rt, &items, &[0, 1, 2, 3]);
+            cut(rt.alloc(), &mut items, 3)?
+        }
+    };
+    is(&rt, (items.len(), pieces.len()), (0, 3));
     if let Some(last) = pieces.last() {
-        is(&rt, last.items.as_slice(), [8, 9].as_slice());
+        are(&rt, &last.items, &[3]);
     }
     Ok(())
 }
 
-/// Fails where so many pieces aren't dealt into hands of these numbers.
+/// Fails where so many pieces aren't dealt into hands of these numbers, or where a refusal doesn't leave them.
 fn have_hands(rt: &impl Abort, alloc: Global, count: u64, want: &[&[u64]]) -> Result<(), Fault> {
-    let mut pieces = singles(alloc, count)?;
+    let Ok(mut pieces) = singles(alloc, count) else {
+        return Ok(());
+    };
     assert!(rt; want.len() > 0);
-    let hands = deal(alloc, &mut pieces, want.len())?;
+    let hands = match deal(alloc, &mut pieces, want.len()) {
+        Ok(hands) => hands,
+        Err(fault) => {
+            holds(rt, matches!(fault, Fault::Memory));
+            is(rt, pieces.len() as u64, count);
+            deal(alloc, &mut pieces, want.len())?
+        }
+    };
     is(rt, (pieces.len(), hands.len()), (0, want.len()));
     for (hand, numbers) in hands.iter().zip(want) {
-        holds(rt, is_hand_of(hand, numbers));
+        is(rt, hand.len(), numbers.len());
+        for (piece, number) in hand.iter().zip(*numbers) {
+            is(rt, piece.number as u64, *number);
+            are(rt, &piece.items, &[*number]);
+        }
     }
     Ok(())
 }
 
+/// Each thread gets a run of the pieces, and one of those left over.
 #[test]
-fn each_thread_gets_a_run_and_one_of_the_rest(rt: HostRuntime) -> Result<(), Fault> {
+fn refused_deal_leaves_the_pieces(rt: HostRuntime) -> Result<(), Fault> {
     let rows: [(u64, &[&[u64]]); 2] = [
         (10, &[&[0, 1, 8], &[2, 3, 9], &[4, 5], &[6, 7]]),
         (3, &[&[0], &[1], &[2], &[]]),
@@ -71,82 +90,5 @@ fn each_thread_gets_a_run_and_one_of_the_rest(rt: HostRuntime) -> Result<(), Fau
     for (count, want) in rows {
         have_hands(&rt, rt.alloc(), count, want)?;
     }
-    Ok(())
-}
-
-/// There are as many pieces as items, however many.
-#[test]
-fn a_million_items_make_a_million_pieces(rt: HostRuntime) -> Result<(), Fault> {
-    is(
-        &rt,
-        piece_lengths(rt.alloc(), 2_500_000, 1_000_000)?.len(),
-        1_000_000,
-    );
-    let mut pieces = singles(rt.alloc(), 1_000_000)?;
-    is(&rt, pieces.len(), 1_000_000);
-    let hands = deal(rt.alloc(), &mut pieces, 3)?;
-    is(&rt, (pieces.len(), hands.len()), (0, 3));
-    Ok(())
-}
-
-#[test]
-fn refused_lists_too_long_for_memory(rt: HostRuntime) {
-    let lengths = piece_lengths(rt.alloc(), usize::MAX, usize::MAX);
-    holds(&rt, matches!(lengths, Err(Fault::Memory)));
-    let Ok(mut pieces) = singles(rt.alloc(), 3) else {
-        return;
-    };
-    let hands = deal(rt.alloc(), &mut pieces, usize::MAX);
-    holds(&rt, matches!(hands, Err(Fault::Memory)));
-    holds(&rt, is_hand_of(&pieces, &[0, 1, 2]));
-}
-
-#[test]
-fn refused_lengths_are_answered(rt: HostRuntime) {
-    match piece_lengths(rt.alloc(), 10, 4) {
-        Ok(lengths) => is(&rt, lengths.as_slice(), [3, 3, 2, 2].as_slice()),
-        Err(fault) => holds(&rt, matches!(fault, Fault::Memory)),
-    }
-}
-
-#[test]
-fn refused_cut_leaves_the_list(rt: HostRuntime) -> Result<(), Fault> {
-    let Ok(mut items) = numbers(rt.alloc(), 10) else {
-        return Ok(());
-    };
-    if let Err(fault) = cut(rt.alloc(), &mut items, 4) {
-        holds(&rt, matches!(fault, Fault::Memory));
-        holds(
-            &rt,
-            items
-                .iter()
-                .zip(0..10u64)
-                .all(|(item, number)| *item == number),
-        );
-        is(&rt, items.len(), 10);
-        is(&rt, cut(rt.alloc(), &mut items, 4)?.len(), 4);
-    }
-    Ok(())
-}
-
-#[test]
-fn refused_deal_leaves_the_pieces(rt: HostRuntime) -> Result<(), Fault> {
-    let Ok(mut pieces) = singles(rt.alloc(), 5) else {
-        return Ok(());
-    };
-    if let Err(fault) = deal(rt.alloc(), &mut pieces, 3) {
-        holds(&rt, matches!(fault, Fault::Memory));
-        holds(&rt, is_hand_of(&pieces, &[0, 1, 2, 3, 4]));
-        is(&rt, deal(rt.alloc(), &mut pieces, 3)?.len(), 3);
-    }
-    Ok(())
-}
-
-#[test]
-fn refused_nothing_where_nothing_is_needed(rt: HostRuntime) -> Result<(), Fault> {
-    let mut none = Vec::<u64>::new(rt.alloc());
-    is(&rt, cut(rt.alloc(), &mut none, 0)?.len(), 0);
-    is(&rt, cut(rt.alloc(), &mut none, 5)?.len(), 0);
-    is(&rt, piece_lengths(rt.alloc(), 0, 5)?.len(), 0);
     Ok(())
 }

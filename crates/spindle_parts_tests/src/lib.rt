@@ -19,5 +19,3 @@ mod numbers;
 mod requests;
 #[cfg(test)]
 mod steps;
-#[cfg(test)]
-mod strip_rows;

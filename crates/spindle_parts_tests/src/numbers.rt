@@ -1,7 +1,7 @@
 //! Thread numbers.
 //!
 //! `try_take` says which words it read, and the rule of the table that no two seats have one number. These rows show what no clause
-//! says: that a take wins where nobody else steps, and so that all numbers below the threads are taken, the least first.
+//! says: that a take wins where nobody else steps, and that memory is refused only where it was.
 ghost use Rattle.std.specs.Prelude.{◌≡◌};
 ghost use Rattle.spindle_parts.specs.ThreadNumbers.{IsSeatOf};
 
@@ -34,25 +34,6 @@ fn taken(numbers: &Numbers, leader: &mut Seat) -> Take
 {
     let mut seat = numbers.new_seat(leader);
     numbers.try_take(&mut seat)
-}
-
-/// New seats take each number below the threads, in order, and then none.
-fn take_all(rt: &impl Abort, numbers: &Numbers, mut leader: Seat, threads: usize)
-    requires { IsSeatOf numbers.now leader }
-{
-    for number in 1..threads {
-        is(rt, taken(numbers, &mut leader), Take::Taken(number));
-    }
-    is(rt, taken(numbers, &mut leader), Take::AllInUse);
-}
-
-#[test]
-fn numbers_end_where_the_threads_do(rt: HostRuntime) -> Result<(), Fault> {
-    for threads in [1, 2, 31, 32, 33, 64, 65, 32767] {
-        let (numbers, leader) = Numbers::new(rt.alloc(), threads)?;
-        take_all(&rt, &numbers, leader, threads);
-    }
-    Ok(())
 }
 
 #[test]

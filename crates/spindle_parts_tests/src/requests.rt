@@ -111,23 +111,13 @@ fn flags_are_as_last_stored(rt: HostRuntime) -> Result<(), Fault> {
 
 #[test]
 fn refused_ledgers_are_answered(rt: HostRuntime) {
-    for slots in [0, 1, 32767] {
+    for slots in [0, 1, 32767, 1 << 57, 1 << 60, usize::MAX / 8, usize::MAX] {
         match Requests::new(rt.alloc(), slots) {
             Ok((books, mut seat)) => {
                 books.ask(&mut seat, 1);
-                is(&rt, books.requests(&mut seat), 1);
+                is(&rt, (books.requests(&mut seat), slots < 1 << 57), (1, true));
             }
             Err(fault) => holds(&rt, matches!(fault, Fault::Memory)),
         }
-    }
-}
-
-#[test]
-fn refused_slots_beyond_all_memory(rt: HostRuntime) {
-    for slots in [usize::MAX, usize::MAX / 8, 1 << 60, 1 << 57] {
-        holds(
-            &rt,
-            matches!(Requests::new(rt.alloc(), slots), Err(Fault::Memory)),
-        );
     }
 }

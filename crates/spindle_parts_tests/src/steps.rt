@@ -11,7 +11,6 @@ use spindle_parts::steps::Step::{
     Arrive, Claim, Clear, End, Exit, Finish, Join, Leave, Publish, PublishTry, Rest, See, Stop,
 };
 use spindle_parts::steps::{Machine, Reply, Step, Why};
-use std::alloc::Global;
 use std::process::Abort;
 
 type Script<'a> = &'a [(Step, Reply)];
@@ -137,35 +136,13 @@ fn each_step_is_answered_as_in_the_step_table(rt: HostRuntime) -> Result<(), Fau
     Ok(())
 }
 
-/// A hundred thousand parties, one after another, each with a number far from the last one's.
-#[test]
-fn no_join_is_refused_for_memory_where_there_is_some(rt: HostRuntime) -> Result<(), Fault> {
-    let mut machine = Machine::new(rt.alloc(), 4)?;
-    answers(&rt, &mut machine, Join(0), Word(0x0001_0001));
-    for count in 1..100_000u32 {
-        let party = count.wrapping_mul(0x9E37_79B1);
-        answers(&rt, &mut machine, Join(party), Word(0x0002_0002));
-        answers(&rt, &mut machine, Exit(party), Word(0x0001_0001));
-    }
-    for bit in 0..32u32 {
-        let word = (bit + 2).wrapping_mul(0x0001_0001);
-        answers(&rt, &mut machine, Join(u32::MAX >> bit), Word(word));
-    }
-    Ok(())
-}
-
-/// A machine, which is asked for again where its growth was refused.
-fn machine_at_last(alloc: Global) -> Result<Machine, Fault> {
-    match Machine::new(alloc, 4) {
-        Ok(machine) => Ok(machine),
-        Err(_) => Machine::new(alloc, 4),
-    }
-}
-
 /// A refused growth changes nothing: the same join with memory is answered. Who came once comes again without memory.
 #[test]
 fn refused_growth_changes_nothing(rt: HostRuntime) -> Result<(), Fault> {
-    let mut machine = machine_at_last(rt.alloc())?;
+    let mut machine = match Machine::new(rt.alloc(), 4) {
+        Ok(machine) => machine,
+        Err(_) => Machine::new(rt.alloc(), 4)?,
+    };
     for party in 0..200u32 {
         let word = Word(party.wrapping_add(1).wrapping_mul(0x0001_0001));
         match machine.step(Join(party)) {

@@ -5,10 +5,10 @@
 ghost use Rattle.std.specs.Prelude.{◌≡◌};
 ghost use Rattle.spindle_rounds.specs.Seating.{IsSeatAt};
 
-use self::parties::{arrive, arrive_last, go_out, join};
+use self::parties::{arrive, arrive_last, join};
 use crate::checks::{holds, is};
 use spindle_parts::fault::Fault;
-use spindle_rounds::barrier::membership::Leave;
+use spindle_rounds::barrier::membership::{Exit, Leave};
 use spindle_rounds::barrier::steps::AfterEnd;
 use spindle_rounds::barrier::waiting::ExitStatus;
 use spindle_rounds::barrier::{BarrierInit, JoinRefused};
@@ -19,13 +19,9 @@ use std::test::Fail;
 
 mod parties;
 
-fn word(init: &BarrierInit<Bare>) -> u64 {
-    init.peek(BARRIER)
-}
-
 /// The barrier word, and how many parties it says are members.
 fn shown(init: &BarrierInit<Bare>) -> (u64, usize) {
-    (word(init), init.current_num_threads())
+    (init.peek(BARRIER), init.current_num_threads())
 }
 
 #[test]
@@ -33,16 +29,16 @@ fn the_last_to_arrive_ends_the_round(rt: HostRuntime) -> Result<(), Fail> {
     let (init, mut seat) = BarrierInit::new(rt.alloc())?;
     let other = init.new_seat(&mut seat);
     let mut zero = join(&rt, &init, seat, 0);
-    is(&rt, word(&init), 0x0001_0001);
+    is(&rt, shown(&init), (0x0001_0001, 1));
     let mut one = join(&rt, &init, other, 1);
-    is(&rt, word(&init), 0x0002_0002);
+    is(&rt, shown(&init), (0x0002_0002, 2));
     arrive(&rt, &mut zero);
     is(&rt, shown(&init), (0x0002_0001, 2));
     arrive_last(&rt, &mut one);
-    is(&rt, word(&init), 0x0002_0000);
+    is(&rt, shown(&init), (0x0002_0000, 2));
     holds(&rt, matches!(zero.try_leave(), Leave::Closing(_)));
     one.clear();
-    is(&rt, word(&init), 0x0002_0000);
+    is(&rt, shown(&init), (0x0002_0000, 2));
     holds(&rt, matches!(one.end(), AfterEnd::Next(_)));
     is(&rt, shown(&init), (0x8002_0002, 2));
     Ok(())
@@ -54,29 +50,16 @@ fn a_leave_before_the_last_arrival_stands(rt: HostRuntime) -> Result<(), Fail> {
     let other = init.new_seat(&mut seat);
     let mut zero = join(&rt, &init, seat, 0);
     let mut one = join(&rt, &init, other, 1);
-    is(&rt, word(&init), 0x0002_0002);
+    is(&rt, shown(&init), (0x0002_0002, 2));
     arrive(&rt, &mut zero);
-    is(&rt, word(&init), 0x0002_0001);
+    is(&rt, shown(&init), (0x0002_0001, 2));
     holds(&rt, matches!(zero.try_leave(), Leave::Left(_)));
-    is(&rt, word(&init), 0x0001_0001);
+    is(&rt, shown(&init), (0x0001_0001, 1));
     arrive_last(&rt, &mut one);
-    is(&rt, word(&init), 0x0001_0000);
+    is(&rt, shown(&init), (0x0001_0000, 1));
     one.clear();
     holds(&rt, matches!(one.end(), AfterEnd::Next(_)));
     is(&rt, shown(&init), (0x8001_0001, 1));
-    Ok(())
-}
-
-#[test]
-fn a_sole_party_that_exits_ends_the_round(rt: HostRuntime) -> Result<(), Fail> {
-    let (init, mut seat) = BarrierInit::new(rt.alloc())?;
-    let other = init.new_seat(&mut seat);
-    let zero = join(&rt, &init, seat, 0);
-    is(&rt, word(&init), 0x0001_0001);
-    go_out(&rt, zero);
-    is(&rt, shown(&init), (0x8000_0000, 0));
-    let _one = join(&rt, &init, other, 1);
-    is(&rt, word(&init), 0x8001_0001);
     Ok(())
 }
 
@@ -107,38 +90,30 @@ fn a_barrier_holds_32767_parties(rt: HostRuntime) -> Result<(), Fail> {
         return Err(Fail::new("a party too many was let in"));
     };
     is(&rt, init.current_num_threads(), 32767);
-    go_out(&rt, last);
+    holds(&rt, matches!(last.try_exit(), Exit::Gone(_)));
     holds(&rt, init.try_join(full.seat, 0).is_ok());
     is(&rt, init.current_num_threads(), 32767);
     Ok(())
 }
 
 #[test]
-fn a_sole_party_passes_its_rounds(rt: HostRuntime) -> Result<(), Fail> {
-    let (init, seat) = BarrierInit::new(rt.alloc())?;
+fn a_sole_party_that_exits_ends_the_round(rt: HostRuntime) -> Result<(), Fail> {
+    let (init, mut seat) = BarrierInit::new(rt.alloc())?;
+    let other = init.new_seat(&mut seat);
     let Ok(mut sole) = init.barrier(&rt, seat, 0) else {
         return Err(Fail::new("the only party was refused"));
     };
+    is(&rt, shown(&init), (0x0001_0001, 1));
     sole.wait(&rt);
-    is(&rt, word(&init), 0x8001_0001);
+    is(&rt, shown(&init), (0x8001_0001, 1));
     let ExitStatus::Remain(sole) = sole.wait_and_clear_while(&rt, || 1) else {
         return Err(Fail::new("the closer has left"));
     };
-    is(&rt, word(&init), 0x0001_0001);
+    is(&rt, shown(&init), (0x0001_0001, 1));
     drop(sole.exit(&rt));
     is(&rt, shown(&init), (0x8000_0000, 0));
-    Ok(())
-}
-
-#[test]
-fn a_party_that_is_not_the_last_leaves_when_asked(rt: HostRuntime) -> Result<(), Fail> {
-    let (init, mut seat) = BarrierInit::new(rt.alloc())?;
-    let other = init.new_seat(&mut seat);
-    let zero = join(&rt, &init, seat, 0);
     let _one = join(&rt, &init, other, 1);
-    let status = zero.wait_and_clear_while(&rt, || 1);
-    holds(&rt, matches!(status, ExitStatus::Exit(_)));
-    is(&rt, word(&init), 0x0001_0001);
+    is(&rt, shown(&init), (0x8001_0001, 1));
     Ok(())
 }
 

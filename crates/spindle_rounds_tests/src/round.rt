@@ -6,7 +6,7 @@ ghost use Rattle.std.specs.Prelude.{◌≤◌};
 ghost use Rattle.spindle_rounds.specs.RoundConditions.{MayClaim};
 ghost use Rattle.spindle_rounds.specs.Seating.{IsSeatAt, IsSameSeat};
 
-use self::play::{enter, lead, lead_try, own, own_from_to, rest, steal, steal_and_stop, word};
+use self::play::{enter, lead, own, rest, steal, steal_and_stop, word};
 use crate::checks::{holds, is};
 use spindle_parts::fault::Fault;
 use spindle_rounds::round::Round;
@@ -30,18 +30,6 @@ const RANGES_OF_TEN: (u64, u64, u64, u64) = (
     0x0000000800000006,
 );
 
-/// The ranges of four threads, in their order.
-fn ranges_of_four(round: &Round<Bare>) -> (u64, u64, u64, u64)
-    requires { 4 ≤ round.now.init.threads }
-{
-    (
-        word(round, RANGES),
-        word(round, RANGES + APART),
-        word(round, RANGES + 2 * APART),
-        word(round, RANGES + 3 * APART),
-    )
-}
-
 /// Claims and finishes the first number left of the remainder three times.
 fn three_rest(round: &Round<Bare>, seat: &mut Seat<Bare>) -> (Option<u64>, Option<u64>, Option<u64>)
     requires seated { IsSeatAt round.now.init seat.old }
@@ -58,15 +46,28 @@ fn a_round_of_ten_jobs_on_four_threads(rt: HostRuntime) -> Result<(), Fail> {
     let mut leader = enter(&rt, &round, seat, 0);
     let seat = leader.seat();
     lead(&round, seat, 10);
-    is(&rt, word(&round, PUBLISHED), 10);
-    is(&rt, ranges_of_four(&round), RANGES_OF_TEN);
-    is(&rt, word(&round, REMAINDER), 2);
-    let owned = (
-        own(&round, seat, 1),
-        own(&round, seat, 1),
-        own(&round, seat, 1),
+    is(&rt, word(&round, PUBLISHED), 10 + 4294967296);
+    let ranges = (
+        word(&round, RANGES),
+        word(&round, RANGES + APART),
+        word(&round, RANGES + 2 * APART),
+        word(&round, RANGES + 3 * APART),
     );
-    is(&rt, owned, (Some(2), Some(3), None));
+    is(&rt, ranges, RANGES_OF_TEN);
+    is(&rt, word(&round, REMAINDER), 2);
+    let claimed = (own(&round, seat, 0), own(&round, seat, 1));
+    is(&rt, claimed, (Some(0), Some(2)));
+    // A thief takes the last number of the longest range.
+    is(&rt, steal(&round, seat), Some((5, 0)));
+    is(&rt, word(&round, RANGES + 2 * APART), 0x0000000500000004);
+    let claimed = (own(&round, seat, 1), own(&round, seat, 1));
+    is(&rt, claimed, (Some(3), None));
+    let claimed = (own(&round, seat, 0), own(&round, seat, 2));
+    is(&rt, claimed, (Some(1), Some(4)));
+    is(&rt, own(&round, seat, 3), Some(6));
+    // And the only number.
+    is(&rt, steal(&round, seat), Some((7, 0)));
+    is(&rt, word(&round, RANGES + 3 * APART), 0x0000000700000007);
     is(&rt, three_rest(&round, seat), (Some(8), Some(9), None));
     Ok(())
 }
@@ -101,45 +102,16 @@ fn a_thief_takes_the_last_half(rt: HostRuntime) -> Result<(), Fail> {
 }
 
 #[test]
-fn a_thief_takes_the_only_number(rt: HostRuntime) -> Result<(), Fail> {
-    let (round, seat) = Round::new(rt.alloc(), 2)?;
-    let mut leader = enter(&rt, &round, seat, 0);
-    let seat = leader.seat();
-    lead(&round, seat, 16);
-    holds(&rt, own_from_to(&round, seat, 0, 0, 7));
-    holds(&rt, own_from_to(&round, seat, 1, 8, 16));
-    is(&rt, word(&round, RANGES), 0x0000000800000007);
-    is(&rt, steal(&round, seat), Some((7, 0)));
-    is(&rt, word(&round, RANGES), 0x0000000700000007);
-    is(&rt, steal(&round, seat), None);
-    Ok(())
-}
-
-#[test]
-fn a_thief_takes_from_the_longest_range(rt: HostRuntime) -> Result<(), Fail> {
-    let (round, seat) = Round::new(rt.alloc(), 4)?;
-    let mut leader = enter(&rt, &round, seat, 0);
-    let seat = leader.seat();
-    lead(&round, seat, 10);
-    is(
-        &rt,
-        (own(&round, seat, 0), own(&round, seat, 1)),
-        (Some(0), Some(2)),
-    );
-    is(&rt, word(&round, RANGES + 2 * APART), 0x0000000600000004);
-    is(&rt, steal(&round, seat), Some((5, 0)));
-    is(&rt, word(&round, RANGES + 2 * APART), 0x0000000500000004);
-    Ok(())
-}
-
-#[test]
 fn a_share_goes_back_into_an_empty_range(rt: HostRuntime) -> Result<(), Fail> {
     let (round, seat) = Round::new(rt.alloc(), 2)?;
     let mut leader = enter(&rt, &round, seat, 0);
     let seat = leader.seat();
-    lead_try(&round, seat, 8);
+    lead(&round, seat, 8);
     is(&rt, word(&round, PUBLISHED), 8 + 4294967296);
-    holds(&rt, own_from_to(&round, seat, 0, 0, 4));
+    let claimed = (own(&round, seat, 0), own(&round, seat, 0));
+    is(&rt, claimed, (Some(0), Some(1)));
+    let claimed = (own(&round, seat, 0), own(&round, seat, 0));
+    is(&rt, claimed, (Some(2), Some(3)));
     is(
         &rt,
         steal_and_stop(&rt, &round, seat),

@@ -1,4 +1,4 @@
-//! What a party of a barrier without a round does in tests: it joins, arrives, and goes.
+//! What a party of a barrier without a round does in tests: it joins and arrives.
 ghost use Rattle.std.specs.Prelude.{◌≡◌};
 ghost use Rattle.spindle_rounds.specs.Holding.{IsHeld};
 ghost use Rattle.spindle_rounds.specs.RoundConditions.{IsClosing, IsDone, MayExit, MayLeave};
@@ -6,8 +6,6 @@ ghost use Rattle.spindle_rounds.specs.Working.{IsIdle};
 ghost use Rattle.spindle_rounds.specs.declared.round_table.view.Standing.TheVariants.{Away};
 ghost use Rattle.spindle_rounds.specs.Seating.{IsSeatAt};
 
-use crate::checks::holds;
-use spindle_rounds::barrier::membership::Exit;
 use spindle_rounds::barrier::steps::Arrival;
 use spindle_rounds::barrier::{Barrier, BarrierInit};
 use spindle_rounds::round_table::Seat;
@@ -43,7 +41,9 @@ pub fn arrive(rt: &impl Abort, party: &mut Barrier<Bare>)
     ensures held { IsHeld party.new }
     ensures waits { MayLeave party.new.seat.me.0 }
 {
-    assert_eq!(rt; party.arrive(), Arrival::Arrived);
+    let Arrival::Arrived = party.arrive() else {
+        rt.panic("a party that isn't the last closes")
+    };
 }
 
 /// A party arrives last, and closes.
@@ -54,13 +54,7 @@ pub fn arrive_last(rt: &impl Abort, party: &mut Barrier<Bare>)
     ensures held { IsHeld party.new }
     ensures closes { IsClosing party.new.seat.me.0 }
 {
-    assert_eq!(rt; party.arrive(), Arrival::Closer);
-}
-
-/// A party that hasn't arrived goes out.
-pub fn go_out(rt: &impl Abort, party: Barrier<Bare>)
-    requires held { IsHeld party }
-    requires goes { MayExit party.seat.me.0 }
-{
-    holds(rt, matches!(party.try_exit(), Exit::Gone(_)));
+    let Arrival::Closer = party.arrive() else {
+        rt.panic("the last to arrive doesn't close")
+    };
 }

@@ -48,18 +48,12 @@ fn close_by_leaving(rt: &impl Abort, alloc: Global, visits: bool) -> Result<(), 
     Ok(())
 }
 
+/// A guest that visits changes no later answer.
 #[test]
 fn a_helper_comes_and_goes(rt: HostRuntime) -> Result<(), Fault> {
-    come_and_go(&rt, rt.alloc(), false)
-}
-
-#[test]
-fn a_helper_closes_by_leaving(rt: HostRuntime) -> Result<(), Fault> {
-    close_by_leaving(&rt, rt.alloc(), false)
-}
-
-#[test]
-fn a_guest_changes_no_later_answer(rt: HostRuntime) -> Result<(), Fault> {
-    come_and_go(&rt, rt.alloc(), true)?;
-    close_by_leaving(&rt, rt.alloc(), true)
+    for visits in [false, true] {
+        come_and_go(&rt, rt.alloc(), visits)?;
+        close_by_leaving(&rt, rt.alloc(), visits)?;
+    }
+    Ok(())
 }

@@ -12,7 +12,7 @@ use spindle_rounds::barrier::Barrier;
 use spindle_rounds::barrier::membership::Exit;
 use spindle_rounds::round::Round;
 use spindle_rounds::round_table::slots::Bare;
-use spindle_rounds::round_table::{BARRIER, PUBLISHED, Seat};
+use spindle_rounds::round_table::{BARRIER, Seat};
 use std::alloc::Global;
 use std::process::Abort;
 
@@ -70,32 +70,7 @@ pub fn show(rt: &impl Abort, machine: &mut Machine, round: &Round<Bare>, said: S
     is(rt, (step, shown(reply)), (step, (expected, job)));
 }
 
-/// A guest joins and exits: the word is one member more, and then as before.
-fn visit(
-    rt: &impl Abort,
-    machine: &mut Machine,
-    round: &Round<Bare>,
-    guest: Seat<Bare>,
-    expected: u64,
-) -> Seat<Bare>
-    requires out { IsOut round.now false guest }
-    ensures out { IsOut round.now false result }
-{
-    let member = enter(rt, round, guest, 2);
-    show(
-        rt,
-        machine,
-        round,
-        (Join(2), expected.wrapping_add(ONE), None),
-    );
-    let Exit::Gone(guest) = member.try_exit() else {
-        rt.panic("the guest's exit failed")
-    };
-    show(rt, machine, round, (Exits(2), expected, None));
-    guest
-}
-
-/// Where a guest visits, it does so between two lines.
+/// Where a guest visits, it joins and exits between two lines: the word is one member more, and then as before.
 pub fn receive(rt: &impl Abort, beside: &mut Beside, round: &Round<Bare>, expected: u64)
     requires guest { IfSome beside.old.guest (λ s. IsOut round.now false s) }
     ensures guest { IfSome beside.new.guest (λ s. IsOut round.now false s) }
@@ -103,7 +78,13 @@ pub fn receive(rt: &impl Abort, beside: &mut Beside, round: &Round<Bare>, expect
     let Some(guest) = beside.guest.take() else {
         return;
     };
-    let guest = visit(rt, &mut beside.machine, round, guest, expected);
+    let member = enter(rt, round, guest, 2);
+    let joined = (Join(2), expected.wrapping_add(ONE), None);
+    show(rt, &mut beside.machine, round, joined);
+    let Exit::Gone(guest) = member.try_exit() else {
+        rt.panic("the guest's exit failed")
+    };
+    show(rt, &mut beside.machine, round, (Exits(2), expected, None));
     beside.guest = Some(guest);
 }
 
@@ -115,12 +96,6 @@ pub fn line(rt: &impl Abort, beside: &mut Beside, round: &Round<Bare>, said: Sai
     show(rt, &mut beside.machine, round, said);
     let (_step, expected, _job) = said;
     receive(rt, beside, round, expected);
-}
-
-/// The closer has cleared, which leaves the barrier word, and no number published.
-pub fn show_cleared(rt: &impl Abort, machine: &mut Machine, round: &Round<Bare>, said: Said) {
-    show(rt, machine, round, said);
-    is(rt, word(round, PUBLISHED), 0);
 }
 
 /// A party that is out joins.

@@ -79,24 +79,6 @@ pub fn own(round: &Round<Bare>, seat: &mut Seat<Bare>, t: usize) -> Option<u64>
     }
 }
 
-/// Whether thread t claims and finishes the numbers from `from` up to `to` one by one.
-pub fn own_from_to(round: &Round<Bare>, seat: &mut Seat<Bare>, t: usize, from: u64, to: u64) -> bool
-    requires seated { IsSeatAt round.now.init seat.old }
-    requires thread { t < round.now.init.threads }
-    requires free { MayClaim seat.old.me.0 }
-    ensures seat { IsSameSeat seat.old seat.new }
-    ensures free { MayClaim seat.new.me.0 }
-    ensures may { seat.new.me.0.known.may_stop ≡ seat.old.me.0.known.may_stop }
-{
-    let mut right = true;
-    for number in from..to {
-        if own(round, seat, t) != Some(number) {
-            right = false;
-        }
-    }
-    right
-}
-
 /// Claims and finishes the first number left of the remainder.
 pub fn rest(round: &Round<Bare>, seat: &mut Seat<Bare>) -> Option<u64>
     requires seated { IsSeatAt round.now.init seat.old }
@@ -155,21 +137,8 @@ pub fn spend(round: &Round<Bare>, seat: &mut Seat<Bare>, mut share: Share) -> u6
     count
 }
 
-/// Fills and publishes a round of n jobs.
-pub fn lead(round: &Round<Bare>, seat: &mut Seat<Bare>, jobs: u64)
-    requires seated { IsSeatAt round.now.init seat.old }
-    requires leads { MayFill seat.old.me.0 }
-    requires free { IsFreeInside seat.old.me.0 }
-    requires counted { (2 ≤ jobs) × (jobs ≤ 4294967295) }
-    ensures seat { IsSameSeat seat.old seat.new }
-    ensures free { MayClaim seat.new.me.0 }
-{
-    round.fill(seat, jobs);
-    round.publish(seat, jobs);
-}
-
 /// Fills and publishes a round of n jobs that may stop.
-pub fn lead_try(round: &Round<Bare>, seat: &mut Seat<Bare>, jobs: u64)
+pub fn lead(round: &Round<Bare>, seat: &mut Seat<Bare>, jobs: u64)
     requires seated { IsSeatAt round.now.init seat.old }
     requires leads { MayFill seat.old.me.0 }
     requires free { IsFreeInside seat.old.me.0 }

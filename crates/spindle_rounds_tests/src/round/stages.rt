@@ -4,7 +4,8 @@ ghost use Rattle.spindle_rounds.specs.Holding.{IsHeld};
 ghost use Rattle.spindle_rounds.specs.Parties.{IsOut, IsIn};
 ghost use Rattle.spindle_rounds.specs.RoundConditions.{MayFill, MayClaim, MayArrive, MayExit};
 
-use super::lines::{Beside, ONE, TWO, join, line, receive, show, show_cleared};
+use super::lines::{Beside, ONE, TWO, join, line, receive, show};
+use super::play::word;
 use super::scripts::{begin, find_nothing_left, finish, learn, publish_two};
 use crate::checks::{holds, is};
 use spindle_parts::steps::Step::{
@@ -15,8 +16,8 @@ use spindle_rounds::barrier::membership::{Exit, Leave};
 use spindle_rounds::barrier::steps::{AfterEnd, Arrival};
 use spindle_rounds::barrier::{Barrier, JoinRefused};
 use spindle_rounds::round::Round;
-use spindle_rounds::round_table::Seat;
 use spindle_rounds::round_table::slots::Bare;
+use spindle_rounds::round_table::{PUBLISHED, Seat};
 use std::process::Abort;
 
 /// The leader publishes a round of two jobs.
@@ -100,7 +101,9 @@ fn arrive_and_leave(
     ensures out { IsOut round.now false result }
 {
     find_nothing_left(rt, round, &mut one);
-    assert_eq!(rt; one.arrive(), Arrival::Arrived);
+    let Arrival::Arrived = one.arrive() else {
+        rt.panic("a party that isn't the last closes")
+    };
     line(rt, beside, round, (Arrive(1), 0x0002_0001, None));
     let Leave::Left(other) = one.try_leave() else {
         rt.panic("the helper's leave failed")
@@ -181,7 +184,7 @@ pub fn arrive_and_close(
     );
     is(rt, machine.step(Join(1)), Reply::Refused(Why::Closing));
     zero.clear();
-    show_cleared(rt, machine, round, (Clear(0), 0x0001_0000, None));
+    show(rt, machine, round, (Clear(0), 0x0001_0000, None));
     holds(rt, matches!(zero.end(), AfterEnd::Next(_)));
     show(rt, machine, round, (End(0), 0x8001_0001, None));
 }
@@ -199,7 +202,8 @@ pub fn exit_and_close(rt: &impl Abort, beside: &mut Beside, round: &Round<Bare>,
     is(rt, machine.step(Leaves(0)), Reply::Refused(Why::Closing));
     is(rt, machine.step(Exits(1)), Reply::Refused(Why::NotIn));
     one.clear();
-    show_cleared(rt, machine, round, (Clear(1), 0x0001_0000, None));
+    show(rt, machine, round, (Clear(1), 0x0001_0000, None));
+    is(rt, word(round, PUBLISHED), 0);
     holds(rt, matches!(one.end(), AfterEnd::Gone(_)));
     show(rt, machine, round, (End(1), 0x8001_0001, None));
 }

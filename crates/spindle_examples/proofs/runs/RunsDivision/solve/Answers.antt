@@ -1,19 +1,11 @@
 -- One value more.
-use Rattle.std.proofs.Common.{◌≡◌, ◌∙◌, ◌+◌, ◌++◌, ◌∷◌, [], ℤ, pos, to_z, of_z, to_z-of_z, SFits, w64, List, take, get_or, ap, sym, rules}
+use Rattle.std.proofs.Common.{◌∙◌, ◌++◌, ◌∷◌, [], ℕ, ℤ, pos, to_z, of_z, to_z-of_z, SFits, w64, List, take, get_or, ap, sym, rules}
 use Rattle.std.proofs.lemmas.List.{take_more}
-use Rattle.spindle_examples.specs.Runs.{sums_of}
 use Rattle.spindle_examples.proofs.SumLists.{sums_of_one}
 use Rattle.spindle_examples.proofs.runs.RunsDivision.solve.Goals as goal
 
-pub loop-value-preserved : goal.loop-value-preserved
-loop-value-preserved c =
-    let items : List ℤ = c.as_slice-value-items.result.now in
-    let before : List ℤ = take c.loop-value.value-index items in
-    let x : ℤ = get_or items c.loop-value.value-index (pos 0) in
-    let fits : SFits w64 x = search rules in
-    let read : ℤ = to_z w64 (of_z w64 x) in
-    let more = take_more items c.loop-value.value-index (pos 0) c.loop-value-test.true in
-    let fit : SFits w64 c.max-most.result = search rules in
-    let most : ℤ = to_z w64 (of_z w64 c.max-most.result) in
-    c.in_ok-sums.ensures before (read ∷ []) c.loop-value.invariant (sums_of_one read most (to_z-of_z fit ∙ c.max-most.ensures.value))
-    ∙ ap (λ v. sums_of (before ++ v ∷ [])) (to_z-of_z fits) ∙ ap sums_of (sym more)
+pub loop-item-preserved : goal.loop-item-preserved
+loop-item-preserved c = let items : List ℤ = c.as_slice-item-items.result.now in let i : ℕ = c.loop-item.item-index in
+    let item : ℤ = get_or items i (pos 0) in let fits : SFits w64 item = search rules in let x : ℤ = to_z w64 (of_z w64 item) in
+    c.join-sums.ensures _ (take i items) (x ∷ []) (take_more items i (pos 0) c.loop-item-test.true ∙ ap (λ v. take i items ++ v ∷ [])
+    (sym (to_z-of_z fits))) c.loop-item.invariant (sums_of_one x _ _ _ (search rules) (search rules) (search rules))

@@ -1,7 +1,8 @@
 -- The sums so far.
-use Rattle.std.proofs.Common.{◌≡◌, take}
-use Rattle.spindle_examples.specs.Runs.{sums_of}
+use Rattle.std.proofs.Common.{take}
+use Rattle.std.specs.Option.{IfSome}
+use Rattle.spindle_examples.specs.Runs.{AreSums}
 use Rattle.spindle_examples.proofs.runs.RunsDivision.solve.Given as goal
 
-abbrev pub invariant-loop-value : goal.invariant-loop-value
-invariant-loop-value l = l.sums ≡ sums_of (take l.value-index l.value-items)
+abbrev pub invariant-loop-item : goal.invariant-loop-item
+invariant-loop-item l = IfSome l.sums (AreSums (take l.item-index l.item-items))
