@@ -1,7 +1,7 @@
 -- Calls over whole lists: what becomes of parts is what becomes of their list.
 use Rattle.std.proofs.Common.{◌≡◌, ℕ, ◌+◌, ◌<◌, List, [], ◌∷◌, ◌++◌, length, take, drop, get_or, set, map, append_assoc, sym, subst, ap, ◌∙◌, arith}
 use Rattle.std.proofs.lemmas.List.{take_more, drop_more, take_more_set, drop-set-lt}
-use Rattle.std.proofs.lemmas.List.Elements.{All-head, All-tail}
+use Rattle.std.proofs.lemmas.List.Elements.{All-head, All-tail, All-push}
 use Rattle.std.specs.Prelude.{All}
 use Rattle.std.specs.List.{AllZip}
 use Rattle.spindle_parts.specs.Pieces.{joined}
@@ -50,3 +50,9 @@ all_zip_map R f g [] [] z = tt
 all_zip_map R f g [] (b ∷ bs) z = absurd z
 all_zip_map R f g (a ∷ rest) [] z = absurd z
 all_zip_map R f g (a ∷ rest) (b ∷ bs) z = (z.0, all_zip_map R f g rest bs z.1)
+
+-- one more behind what of each element this was read off, and Q holds
+pub one_more : {T P : Type 0} (Q : T → Type 0) (old new : List T) (t : T) (f : T → P) (done : List P) (p : P) → new ≡ old ++ t ∷ [] → map f old ≡ done
+    → f t ≡ p → All Q old → Q t → (map f new ≡ done ++ p ∷ []) × All Q new
+one_more Q old new t f done p pushed so is all own =
+    (ap (map f) pushed ∙ (map_snoc f old t ∙ (λ j. so j ++ is j ∷ [])), subst (All Q) (sym pushed) (All-push Q old t all own))

@@ -60,7 +60,7 @@ slots_of slot_count leader = slot_count leader.post
 
 -- the slots of a lock whose leader has its kind of job's own post, as every caller's has
 abbrev pub lock_slots : {J G K A B C I O N S : Type 0} → SlotLeader J G (LeaderState K A B C) I O N S → ℕ
-lock_slots leader = leader.post.post.slots
+lock_slots leader = leader.post.post.share.slots
 
 -- it leads the same lock
 abbrev pub IsSameLock : {J G P I O N S : Type 0} → (P → ℕ) → (old new : SlotLeader J G P I O N S)

@@ -1,11 +1,10 @@
 //! Locks: a caller opens one for a kind of job, and hands lists of items to its rounds. All that a user names of locks is given
 //! out here.
 //!
-//! Locks with slots: `slot_root` has the calls that open them and `slot_opening` how, `slot_leader` what both kinds of their
-//! leader share, `slot_rounds` and `place_rounds` their rounds, which `spindle_slots` plays. `nested` has how a job opens
-//! them, and `slot_nest` what stands in a child slot then. `lock_of` has the calls that open a lock under the name of their kind of
-//! job. Locks for one call: `one_round` opens one for a round, `folds` for the total of a list, `place_once` for rounds
-//! in place. `attempts` has the rounds in place that may stop.
+//! Locks with slots: `slot_root` has how they open and close, `slot_leader` what both kinds of their leader share, `slot_rounds` and
+//! `place_rounds` their rounds, which `spindle_slots` plays, and `nested` how a job opens them. `lock_of` has the calls that open a
+//! lock under the name of their kind of job. Locks for one call: `one_round` opens one for a round, `folds` for the total of a list.
+//! `attempts` has the rounds in place that may stop.
 
 mod attempt;
 mod attempts;
@@ -13,11 +12,8 @@ pub(crate) mod folds;
 mod lock_of;
 mod nested;
 mod one_round;
-mod place_once;
 pub(crate) mod place_rounds;
 mod slot_leader;
-mod slot_nest;
-mod slot_opening;
 mod slot_root;
 mod slot_rounds;
 
@@ -26,11 +22,10 @@ pub use self::attempts::{Attempting, AttemptsOf, try_one};
 pub(crate) use self::folds::reduce_once;
 pub use self::folds::{Combine, Folds, Part, reduce};
 pub use self::lock_of::LockOf;
-pub use self::one_round::run_one;
-pub use self::place_once::{RoundsInPlace, play_in_place, update_one};
+pub use self::nested::{NestedSlots, UnderInPlace, UnderPieces, UnderSlots};
+pub use self::one_round::{run_one, update_one};
 pub use self::place_rounds::PlaceLeader;
 pub use self::slot_leader::SlotLeader;
-pub use self::slot_nest::{NestedSlots, UnderInPlace, UnderPieces, UnderSlots};
 pub use self::slot_root::{with_slots, with_slots_in_place};
 pub use spindle_slots::job::update::{InPlace, Update, Updates};
 pub use spindle_slots::leader_states::leader_state::LeaderState;

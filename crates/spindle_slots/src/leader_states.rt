@@ -3,4 +3,3 @@
 
 pub mod leader_state;
 pub mod opens_slots;
-pub(crate) mod sealed;

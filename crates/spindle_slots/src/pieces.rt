@@ -6,5 +6,4 @@ pub mod chunk_buffers;
 pub mod in_slots;
 pub mod items;
 pub mod of_kind;
-pub mod output_buffers;
 pub mod slot_piece;

@@ -8,10 +8,8 @@ use crate::checks::{holds, is};
 use crate::gates::Meetings;
 use crate::jobs::{Calls, Counting};
 use crate::sevens::seven_items;
-use spindle::lock::{
-    End, Gate, InPlace, JobCx, Limits, NoGate, PlaceLeader, Pool, RoundsInPlace, Update,
-};
-use spindle::{Fault, play_in_place, update_one, with_slots_in_place};
+use spindle::lock::{End, Gate, InPlace, JobCx, Limits, NoGate, Pool, Update};
+use spindle::{Fault, update_one, with_slots_in_place};
 use std::alloc::Global;
 use std::process::Abort;
 use std::sync::Wait;
@@ -36,30 +34,6 @@ impl Update for Step {
         _cx: &mut JobCx<End>,
     ) -> usize {
         item.wrapping_add(3)
-    }
-}
-
-/// A round over a list of numbers, as a value.
-#[derive(Drop)]
-struct Steps {
-    list: Vec<usize>,
-}
-
-impl RoundsInPlace for Steps {
-    ghost use Rattle.std.specs.List.{AllZip};
-    ghost use Rattle.std.specs.Prelude.{◌≡◌, ◌+◌, ◌%◌, ◌^◌};
-
-    type Kind = InPlace<Step>;
-
-    ghost played = { λ old new. AllZip (λ x y. y ≡ (x + 3) % 2 ^ 64) old.list.items new.list.items };
-
-    fn play<G: Gate, H: Threads + Wait + Sync>(
-        &mut self,
-        rt: &H,
-        alloc: Global,
-        leader: &mut PlaceLeader<Step, G>,
-    ) -> Result<(), Fault> {
-        leader.update_each(rt, alloc, 4, &mut self.list)
     }
 }
 
@@ -148,8 +122,7 @@ fn two_hundred_rounds_in_place_are_as_a_plain_loop(rt: HostRuntime) -> Result<()
     Ok(())
 }
 
-// Of two threads each waits at the gate for the other's job. A lock for rounds as a value has the slots and threads that are asked for:
-// of seven numbers in four jobs three slots make three jobs.
+// Of two threads each waits at the gate for the other's job. Of seven numbers in four jobs three slots make three jobs.
 #[test]
 fn jobs_in_place_meet(rt: HostRuntime) -> Result<(), Fault> {
     let alloc = rt.alloc();
@@ -157,12 +130,9 @@ fn jobs_in_place_meet(rt: HostRuntime) -> Result<(), Fault> {
     let mut list = (0..2).collect(alloc)?;
     step_often(&rt, alloc, &meetings.pool(2), 2, 2, 50, &mut list)?;
     is(&rt, meetings.counts(), (100, 0));
-    let steps = play_in_place(&rt, alloc, &meetings.pool(2), 2, 2, Steps { list })?;
-    holds(&rt, have_stepped(steps.list.as_slice(), 2, 51));
-    is(&rt, meetings.counts(), (102, 0));
     let meetings = Meetings::new();
-    let list = seven_items(alloc)?;
-    play_in_place(&rt, alloc, &meetings.pool(3), 4, 3, Steps { list })?;
+    let mut list = seven_items(alloc)?;
+    step_often(&rt, alloc, &meetings.pool(3), 3, 4, 1, &mut list)?;
     is(&rt, meetings.counts(), (3, 0));
     Ok(())
 }
@@ -188,29 +158,18 @@ fn one_round_in_place_has_the_jobs_asked_for(rt: HostRuntime) -> Result<(), Faul
     Ok(())
 }
 
-// One round over seven numbers, as a value or in one call.
-fn step_once<H: Threads + Wait + Abort + Sync>(
-    rt: &H,
-    alloc: Global,
-    as_value: bool,
-) -> Result<(), Fault> {
+// One round over seven numbers, in one call.
+fn step_once<H: Threads + Wait + Abort + Sync>(rt: &H, alloc: Global) -> Result<(), Fault> {
     let pool = Pool::new(4, Limits::new(), NoGate);
-    let list = seven_items(alloc)?;
-    let list = if as_value {
-        play_in_place(rt, alloc, &pool, 4, 3, Steps { list })?.list
-    } else {
-        update_one::<InPlace<Step>, _, _>(rt, alloc, &pool, 3, list)?
-    };
+    let list = update_one::<InPlace<Step>, _, _>(rt, alloc, &pool, 3, seven_items(alloc)?)?;
     holds(rt, have_stepped(list.as_slice(), 7, 1));
     Ok(())
 }
 
 #[test]
 fn refused_round_in_place_is_played_when_asked_again(rt: HostRuntime) {
-    for as_value in [true, false] {
-        if step_once(&rt, rt.alloc(), as_value).is_err() {
-            holds(&rt, step_once(&rt, rt.alloc(), as_value).is_ok());
-        }
+    if step_once(&rt, rt.alloc()).is_err() {
+        holds(&rt, step_once(&rt, rt.alloc()).is_ok());
     }
 }
 

@@ -1,8 +1,8 @@
 -- How large a lock is.
 use Rattle.std.specs.Prelude.{ℕ, min, max, Option, Some, None}
 use Rattle.spindle_parts.specs.Words.{most_parties}
-use Rattle.spindle_threads.specs.declared.members.Members.{Members}
-use Rattle.spindle_threads.specs.declared.members.Members.TheVariants.{Barrier, Present, Fixed}
+use Rattle.spindle_threads.specs.declared.tables.Members.{Members}
+use Rattle.spindle_threads.specs.declared.tables.Members.TheVariants.{Barrier, Present, Fixed}
 
 -- the threads of a lock: the least of the pool's, the caller's wish, and what a barrier can hold
 abbrev pub lock_threads : (pool wish : ℕ) → ℕ

@@ -5,11 +5,9 @@
 #![tactic(auto)]
 
 pub mod helper_waits;
-pub mod job_site;
 pub mod leader_member;
 pub mod limits;
 pub mod member;
-pub mod members;
 pub mod publish_and_end;
 pub mod seats;
 pub mod signals;

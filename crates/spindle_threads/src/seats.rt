@@ -96,6 +96,24 @@ impl<D: SlotContents> Tables<D> {
         };
         Ok((tables, seats))
     }
+
+    /// A bench for each helper, with seats that are split from the leader's.
+    pub fn spare_seats(
+        &self,
+        alloc: Global,
+        seats: &mut Seats<D>,
+    ) -> Result<Vec<SpareSeats<D>>, AllocError>
+        requires { AreSeatsAt self.now seats.old }
+        ensures seats { AreSeatsAt self.now seats.new }
+        ensures spare_seats { IfOk result (λ spare_seats. All (IsBenchAt self.now) spare_seats.items) }
+        ensures helpers { IfOk result (λ spare_seats. vec_len spare_seats + 1 ≡ self.now.counts.threads) }
+    {
+        let mut spare_seats = Vec::with_capacity(alloc, self.counts.threads())?;
+        for _ in 1..self.counts.threads() {
+            spare_seats.push_reserved(SpareSeats::new(self, seats));
+        }
+        Ok(spare_seats)
+    }
 }
 
 /// What a perch's word is where no seat rests there.
@@ -170,25 +188,5 @@ impl<D: SlotContents> SpareSeats<D> {
         let numbers = tables.numbers.new_seat(&mut seats.numbers);
         let ledger = tables.ledger.new_seat(&mut seats.ledger);
         self.put(round, numbers, ledger);
-    }
-}
-
-impl<D: SlotContents> Tables<D> {
-    /// A bench for each helper, with seats that are split from the leader's.
-    pub fn spare_seats(
-        &self,
-        alloc: Global,
-        seats: &mut Seats<D>,
-    ) -> Result<Vec<SpareSeats<D>>, AllocError>
-        requires { AreSeatsAt self.now seats.old }
-        ensures seats { AreSeatsAt self.now seats.new }
-        ensures spare_seats { IfOk result (λ spare_seats. All (IsBenchAt self.now) spare_seats.items) }
-        ensures helpers { IfOk result (λ spare_seats. vec_len spare_seats + 1 ≡ self.now.counts.threads) }
-    {
-        let mut spare_seats = Vec::with_capacity(alloc, self.counts.threads())?;
-        for _ in 1..self.counts.threads() {
-            spare_seats.push_reserved(SpareSeats::new(self, seats));
-        }
-        Ok(spare_seats)
     }
 }

@@ -1,16 +1,16 @@
 //! What the threads of a lock share, whatever the kind of job: how many they are, rounds, thread numbers, signals, a place to sleep, and
-//! who is there. What the slots of its round table hold is a parameter.
-ghost use Rattle.std.specs.Prelude.{◌≡◌, ◌<◌, Some, ◌≤◌};
+//! who is there. What the slots of its round table hold is a parameter. A job sees of this what names no slots: its site.
+ghost use Rattle.std.specs.Prelude.{◌≡◌, ℕ, ◌<◌, None, Some, ◌≤◌, IfSome};
+ghost use Rattle.std.specs.Option.{ForSome};
 ghost use Rattle.spindle_parts.specs.LedgerSeats.{slot_count};
 
 use crate::MOST_THREADS;
-use crate::job_site::JobSite;
-use crate::members::Members;
 use crate::sleep::Sleep;
 use spindle_parts::numbers::Numbers;
 use spindle_parts::requests::Requests;
+use spindle_rounds::barrier::BarrierInit;
 use spindle_rounds::round::Round;
-use spindle_rounds::round_table::slots::SlotContents;
+use spindle_rounds::round_table::slots::{Bare, SlotContents};
 use std::sync::atomic::{AtomicUsize, Ordering};
 
 /// The tables of a lock.
@@ -49,6 +49,93 @@ impl<D: SlotContents> Tables<D> {
             sleep: &self.sleep,
             index: Some(thread),
         }
+    }
+}
+
+/// What a job sees of its lock, and the number of the thread that runs it, if that has one.
+#[derive(Clone, Copy)]
+pub struct JobSite<'a> {
+    /// How many threads the lock and its pool have.
+    pub counts: ThreadCounts,
+    /// Where the number of those that take part is read.
+    pub members: Members<'a>,
+    /// Where the lock's idle threads sleep.
+    pub sleep: &'a Sleep,
+    /// The number of the thread; none in a job that a leader runs directly.
+    pub index: Option<usize>,
+    ghost numbered: { ForSome index (λ i. i < counts.most) },
+}
+
+impl<'a> JobSite<'a> {
+    ghost use Rattle.spindle_threads.specs.ThreadCounts.{told_of};
+
+    /// The same for a job that a leader runs directly: under no number.
+    pub fn directly(&self) -> JobSite<'a>
+        ensures counts { result.counts ≡ self.now.counts }
+        ensures members { result.members ≡ self.now.members }
+        ensures number { result.index ≡ None }
+    {
+        JobSite {
+            counts: self.counts,
+            members: self.members,
+            sleep: self.sleep,
+            index: None,
+        }
+    }
+
+    /// The same for a job that another job runs directly: the number of threads stays as it is now.
+    pub fn within(&self) -> JobSite<'a>
+        ensures counts { result.counts ≡ self.now.counts }
+        ensures told { let most = self.now.counts.most in (now : ℕ) × (0 < now) × (now ≤ most)
+            × IfSome (told_of self.now.members most) (λ told. now ≡ told)
+            × (told_of result.members most ≡ Some now) }
+        ensures index { result.index ≡ self.now.index }
+    {
+        JobSite {
+            counts: self.counts,
+            members: Members::Fixed(self.current()),
+            sleep: self.sleep,
+            index: self.index,
+        }
+    }
+
+    /// How many threads take part now.
+    pub fn current(&self) -> usize
+        ensures leader { 0 < result }
+        ensures most { result ≤ self.now.counts.most }
+        ensures told { IfSome (told_of self.now.members self.now.counts.most) (λ now. result ≡ now) }
+    {
+        self.members.current(self.counts.most())
+    }
+}
+
+/// Where the number of threads that take part in a lock is read.
+#[derive(Clone, Copy)]
+pub enum Members<'a> {
+    /// At the lock's barrier, at the moment when it is asked for.
+    Barrier(&'a BarrierInit<Bare>),
+    /// At the threads' own count, at the moment when it is asked for.
+    Present(&'a Present),
+    /// Nowhere: it was read before, and stays.
+    Fixed(usize),
+}
+
+impl<'a> Members<'a> {
+    ghost use Rattle.spindle_threads.specs.ThreadCounts.{told_of};
+
+    /// The number, the leader counted, of a lock of so many threads.
+    pub fn current(&self, threads: usize) -> usize
+        requires some { 0 < threads }
+        ensures leader { 0 < result }
+        ensures most { result ≤ threads }
+        ensures told { IfSome (told_of self.now threads) (λ now. result ≡ now) }
+    {
+        let members = match self {
+            Members::Barrier(barrier) => barrier.current_num_threads(),
+            Members::Present(present) => present.threads(),
+            Members::Fixed(members) => *members,
+        };
+        members.max(1).min(threads)
     }
 }
 

@@ -2,7 +2,7 @@
 use Rattle.std.specs.Prelude.{◌≡◌, ◌<◌, ◌≤◌, ℕ, Bool, Option, Some, false, IfSome, if◌then◌else◌}
 use Rattle.spindle_parts.specs.declared.requests.plays.Account.{Account}
 use Rattle.spindle_threads.specs.ThreadCounts.{lock_threads, told_of}
-use Rattle.spindle_threads.specs.declared.job_site.JobSite.{JobSite}
+use Rattle.spindle_threads.specs.declared.tables.JobSite.{JobSite}
 
 -- a pool: its threads, and how many pauses of a wait pass in its locks
 -- before a helper's first look at requests

@@ -10,9 +10,7 @@ use std::thread::Threads;
 
 pub mod context;
 pub mod gate;
-pub mod is_nest;
 pub mod nest;
-pub(crate) mod sealed;
 
 /// A kind of job. It stands where spindle takes a closure that the threads of a lock call.
 ///

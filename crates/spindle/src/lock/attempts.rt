@@ -13,7 +13,7 @@ ghost use Rattle.spindle.specs.Attempts.{AreAttempts, HasFailed, HasRun, IsAttem
 
 use crate::kernels::{Change, change_each};
 use crate::lock::attempt::Attempt;
-use crate::lock::place_once::update_one;
+use crate::lock::one_round::update_one;
 use crate::lock::place_rounds::PlaceLeader;
 use spindle_parts::cut::{Piece, cut};
 use spindle_parts::fault::Fault;

@@ -3,7 +3,7 @@ ghost use Rattle.std.specs.Prelude.{◌≡◌, IfOk, IsOk, OnErr, IsErrOf, fold,
 ghost use Rattle.spindle.specs.Folds.{IsAssociative, IsNeutral, total_of};
 
 use crate::kernels::{Source, parts_of};
-use crate::lock::place_once::update_one;
+use crate::lock::one_round::update_one;
 use spindle_parts::fault::Fault;
 use spindle_parts::lists::SharedList;
 use spindle_slots::job::update::{InPlace, Update};

@@ -5,8 +5,8 @@ ghost use Rattle.spindle_threads.specs.ThreadCounts.{lock_threads};
 ghost use Rattle.spindle_trays.specs.Leaders.{hands_of, threads_of as tray_threads};
 ghost use Rattle.spindle.specs.SlotLeaders.{TakesLeaders, IsLeaderOf};
 
+use crate::lock::nested::UnderPieces;
 use crate::lock::slot_leader::SlotLeader;
-use crate::lock::slot_nest::UnderPieces;
 use crate::lock::{nested, slot_root};
 use spindle_parts::fault::Fault;
 use spindle_rounds::round_table::pieces::PieceSlots;

@@ -1,25 +1,38 @@
-//! How a job opens a lock with slots, whatever they hold. Idle helpers of the job's lock move there, as to those that
-//! `JobCx::with_lock` opens.
-ghost use Rattle.std.specs.Prelude.{◌≡◌, ◌<◌, ◌≤◌, IfOk, OnErr, IsErrOf};
+//! The locks with slots that a job may open, what the threads of one share, and how a job opens them, whatever the slots hold. Idle helpers
+//! of the job's lock move there, as to those that `JobCx::with_lock` opens.
+ghost use Rattle.std.specs.Prelude.{◌≡◌, ◌<◌, ◌≤◌, IfOk, OnErr, IsErrOf, All};
 ghost use Rattle.std.specs.Arc.{arc_value};
 ghost use Rattle.std.specs.Fn.{FnOnceReturnsAtMut};
+ghost use Rattle.spindle_threads.specs.Benches.{IsBenchAt};
+ghost use Rattle.spindle_threads.specs.Opening.{AreSeatsAt};
 ghost use Rattle.spindle_threads.specs.ThreadCounts.{lock_threads};
-ghost use Rattle.spindle.specs.SlotLeaders.{TakesLeaders, IsLeaderOf};
+ghost use Rattle.spindle.specs.SlotLeaders.{TakesLeaders, IsLeaderOf, WasLed};
 
 use crate::lock::slot_leader::SlotLeader;
-use crate::lock::slot_nest::{NestedLeaderStart, NestedSlots, UnderPieces};
+use crate::lock::slot_root::make;
 use spindle_parts::fault::Fault;
-use spindle_rounds::round_table::pieces::PieceSlots;
-use spindle_slots::leader_states::leader_state::LeaderSeats;
+use spindle_rounds::round_table::pieces::{PieceKind, PieceSlots};
+use spindle_slots::job::update::InPlace;
+use spindle_slots::leader_states::leader_state::{LeaderSeats, SlotShare};
 use spindle_slots::leader_states::opens_slots::MakesSlots;
+use spindle_slots::pieces::of_kind::{ChunkOf, PieceOf};
 use spindle_slots::running::in_slots::{RunsPieces, SlotWorkspace};
+use spindle_threads::ThreadCounts;
+use spindle_threads::limits::Idling;
+use spindle_threads::seats::{Seats, SpareSeats};
+use spindle_threads::signals::Signals;
+use spindle_threads::tables::Tables;
 use spindle_trays::job::Job;
-use spindle_trays::job::context::{JobCx, child_slots_of, site_of};
+use spindle_trays::job::context::{JobCx, child_slots_for, site_of};
 use spindle_trays::job::gate::NoGate;
+use spindle_trays::job::nest::{IsNest, Nest};
 use spindle_trays::lock::helper::join_as_leader;
-use spindle_trays::lock::nested::{ChildLease, close};
+use spindle_trays::lock::nested::{
+    Child, ChildLease, ChildSlot, TakesHelpers, close, help_from, make_slots, serve_slots,
+};
 use std::alloc::Global;
-use std::sync::Wait;
+use std::marker::PhantomData;
+use std::sync::{Arc, Wait};
 use std::thread::Threads;
 
 /// Opens a lock whose slots hold A's pieces, runs f with its leader, and closes the lock.
@@ -48,53 +61,145 @@ pub(crate) fn open<
 {
     let site = site_of(cx);
     let counts = site.counts.nested(max_threads);
-    let idling = site.sleep.idling();
-    if let Some(places) = child_slots_of(cx)
-        && counts.threads() > 1
-    {
-        let (child, entry) = NestedSlots::open(alloc, counts, idling, slots)?;
+    if let Some(places) = child_slots_for(cx, counts) {
+        let (child, entry) = NestedSlots::open(alloc, counts, site.sleep.idling(), slots)?;
         let asked = cx.asks.ask(&*child.shared.tables);
-        if let Some(child_lease) = ChildLease::take(rt, places, &child, asked, site.sleep) {
-            let mut leader = take_lead(rt, &*child.shared, &NoGate, entry);
-            let answer = f(&mut leader);
-            close(rt, leader, child_lease);
-            return Ok(answer);
+        if let Some(lease) = ChildLease::take(rt, places, &child, asked, site.sleep) {
+            return Ok(lead(rt, child, entry, Some(lease), f));
         }
     }
-    let (child, entry) = NestedSlots::open(alloc, counts.alone(), idling, slots)?;
-    let mut leader = take_lead(rt, &*child.shared, &NoGate, entry);
-    Ok(f(&mut leader))
+    let (child, entry) = NestedSlots::open(alloc, counts.alone(), site.sleep.idling(), slots)?;
+    Ok(lead(rt, child, entry, None::<ChildLease<'_, ()>>, f))
 }
 
-// The leader of a lock that nobody leads yet.
-fn take_lead<
-    'b,
+// Runs f with the leader of a lock that nobody leads yet, and closes the lock, if it stands in a child slot.
+fn lead<
     J: Job + MakesSlots<P, PieceSlots<A>, SlotWorkspace<J>>,
     A: RunsPieces<J>,
+    R,
+    F: FnOnce(&mut SlotLeader<J, NoGate, P>) -> R,
     P: Drop,
+    N: Drop,
     H: Wait,
 >(
     rt: &H,
-    nested: &'b NestedSlots<SlotWorkspace<J>, A>,
-    gate: &'b NoGate,
+    child: Child<NestedSlots<SlotWorkspace<J>, A>>,
     entry: NestedLeaderStart<A>,
-) -> SlotLeader<'b, J, NoGate, P>
-    requires { arc_value entry.share ≡ arc_value nested.now.tables }
-    ensures { IsLeaderOf J.OpensSlots.slot_count (arc_value nested.now.tables).counts.most entry.slots result }
+    lease: Option<ChildLease<'_, N>>,
+    f: F,
+) -> R
+    requires share { arc_value entry.share.tables ≡ arc_value (arc_value child.shared).tables }
+    requires callable { TakesLeaders J.OpensSlots.slot_count entry.share.slots F.FnOnce f }
+    ensures { let counts = (arc_value entry.share.tables).counts in
+        WasLed J.OpensSlots.slot_count counts.most entry.share.slots F.FnOnce f result }
 {
-    let NestedLeaderStart {
-        share,
-        seats,
-        slots,
-    } = entry;
-    let tables = &*nested.tables;
-    let (post, runner) = join_as_leader::<PieceSlots<A>, J, NoGate, SlotWorkspace<J>, H>(
-        rt,
-        tables,
-        &nested.workspace,
-        gate,
-        seats,
-    );
-    let mut leader_seats = Some(LeaderSeats::new(share, post, slots));
-    SlotLeader::new(runner, J::settle(&mut leader_seats))
+    let NestedLeaderStart { share, seats } = entry;
+    let (tables, workspace, gate) = (&*child.shared.tables, &child.shared.workspace, NoGate);
+    let (post, runner) = join_as_leader::<_, J, _, _, H>(rt, tables, workspace, &gate, seats);
+    let mut leader_seats = Some(LeaderSeats::new(share, post));
+    let mut leader = SlotLeader::new(runner, J::settle(&mut leader_seats));
+    let answer = f(&mut leader);
+    if let Some(lease) = lease {
+        close(rt, leader, lease);
+    }
+    answer
+}
+
+/// Nested locks with slots over jobs of kind J, whose slots hold A's pieces: `UnderSlots<K>` or `UnderInPlace<M>`.
+pub struct UnderPieces<J, A> {
+    kind: PhantomData<(J, A)>,
+}
+
+/// Nested locks with slots over jobs of kind K.
+pub type UnderSlots<K> = UnderPieces<K, PieceOf<K>>;
+
+/// Nested locks whose rounds update items of the kind M in place.
+pub type UnderInPlace<M> = UnderPieces<InPlace<M>, ChunkOf<InPlace<M>>>;
+
+/// What the threads of a nested lock with slots share: its tables, what stands beside them, and seats for its helpers. W is
+/// `SlotWorkspace<J>` for its kind of job J; a bound on it here would be passed on with each lock that stands in another.
+#[derive(Drop)]
+pub struct NestedSlots<W, A: PieceKind> {
+    tables: Arc<Tables<PieceSlots<A>>>,
+    workspace: W,
+    spare_seats: Vec<SpareSeats<PieceSlots<A>>>,
+    ghost seated: { All (IsBenchAt (arc_value tables)) spare_seats.items },
+}
+
+/// What the leader of a nested lock with slots comes with: a share of the lock's tables, and its seats there.
+#[derive(Drop)]
+struct NestedLeaderStart<A: PieceKind> {
+    share: SlotShare<PieceSlots<A>>,
+    seats: Seats<PieceSlots<A>>,
+    ghost seated: { AreSeatsAt (arc_value share.tables) seats },
+}
+
+impl<J: Job, A: RunsPieces<J>> NestedSlots<SlotWorkspace<J>, A> {
+    // A nested lock of so many slots, and what its leader comes with.
+    fn open(
+        alloc: Global,
+        counts: ThreadCounts,
+        idling: Idling,
+        slots: usize,
+    ) -> Result<(Child<Self>, NestedLeaderStart<A>), Fault>
+        requires slots { (1 ≤ slots) × (slots ≤ 4294967295) }
+        ensures share { IfOk result (λ t.
+            arc_value t.1.share.tables ≡ arc_value (arc_value t.0.shared).tables) }
+        ensures counts { IfOk result (λ t. (arc_value t.1.share.tables).counts ≡ counts) }
+        ensures slots { IfOk result (λ t. t.1.share.slots ≡ slots) }
+        ensures idling { IfOk result (λ t. (arc_value t.1.share.tables).sleep.idling ≡ idling) }
+        ensures memory { OnErr result (IsErrOf result Fault.Memory) }
+    {
+        let children = <J::Inner as Nest>::make(alloc, counts.threads())?;
+        let (tables, mut seats) = make::<J, A>(alloc, counts, idling, slots)?;
+        let spare_seats = tables.spare_seats(alloc, &mut seats)?;
+        let tables = Arc::new(alloc, tables)?;
+        let shared_tables = Arc::try_clone(&tables)?;
+        let share = SlotShare {
+            tables: shared_tables,
+            slots,
+        };
+        let nested = NestedSlots {
+            tables,
+            workspace: SlotWorkspace::new(children),
+            spare_seats,
+        };
+        let shared = Arc::new(alloc, nested)?;
+        let entry = NestedLeaderStart { share, seats };
+        Ok((Child { shared }, entry))
+    }
+}
+
+impl<J: Job, A: RunsPieces<J>> TakesHelpers for NestedSlots<SlotWorkspace<J>, A> {
+    fn help<H: Threads + Wait + Sync>(&self, rt: &H, alloc: Global) {
+        let spare_seats = self.spare_seats.as_slice();
+        let tables = self.tables.as_ref();
+        help_from::<_, J, SlotWorkspace<J>, H>(rt, alloc, tables, &self.workspace, spare_seats);
+    }
+}
+
+impl<J: Job, A: RunsPieces<J>> IsNest for UnderPieces<J, A> {}
+
+impl<J: Job, A: RunsPieces<J>> Nest for UnderPieces<J, A> {
+    type ChildSlots = Vec<ChildSlot<NestedSlots<SlotWorkspace<J>, A>>>;
+
+    fn slot_count(threads: usize) -> usize {
+        threads
+    }
+
+    fn make(
+        alloc: Global,
+        threads: usize,
+    ) -> Result<Vec<ChildSlot<NestedSlots<SlotWorkspace<J>, A>>>, Fault> {
+        make_slots(alloc, threads)
+    }
+
+    fn serve<H: Threads + Wait + Sync>(
+        rt: &H,
+        alloc: Global,
+        slots: &Vec<ChildSlot<NestedSlots<SlotWorkspace<J>, A>>>,
+        signals: &mut Signals<'_>,
+    ) {
+        serve_slots(rt, alloc, slots, signals);
+    }
 }

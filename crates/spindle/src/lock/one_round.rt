@@ -1,12 +1,15 @@
-//! One round in a lock of its own: for callers who run one list, and no other in the same lock.
-ghost use Rattle.std.specs.Prelude.{◌≡◌, ◌<◌, ◌≤◌, IfOk, IfErr, vec_len};
+//! One round in a lock of its own, with trays or in place: for callers who run one list, and no other in the same lock.
+ghost use Rattle.std.specs.Prelude.{◌≡◌, ◌<◌, ◌≤◌, IfOk, IfErr, OnErr, IsErrOf, vec_len};
 ghost use Rattle.std.specs.List.{AllZip};
 ghost use Rattle.spindle_trays.specs.Leaders.{hands_of};
 ghost use Rattle.spindle_threads.specs.ThreadCounts.{lock_threads};
 ghost use Rattle.spindle.specs.OneRound.{asked_jobs};
+ghost use Rattle.spindle.specs.SlotLeaders.{IsForMemory};
 ghost use Rattle.spindle_trays.specs.Rounds.{job_count, IsRefusal};
 
+use crate::lock::slot_root::with_slots_in_place;
 use spindle_parts::fault::Fault;
+use spindle_slots::job::update::Updates;
 use spindle_trays::job::Job;
 use spindle_trays::job::gate::Gate;
 use spindle_trays::job::nest::Nest;
@@ -43,14 +46,12 @@ where
     if items.is_empty() {
         return Ok(Vec::new(alloc));
     }
-    let threads = pool.max_num_threads();
-    let asked = if n_jobs == 0 { threads } else { n_jobs };
-    let jobs = items.len().min(asked.min(MOST_JOBS));
+    let (jobs, threads) = size_of::<J>(pool.max_num_threads(), n_jobs, items.len());
     with_lock::<J, _, _, _, _, _>(
         rt,
         alloc,
         pool,
-        wished_threads::<J>(threads, jobs),
+        threads,
         |leader|
             requires { 0 < jobs }
             ensures answer { IfOk result (λ outputs. AllZip J.meets items.items outputs.items) }
@@ -60,14 +61,61 @@ where
     )?
 }
 
-/// The threads to ask for where a lock has one round of so many jobs: one a job, or all of the pool
-/// where the jobs open locks, to which idle threads go.
-pub(crate) fn wished_threads<J: Job>(pool: usize, jobs: usize) -> usize
-    ensures { jobs ≤ result }
+/// Opens a lock over J, which is `InPlace<M>` for a kind M of updating, updates the items in one round of `n_jobs` jobs, and closes the
+/// lock. Where `n_jobs` is 0, there are as many jobs as the pool has threads. What becomes of an item stands where the item stood.
+///
+/// The lock has as many threads as that of `run_one`. Its helpers start and end with the call, so
+/// rounds that follow each other belong into one lock. No items are no job: that takes no memory and
+/// opens no lock. A refusal, for memory alone, gives the items up.
+pub fn update_one<J: Updates + Send, G: Gate + Sync, H: Threads + Wait + Sync>(
+    rt: &H,
+    alloc: Global,
+    pool: &Pool<G>,
+    n_jobs: usize,
+    mut items: Vec<J::Item>,
+) -> Result<Vec<J::Item>, Fault>
+where
+    J::In: Send + Sync,
+    J::Out: Send,
+    <J as Updates>::Item: Send,
+    J::Inner: Send,
+    <J::Inner as Nest>::ChildSlots: Send + Sync,
+    ensures updated { IfOk result (λ new. AllZip J.updated items.items new.items) }
+    ensures refused { IsForMemory (vec_len items) result }
 {
+    if items.is_empty() {
+        return Ok(items);
+    }
+    let (jobs, threads) = size_of::<J>(pool.max_num_threads(), n_jobs, items.len());
+    with_slots_in_place::<J, G, Result<Vec<J::Item>, Fault>, _, _, H>(
+        rt,
+        alloc,
+        pool,
+        threads,
+        jobs,
+        |leader| -> Result<Vec<J::Item>, Fault>
+            ensures updated { IfOk result (λ new. AllZip J.updated items.items new.items) }
+            ensures memory { OnErr result (IsErrOf result Fault.Memory) }
+        {
+            leader.update_each(rt, alloc, items.len(), &mut items)?;
+            Ok(items)
+        },
+    )?
+}
+
+// The jobs of one round over so many items, where 0 asks for one a thread of the pool, and the threads to ask for: one a job, or all of
+// the pool where the jobs open locks, to which idle threads go.
+fn size_of<J: Job>(pool: usize, n_jobs: usize, items: usize) -> (usize, usize)
+    requires some { (0 < pool) × (0 < items) }
+    ensures jobs { result.0 ≡ job_count items (asked_jobs pool n_jobs) }
+    ensures some { 0 < result.0 }
+    ensures threads { result.0 ≤ result.1 }
+{
+    let asked = if n_jobs == 0 { pool } else { n_jobs };
+    let jobs = items.min(asked.min(MOST_JOBS));
     if J::Inner::slot_count(pool) == 0 {
-        jobs
+        (jobs, jobs)
     } else {
-        pool.max(jobs)
+        (jobs, pool.max(jobs))
     }
 }

@@ -7,8 +7,7 @@ ghost use Rattle.std.specs.Arc.{arc_value};
 ghost use Rattle.spindle_rounds.specs.RoundConditions.{MayFill};
 ghost use Rattle.spindle_rounds.specs.Seating.{HasSlots};
 
-use crate::leader_states::opens_slots::{MakesSlots, OpensSlots};
-use crate::leader_states::sealed::HasLeaderState;
+use crate::leader_states::opens_slots::{HasLeaderState, MakesSlots, OpensSlots};
 use crate::pieces::of_kind::Reuses;
 use crate::running::in_slots::{RunsPieces, SlotWorkspace};
 use spindle_parts::fault::Fault;
@@ -37,14 +36,14 @@ impl<J: Job, A: RunsPieces<J>> OpensSlots<LeaderState<A>> for J {
 
     ghost view = { λ post. view_in post.post.stance };
 
-    ghost slot_count = { λ post. post.post.slots };
+    ghost slot_count = { λ post. post.post.share.slots };
 
     fn slots(post: &LeaderState<A>) -> usize {
         post.post.slots()
     }
 
     fn wake<H: Wait>(rt: &H, post: &LeaderState<A>) {
-        post.post.tables.sleep.wake_for_news(rt);
+        post.post.share.tables.sleep.wake_for_news(rt);
     }
 
     fn leave<H: Wait>(rt: &H, post: LeaderState<A>) {
@@ -69,87 +68,75 @@ impl<J: Job, A: RunsPieces<J>> MakesSlots<LeaderState<A>, PieceSlots<A>, SlotWor
     }
 }
 
-/// A leader that stands at its barrier, and has done nothing with the slots: its share of the tables, and what it keeps.
+/// A share of the tables of a lock with slots, and how many slots there are.
 #[derive(Drop)]
-pub struct LeaderSeats<D: SlotContents> {
-    pub(crate) tables: Arc<Tables<D>>,
-    pub(crate) stance: DetachedParty<D>,
-    pub(crate) slots: usize,
-    ghost stands: { StandsAt (arc_value tables) stance },
-    ghost hand: { stance.seat.me.1 ≡ [] },
-    ghost board: { stance.seat.me.0.board ≡ [] },
+pub struct SlotShare<D: SlotContents> {
+    pub tables: Arc<Tables<D>>,
+    pub slots: usize,
     ghost many: { HasSlots (arc_value tables).round.init slots },
     ghost few: { (1 ≤ slots) × (slots ≤ 4294967295) },
 }
 
+/// A leader that stands at its barrier, and has done nothing with the slots: its share of the tables, and what it keeps.
+#[derive(Drop)]
+pub struct LeaderSeats<D: SlotContents> {
+    pub(crate) share: SlotShare<D>,
+    pub(crate) stance: DetachedParty<D>,
+    ghost stands: { StandsAt (arc_value share.tables) stance },
+    ghost hand: { stance.seat.me.1 ≡ [] },
+    ghost board: { stance.seat.me.0.board ≡ [] },
+}
+
 impl<D: SlotContents> LeaderSeats<D> {
     /// The leader of this post.
-    pub fn new(tables: Arc<Tables<D>>, post: LeaderMember<'_, D>, slots: usize) -> LeaderSeats<D>
-        requires tables { arc_value tables ≡ post.post.tables.now }
+    pub fn new(share: SlotShare<D>, post: LeaderMember<'_, D>) -> LeaderSeats<D>
+        requires tables { arc_value share.tables ≡ post.post.tables.now }
         requires fresh { let seat = post.post.barrier.seat in
             (seat.me.1 ≡ []) × (seat.me.0.board ≡ []) }
-        requires slots { HasSlots post.post.tables.now.round.init slots
-            × (1 ≤ slots) × (slots ≤ 4294967295) }
-        ensures { result.slots ≡ slots }
+        ensures { result.share.slots ≡ share.slots }
     {
         let stance = post.part();
-        LeaderSeats {
-            tables,
-            stance,
-            slots,
-        }
+        LeaderSeats { share, stance }
     }
 }
 
 /// The post of a leader that holds all slots between its rounds.
 #[derive(Drop)]
 pub struct SlotMember<A: PieceKind> {
-    pub(crate) tables: Arc<Tables<PieceSlots<A>>>,
-    pub(crate) slots: usize,
+    pub(crate) share: SlotShare<PieceSlots<A>>,
     pub(crate) stance: Option<DetachedParty<PieceSlots<A>>>,
     ghost there: { IsSome stance },
-    ghost stands: { ForSome stance (λ s. StandsAt (arc_value tables) s) },
-    ghost holds: { ForSome stance (λ s. HoldsEmpty slots s) },
-    ghost many: { HasSlots (arc_value tables).round.init slots },
-    ghost few: { (1 ≤ slots) × (slots ≤ 4294967295) },
+    ghost stands: { ForSome stance (λ s. StandsAt (arc_value share.tables) s) },
+    ghost holds: { ForSome stance (λ s. HoldsEmpty share.slots s) },
 }
 
 impl<A: PieceKind> SlotMember<A> {
     /// The post of a leader that comes: it takes the slots.
     pub(crate) fn new(leader_seats: LeaderSeats<PieceSlots<A>>) -> SlotMember<A>
-        ensures { result.slots ≡ leader_seats.slots }
+        ensures { result.share.slots ≡ leader_seats.share.slots }
     {
-        let LeaderSeats {
-            tables,
-            mut stance,
-            slots,
-        } = leader_seats;
-        tables.round.hold_slots(stance.seat(), slots);
+        let LeaderSeats { share, mut stance } = leader_seats;
+        share.tables.round.hold_slots(stance.seat(), share.slots);
         SlotMember {
-            tables,
-            slots,
+            share,
             stance: Some(stance),
         }
     }
 
     /// How many slots there are.
     pub(crate) fn slots(&self) -> usize
-        ensures number { result ≡ self.now.slots }
+        ensures number { result ≡ self.now.share.slots }
         ensures range { (1 ≤ result) × (result ≤ 4294967295) }
         ensures between { MayFill (view_in self.now.stance) }
     {
-        self.slots
+        self.share.slots
     }
 
     /// Leaves the barrier. The slots go with the post.
     pub(crate) fn leave<H: Wait>(self, rt: &H) {
-        let SlotMember {
-            tables,
-            slots: _,
-            stance,
-        } = self;
+        let SlotMember { share, stance } = self;
         let Some(stance) = stance else { unreachable!() };
-        let tables: &Tables<PieceSlots<A>> = &*tables;
+        let tables: &Tables<PieceSlots<A>> = &*share.tables;
         let barrier = tables.round.resume(stance);
         drop(Member::new(tables, barrier, 0).leave(rt));
     }

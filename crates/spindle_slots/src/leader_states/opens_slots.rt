@@ -8,7 +8,6 @@ ghost use Rattle.spindle_rounds.specs.declared.round_table.view.View.{View};
 ghost use Rattle.spindle_rounds.specs.RoundConditions.{MayFill};
 
 use crate::leader_states::leader_state::LeaderSeats;
-use crate::leader_states::sealed::HasLeaderState;
 use spindle_parts::fault::Fault;
 use spindle_rounds::round_table::pieces::PieceSlots;
 use spindle_rounds::round_table::slots::SlotContents;
@@ -16,8 +15,11 @@ use spindle_trays::job::Job;
 use std::alloc::Global;
 use std::sync::Wait;
 
-/// The kinds of jobs whose locks with slots have a leader's post of type P. Each kind of job has one, `SlotLeaderState<J>`,
-/// which a caller leaves to the compiler; the trait's calls are the library's own, and nobody else can implement it.
+/// What `OpensSlots` is implemented for. `spindle` doesn't give it out.
+pub trait HasLeaderState<P> {}
+
+/// The kinds of jobs whose locks with slots have a leader's state of type P. Each kind of job has one, `SlotLeaderState<J>`, which a
+/// caller leaves to the compiler; the trait's calls are the library's own, and who names `spindle` alone can't implement it.
 pub trait OpensSlots<P>: Job + HasLeaderState<P> {
     /// What a party notes of the piece that it has begun.
     type Note;
@@ -50,5 +52,5 @@ pub trait MakesSlots<P, D: SlotContents, L>: OpensSlots<P> {
     /// The post of a leader that has joined its barrier, and has done nothing with the slots.
     fn settle(leader_seats: &mut Option<LeaderSeats<D>>) -> P
         requires { IsSome leader_seats.old }
-        ensures { ForSome leader_seats.old (λ n. Self.OpensSlots.slot_count result ≡ n.slots) };
+        ensures { ForSome leader_seats.old (λ n. Self.OpensSlots.slot_count result ≡ n.share.slots) };
 }

@@ -9,7 +9,7 @@ ghost use Rattle.spindle_slots.specs.SlotPieces.{IsPieceOf, all_items, pieces_of
 
 use crate::leader_states::leader_state::SlotTables;
 use crate::pieces::of_kind::PieceOf;
-use crate::pieces::output_buffers::OutputBuffers;
+use crate::pieces::slot_piece::OutputBuffers;
 use spindle_parts::fault::Fault;
 use spindle_parts::lists::shared::SharedList;
 use spindle_rounds::round_table::{Seat, pieces};

@@ -1,7 +1,8 @@
 //! A piece as the slot of its number holds it, and what it was run to: one item, or many.
 //!
 //! A piece of one item is the item itself: no list is shared for it, nothing is counted, and what becomes of it needs no list either.
-//! A longer piece of a round over a list is a run of the list that all pieces share, with room for its outputs.
+//! A longer piece of a round over a list is a run of the list that all pieces share, with room for its outputs. A leader keeps that room
+//! from round to round: a round of a size that was played before takes no memory for the outputs of its pieces.
 ghost use Rattle.std.specs.Prelude.{◌≡◌, ◌+◌, ◌≤◌, ◌++◌, [], IfOk, length, vec_len, vec_capacity};
 ghost use Rattle.spindle_slots.specs.SlotPieces.{all_of};
 
@@ -124,6 +125,52 @@ impl<T, U> OneOr<U, Outputs<T, U>> {
                 outputs.append(&mut parts.outputs).unwrap();
                 Some(parts)
             }
+        }
+    }
+}
+
+/// For each slot that had a piece of many items a block with room for the outputs of its pieces.
+#[derive(Drop)]
+pub struct OutputBuffers<T, U> {
+    blocks: Vec<Option<Box<Parts<T, U>>>>,
+}
+
+impl<T: Drop, U: Drop> OutputBuffers<T, U> {
+    /// The rooms of no slot. Takes no memory.
+    pub(crate) fn new(alloc: Global) -> OutputBuffers<T, U> {
+        OutputBuffers {
+            blocks: Vec::new(alloc),
+        }
+    }
+
+    /// Sees that so many slots have a place for their rooms.
+    pub(crate) fn furnish(&mut self, slots: usize) -> Result<(), AllocError> {
+        for _ in self.blocks.len()..slots {
+            self.blocks.push(None)?;
+        }
+        Ok(())
+    }
+
+    /// Takes the room of a slot, or a new one where it has none.
+    pub(crate) fn take(
+        &mut self,
+        alloc: Global,
+        slot: usize,
+    ) -> Result<Box<Parts<T, U>>, AllocError> {
+        if let Some(place) = self.blocks.get_mut(slot)
+            && let Some(room) = place.take()
+        {
+            return Ok(room);
+        }
+        Ok(Box::new(alloc, Parts::new(alloc))?)
+    }
+
+    /// Keeps the room of a slot, where its piece had any.
+    pub(crate) fn keep(&mut self, slot: usize, room: Option<Box<Parts<T, U>>>) {
+        if room.is_some()
+            && let Some(place) = self.blocks.get_mut(slot)
+        {
+            *place = room;
         }
     }
 }

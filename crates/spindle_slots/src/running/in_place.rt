@@ -16,7 +16,7 @@ use crate::pieces::chunk::{Chunk, Lists, Updated};
 use crate::pieces::chunk_buffers::ChunkBuffers;
 use crate::pieces::of_kind::ChunkOf;
 use crate::pieces::slot_piece::OneOr;
-use crate::running::in_slots::RunsPieces;
+use crate::running::in_slots::{RunsPieces, play_held};
 use spindle_parts::fault::Fault;
 use spindle_rounds::barrier::Barrier;
 use spindle_rounds::round_table::pieces::PieceSlots;
@@ -53,7 +53,7 @@ impl<'t, J: Updates> SlotTables<'t, PieceSlots<ChunkOf<J>>> {
     {
         let round = &self.tables.round;
         self.fill_in_place(barrier.seat(), store, jobs, items);
-        self.play_held(rt, alloc, barrier, runner, jobs as u64);
+        play_held(rt, alloc, self, barrier, runner, jobs as u64);
         for slot in 0..jobs {
             let answer = round.take_answer(barrier.seat(), slot);
             store.keep_ready(answer.unload(items));
@@ -226,21 +226,21 @@ impl<J: Updates> SlotMember<ChunkOf<J>> {
         jobs: usize,
         items: &mut Vec<J::Item>,
     )
-        requires jobs { (2 ≤ jobs) × (jobs ≤ vec_len items.old) × (jobs ≤ self.old.slots) }
+        requires jobs { (2 ≤ jobs) × (jobs ≤ vec_len items.old) × (jobs ≤ self.old.share.slots) }
         requires ready { jobs < vec_len items.old → IsReady (vec_len items.old) jobs
             store.old.ready.items store.old.chunks.items (vec_capacity store.old.chunks) }
         ensures updated { AllZip J.updated items.old.items items.new.items }
         ensures played { PlayedRound jobs (view_in self.old.stance) (view_in self.new.stance) }
-        ensures slots { self.new.slots ≡ self.old.slots }
+        ensures slots { self.new.share.slots ≡ self.old.share.slots }
     {
         let Some(stance) = self.stance.take() else {
             unreachable!()
         };
-        let tables: &Tables<PieceSlots<ChunkOf<J>>> = &*self.tables;
+        let tables: &Tables<PieceSlots<ChunkOf<J>>> = &*self.share.tables;
         let mut barrier = tables.round.resume(stance);
         let table = SlotTables {
             tables,
-            slots: self.slots,
+            slots: self.share.slots,
         };
         table.update(rt, alloc, &mut barrier, runner, store, jobs, items);
         self.stance = Some(barrier.part());

@@ -18,9 +18,8 @@ use spindle_rounds::round::publishing::PublishedRound;
 use spindle_rounds::round_table::Seat;
 use spindle_rounds::round_table::pieces::{PieceKind, PieceSlots};
 use spindle_threads::member::Member;
-use spindle_threads::members::Members;
 use spindle_threads::publish_and_end::{end_round, publish_held};
-use spindle_threads::tables::Tables;
+use spindle_threads::tables::{Members, Tables};
 use spindle_trays::job::Job;
 use spindle_trays::job::gate::Gate;
 use spindle_trays::job::nest::Nest;
@@ -54,47 +53,42 @@ pub(crate) struct SlotWork<'r, 'a, J: Job, G: Gate> {
     pub(crate) leads: bool,
 }
 
-impl<'t, A: PieceKind> SlotTables<'t, PieceSlots<A>> {
-    /// A leader's round over the pieces in its slots: they are published, all threads run them, and after the round's end the
-    /// leader takes all slots out.
-    pub(crate) fn play_held<J: Job, G: Gate, H: Threads + Wait + Sync>(
-        &self,
-        rt: &H,
-        alloc: Global,
-        barrier: &mut Barrier<'_, PieceSlots<A>>,
-        runner: &mut Runner<'_, J, G>,
-        jobs: u64,
-    )
-    where
-        A: RunsPieces<J>,
-        requires leads { LeadsAt self.now.tables.now barrier.old }
-        requires pieces { Turning IsEmpty IsPiece self.now.slots jobs barrier.old.seat.me.1 }
-        requires counted { (2 ≤ jobs) × (jobs ≤ 4294967295) × (jobs ≤ self.now.slots) }
-        ensures leads { LeadsAt self.now.tables.now barrier.new }
-        ensures same { Keeps barrier.old barrier.new }
-        ensures answered { PlayedPieces A.answers self.now.slots jobs
-            barrier.old.seat.me barrier.new.seat.me }
-        ensures played { PlayedRound jobs barrier.old.seat.me.0 barrier.new.seat.me.0 }
-    {
-        let tables = self.tables;
-        publish_held(rt, tables, barrier.seat(), &mut runner.signals, jobs);
-        let claimer = Claimer {
-            round: &tables.round,
-            thread: 0,
-            task: PublishedRound {
-                jobs,
-                may_stop: false,
-            },
-        };
-        let work = SlotWork {
-            runner,
-            alloc,
-            leads: true,
-        };
-        drop(claimer.work(rt, barrier.seat(), work));
-        end_round(rt, tables, barrier);
-        tables.round.take_answered(barrier.seat(), jobs);
-    }
+/// A leader's round over the pieces in its slots: they are published, all threads run them, and after the round's end the leader
+/// takes all slots out.
+pub(crate) fn play_held<A: RunsPieces<J>, J: Job, G: Gate, H: Threads + Wait + Sync>(
+    rt: &H,
+    alloc: Global,
+    table: &SlotTables<'_, PieceSlots<A>>,
+    barrier: &mut Barrier<'_, PieceSlots<A>>,
+    runner: &mut Runner<'_, J, G>,
+    jobs: u64,
+)
+    requires leads { LeadsAt table.now.tables.now barrier.old }
+    requires pieces { Turning IsEmpty IsPiece table.now.slots jobs barrier.old.seat.me.1 }
+    requires counted { (2 ≤ jobs) × (jobs ≤ 4294967295) × (jobs ≤ table.now.slots) }
+    ensures leads { LeadsAt table.now.tables.now barrier.new }
+    ensures same { Keeps barrier.old barrier.new }
+    ensures answered { PlayedPieces A.answers table.now.slots jobs
+        barrier.old.seat.me barrier.new.seat.me }
+    ensures played { PlayedRound jobs barrier.old.seat.me.0 barrier.new.seat.me.0 }
+{
+    publish_held(rt, table.tables, barrier.seat(), &mut runner.signals, jobs);
+    let claimer = Claimer {
+        round: &table.tables.round,
+        thread: 0,
+        task: PublishedRound {
+            jobs,
+            may_stop: false,
+        },
+    };
+    let work = SlotWork {
+        runner,
+        alloc,
+        leads: true,
+    };
+    drop(claimer.work(rt, barrier.seat(), work));
+    end_round(rt, table.tables, barrier);
+    table.tables.round.take_answered(barrier.seat(), jobs);
 }
 
 impl<'r, 'a, J: Job, G: Gate, A: RunsPieces<J>> Work<PieceSlots<A>> for SlotWork<'r, 'a, J, G> {

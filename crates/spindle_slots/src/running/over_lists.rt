@@ -13,9 +13,8 @@ use crate::leader_states::leader_state::{LeaderState, SlotMember, SlotTables};
 use crate::leader_states::opens_slots::OpensSlots;
 use crate::pieces::items::FillsSlots;
 use crate::pieces::of_kind::PieceOf;
-use crate::pieces::output_buffers::OutputBuffers;
-use crate::pieces::slot_piece::{Batch, OneOr, Outputs};
-use crate::running::in_slots::RunsPieces;
+use crate::pieces::slot_piece::{Batch, OneOr, OutputBuffers, Outputs};
+use crate::running::in_slots::{RunsPieces, play_held};
 use spindle_parts::fault::Fault;
 use spindle_rounds::barrier::Barrier;
 use spindle_rounds::round_table::pieces::PieceSlots;
@@ -55,7 +54,7 @@ impl<'t, J: Job> SlotTables<'t, PieceSlots<PieceOf<J>>> {
     {
         let pieces = items.pieces();
         items.fill(alloc, self, barrier.seat(), rooms)?;
-        self.play_held(rt, alloc, barrier, runner, pieces as u64);
+        play_held(rt, alloc, self, barrier, runner, pieces as u64);
         let round = &self.tables.round;
         for slot in 0..pieces {
             let answer = round.take_answer(barrier.seat(), slot);
@@ -145,7 +144,7 @@ impl<J: Job> SlotMember<PieceOf<J>> {
         rooms: &mut OutputBuffers<J::In, J::Out>,
         outputs: &mut Vec<J::Out>,
     ) -> Result<(), Fault>
-        requires jobs { (2 ≤ S.pieces items.old) × (S.pieces items.old ≤ self.old.slots) }
+        requires jobs { (2 ≤ S.pieces items.old) × (S.pieces items.old ≤ self.old.share.slots) }
         requires empty { outputs.old.items ≡ [] }
         requires room { length (S.items items.old) ≤ vec_capacity outputs.old }
         ensures answered { OnOk result (AllZip J.meets (S.items items.old) outputs.new.items) }
@@ -153,16 +152,16 @@ impl<J: Job> SlotMember<PieceOf<J>> {
         ensures played { OnOk result (PlayedRound (S.pieces items.old)
             (view_in self.old.stance) (view_in self.new.stance)) }
         ensures left { OnErr result (view_in self.new.stance ≡ view_in self.old.stance) }
-        ensures slots { self.new.slots ≡ self.old.slots }
+        ensures slots { self.new.share.slots ≡ self.old.share.slots }
     {
         let Some(stance) = self.stance.take() else {
             unreachable!()
         };
-        let tables: &Tables<PieceSlots<PieceOf<J>>> = &*self.tables;
+        let tables: &Tables<PieceSlots<PieceOf<J>>> = &*self.share.tables;
         let mut barrier = tables.round.resume(stance);
         let table = SlotTables {
             tables,
-            slots: self.slots,
+            slots: self.share.slots,
         };
         let played = table.play(rt, alloc, &mut barrier, runner, items, rooms, outputs);
         self.stance = Some(barrier.part());

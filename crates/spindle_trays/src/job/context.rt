@@ -2,14 +2,13 @@
 //!
 //! A job sees of its context what the methods tell. By the functions and `Asks` the crates above open locks in jobs, and `spindle`
 //! doesn't give them out.
-ghost use Rattle.std.specs.Prelude.{◌≡◌, ◌+◌, ◌<◌, ◌≤◌, IfSome, is_some};
+ghost use Rattle.std.specs.Prelude.{◌≡◌, ◌+◌, ◌<◌, ◌≤◌, IfSome};
 
 use crate::job::nest::Nest;
 use spindle_rounds::round_table::slots::SlotContents;
 use spindle_threads::ThreadCounts;
-use spindle_threads::job_site::JobSite;
 use spindle_threads::signals::{HelperRequest, Signals};
-use spindle_threads::tables::Tables;
+use spindle_threads::tables::{JobSite, Tables};
 use std::marker::Model;
 
 /// The context of a job whose kind has the inner nest N.
@@ -124,9 +123,10 @@ pub fn site_of<'a, N: Nest>(cx: &JobCx<'a, N>) -> JobSite<'a>
     cx.site
 }
 
-/// The child slots in which the locks stand that a job opens.
-pub fn child_slots_of<'a, N: Nest>(cx: &JobCx<'a, N>) -> Option<&'a N::ChildSlots>
-    ensures { is_some result ≡ cx.now.has_slots }
-{
-    cx.slots
+/// The child slots for a lock of so many threads that the job opens, where helpers may come to it.
+pub fn child_slots_for<'a, N: Nest>(
+    cx: &JobCx<'a, N>,
+    counts: ThreadCounts,
+) -> Option<&'a N::ChildSlots> {
+    if counts.threads() > 1 { cx.slots } else { None }
 }

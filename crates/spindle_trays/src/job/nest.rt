@@ -6,12 +6,14 @@ ghost use Rattle.std.specs.Prelude.{OnErr, IsErrOf};
 ghost use denote.Param.Send.{IsSync};
 ghost use Rattle.spindle_threads.specs.Accounts.{IsSameThread};
 
-use crate::job::is_nest::IsNest;
 use spindle_parts::fault::Fault;
 use spindle_threads::signals::Signals;
 use std::alloc::Global;
 use std::sync::Wait;
 use std::thread::Threads;
+
+/// What `Nest` is implemented for: by the crate above too, whose locks with slots are nests of their own. `spindle` doesn't give it out.
+pub trait IsNest {}
 
 /// The locks that a job may open. A user names `End` or `Under<K>`, or of the crate above `UnderSlots<K>` or `UnderInPlace<M>`. The
 /// trait's calls are the library's own, and who names `spindle` alone can't implement it.

@@ -24,15 +24,8 @@ use std::sync::Wait;
 use std::thread::Threads;
 
 /// A helper's life, from its number to its end. Its seats come back.
-pub(crate) fn help<
-    'a,
-    D: SlotContents,
-    J: Job + 'a,
-    L: TakesPart<J, D>,
-    G: Gate,
-    H: Threads + Wait + Sync,
->(
-    rt: &H,
+pub(crate) fn help<'a, D: SlotContents, J: Job + 'a, L: TakesPart<J, D>, G: Gate>(
+    rt: &(impl Threads + Wait + Sync),
     alloc: Global,
     helper_seats: HelperSeats<'a, D>,
     workspace: &'a L,
@@ -53,7 +46,7 @@ pub(crate) fn help<
     let signals = Signals::new(&tables.ledger, seat, tables.child_slots);
     let site = tables.site(L::members(tables), thread);
     let runner = Runner::<'a, J, G>::new(workspace.children(), gate, site, signals);
-    let round = live::<D, J, L, G, H>(rt, alloc, post, runner, workspace);
+    let round = live::<D, J, L, G, _>(rt, alloc, post, runner, workspace);
     tables.numbers.give(&mut numbers, thread);
     Seats {
         round,

@@ -20,7 +20,7 @@ use spindle_parts::fault::Fault;
 use spindle_parts::lists::shared::SharedList;
 use spindle_rounds::round_table::slots::Bare;
 use spindle_threads::leader_member::LeaderMember;
-use spindle_threads::members::Members;
+use spindle_threads::tables::Members;
 use std::alloc::{AllocError, Global};
 use std::sync::Wait;
 use std::thread::Threads;

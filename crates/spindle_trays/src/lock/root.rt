@@ -1,25 +1,30 @@
 //! Opening a root lock: its tables are made, its helpers start, and at its end they are dismissed and joined.
-ghost use Rattle.std.specs.Prelude.{◌≡◌, ◌<◌, IfOk, OnErr, IsErrOf};
+ghost use Rattle.std.specs.Prelude.{◌≡◌, ◌<◌, [], IfOk, OnErr, IsErrOf, vec_len};
 ghost use Rattle.std.specs.Fn.{FnOnceReturnsAtMut};
 ghost use Rattle.spindle_trays.specs.Leaders.{threads_of, hands_of, WasLed};
+ghost use Rattle.spindle_threads.specs.Opening.{AreSeatsAt};
 ghost use Rattle.spindle_threads.specs.ThreadCounts.{lock_threads};
 
+use crate::job::Job;
 use crate::job::gate::Gate;
 use crate::job::nest::Nest;
+use crate::lock::helper::{help, join_as_leader};
 use crate::lock::leader::Leader;
 use crate::lock::nested::Leads;
-use crate::lock::opening::LeaderStart;
 use crate::lock::pool::Pool;
-use crate::lock::workspace::Opens;
+use crate::lock::workspace::{Opens, TakesPart};
+use crate::running::runner::Runner;
 use spindle_parts::fault::Fault;
 use spindle_rounds::round::Round;
-use spindle_rounds::round_table::slots::Bare;
+use spindle_rounds::round_table::slots::{Bare, SlotContents};
 use spindle_threads::ThreadCounts;
+use spindle_threads::leader_member::LeaderMember;
+use spindle_threads::seats::Seats;
 use spindle_threads::tables::Tables;
-use std::alloc::Global;
+use std::alloc::{AllocError, Global};
 use std::sync::Wait;
 use std::thread;
-use std::thread::Threads;
+use std::thread::{JoinHandle, Scope, Threads};
 
 /// Opens a lock over jobs of kind J, runs f with its leader, and closes the lock.
 ///
@@ -57,18 +62,13 @@ where
 
 // Starts the helpers, runs f, and dismisses and joins them.
 fn scoped<
-    J: Opens<L> + Send,
+    J: Opens<L> + CrossesThreads,
     G: Gate + Sync,
     R,
     F: FnOnce(&mut Leader<J, G, L>) -> R,
     L: Send + Sync,
     H: Threads + Wait + Sync,
 >(rt: &H, alloc: Global, leader_start: LeaderStart<'_, Bare, G, L>, f: F) -> R
-where
-    J::In: Send + Sync,
-    J::Out: Send,
-    J::Inner: Send,
-    <J::Inner as Nest>::ChildSlots: Send + Sync,
     requires callable { F.IsAlwaysCallable f }
     ensures { let counts = leader_start.entry.tables.now.counts in
         WasLed counts.most counts.threads F.FnOnce f result }
@@ -90,4 +90,110 @@ where
             answer
         },
     )
+}
+
+/// A kind of job whose inputs, outputs and nested locks threads may hand to each other.
+pub trait CrossesThreads: Job<
+    In: Send + Sync,
+    Out: Send,
+    Inner: Nest<ChildSlots: Send + Sync> + Send,
+>
+    + Send {}
+
+impl<J: Job + Send> CrossesThreads for J
+where
+    J::In: Send + Sync,
+    J::Out: Send,
+    J::Inner: Send,
+    <J::Inner as Nest>::ChildSlots: Send + Sync,
+{}
+
+/// What the leader of a lock comes to: the lock's tables, what stands beside them, its pool, the leader's seats, and room for the
+/// helpers, which is made before the first starts, so that no memory is refused then.
+#[derive(Drop)]
+pub struct LeaderStart<'s, D: SlotContents, G: Gate, L> {
+    tables: &'s Tables<D>,
+    workspace: &'s L,
+    pool: &'s Pool<G>,
+    seats: Seats<D>,
+    threads: Vec<JoinHandle<()>>,
+    ghost seated: { AreSeatsAt tables.now seats },
+    ghost empty: { vec_len threads ≡ 0 },
+}
+
+impl<
+    's,
+    D: SlotContents<Slot: Send, Note: Send> + Send + 's,
+    G: Gate + Sync,
+    L: Send + Sync,
+> LeaderStart<'s, D, G, L> {
+    /// Makes room for the helpers that the pool starts for a lock.
+    pub fn new(
+        alloc: Global,
+        tables: &'s Tables<D>,
+        workspace: &'s L,
+        pool: &'s Pool<G>,
+        seats: Seats<D>,
+    ) -> Result<LeaderStart<'s, D, G, L>, AllocError>
+        requires { AreSeatsAt tables.now seats }
+        ensures { IfOk result (λ start. start.tables.now ≡ tables.now) }
+    {
+        let threads = Vec::with_capacity(alloc, pool.helpers(tables.counts.threads()))?;
+        Ok(LeaderStart {
+            tables,
+            workspace,
+            pool,
+            seats,
+            threads,
+        })
+    }
+
+    /// Starts as many helpers as there is room for, and makes the leader a member, which runs jobs with what comes beside. A helper that
+    /// can't be started is left out.
+    pub fn muster<E, J: CrossesThreads + 's, H: Threads + Wait + Sync + 's>(
+        self,
+        scope: &Scope<'s, E>,
+        rt: &'s H,
+        alloc: Global,
+    ) -> (LeaderMember<'s, D>, Runner<'s, J, G>, Helpers)
+    where
+        L: TakesPart<J, D>,
+        ensures tables { result.0.post.tables.now ≡ self.entry.tables.now }
+        ensures counts { result.1.site.counts ≡ self.entry.tables.now.counts }
+        ensures slots { let seat = result.0.post.barrier.seat in
+            (seat.me.1 ≡ []) × (seat.me.0.board ≡ []) }
+    {
+        let LeaderStart {
+            tables,
+            workspace,
+            pool,
+            mut seats,
+            mut threads,
+        } = self;
+        let gate = pool.gate();
+        for asked in 0..threads.capacity() {
+            let helper_seats = seats.helper_seats(tables);
+            let life = move || drop(help::<D, J, L, G>(rt, alloc, helper_seats, workspace, gate));
+            if let Ok(thread) = scope.spawn(life) {
+                threads.push_reserved(thread);
+            }
+        }
+        let (post, runner) = join_as_leader::<D, J, G, L, H>(rt, tables, workspace, gate, seats);
+        (post, runner, Helpers { threads })
+    }
+}
+
+/// The helpers of a lock that have started. It can't be dropped: they are joined.
+pub struct Helpers {
+    threads: Vec<JoinHandle<()>>,
+}
+
+impl Helpers {
+    /// Waits until each thread has ended. They were told before.
+    pub fn join<H: Threads>(self, rt: &H) {
+        let Helpers { threads } = self;
+        for thread in threads {
+            thread.join(rt);
+        }
+    }
 }

@@ -1,7 +1,7 @@
 //! Rounds of a lock that may stop: a piece that fails stops its round, and the leader learns which pieces ran.
 ghost use Rattle.std.specs.Prelude.{◌≡◌, ◌<◌, ◌≤◌, IfOk, IfErr, OnOk, OnErr, IsErrOf, vec_len};
 ghost use Rattle.std.specs.List.{Contains};
-ghost use Rattle.spindle_trays.specs.Leaders.{hands_of, AreLeft, GoesOn, IsBlank, IsSameLock, IsTallied, IsTryRefusal, MadeNoStep, TriedAs};
+ghost use Rattle.spindle_trays.specs.Leaders.{AreLeft, GoesOn, IsBlank, IsSameLock, IsTallied, IsTryRefusal, MadeNoStep, TriedAs};
 ghost use Rattle.spindle_trays.specs.Reports.{IsOfNone, IsReport};
 ghost use Rattle.spindle_trays.specs.Rounds.{job_count};
 
@@ -113,7 +113,7 @@ impl<'a, J: Opens<L>, G: Gate, L> Leader<'a, J, G, L> {
         }
     }
 
-    // Out of trays where helpers may take part, else in the leader's rooms.
+    // A round with the helpers, if any may take part: hand out, publish, work, wait, mark what is left, and note what came back.
     fn try_jobs<H: Threads + Wait + Sync>(
         &mut self,
         rt: &H,
@@ -132,37 +132,15 @@ impl<'a, J: Opens<L>, G: Gate, L> Leader<'a, J, G, L> {
         ensures lock { IsSameLock self.old self.new }
     {
         if pieces.count() > 1 && self.post.post.tables.counts.threads() > 1 {
-            return self.try_in_trays(rt, alloc, pieces, spares, left, tally);
+            let trays = J::trays(self.workspace);
+            trays.hand_out(rt, alloc, pieces, spares)?;
+            let task = pieces.task(true);
+            play_in_trays(rt, alloc, &mut self.post, trays, &mut self.runner, task);
+            self.post.mark_left(left);
+            trays.tally(rt, pieces, left.as_slice(), tally);
+            return Ok(());
         }
         self.try_in_rooms(rt, alloc, pieces, spares, left, tally)
-    }
-
-    // A round with the helpers: hand out, publish, work, wait, mark what is left, and note what came back.
-    fn try_in_trays<H: Threads + Wait + Sync>(
-        &mut self,
-        rt: &H,
-        alloc: Global,
-        pieces: &ListRuns<J::In>,
-        spares: &mut SpareLists<J::Out>,
-        left: &mut Vec<bool>,
-        tally: &mut Tally<J::Out>,
-    ) -> Result<(), Fault>
-        requires counted { (2 ≤ pieces.now.count) × (pieces.now.count ≤ 4294967295) }
-        requires hands { 2 ≤ hands_of self.old }
-        requires blank { IsBlank J.meets J.fails
-            pieces.now.items pieces.now.count left.old.items tally.old }
-        ensures tallied { OnOk result (IsTallied J.meets J.fails pieces.now.items
-            pieces.now.count left.new.items tally.new self.old self.new) }
-        ensures memory { OnErr result (IsErrOf result Fault.Memory × MadeNoStep self.old self.new) }
-        ensures lock { IsSameLock self.old self.new }
-    {
-        let trays = J::trays(self.workspace);
-        trays.hand_out(rt, alloc, pieces, spares)?;
-        let task = pieces.task(true);
-        play_in_trays(rt, alloc, &mut self.post, trays, &mut self.runner, task);
-        self.post.mark_left(left);
-        trays.tally(rt, pieces, left.as_slice(), tally);
-        Ok(())
     }
 
     // The leader alone: one piece directly, more by a round of its own. No piece is lost here.

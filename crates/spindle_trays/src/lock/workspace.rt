@@ -11,7 +11,6 @@ ghost use Rattle.spindle_rounds.specs.Working.{OnTask};
 use crate::job::Job;
 use crate::job::gate::Gate;
 use crate::job::nest::Nest;
-use crate::job::sealed::HasWorkspace;
 use crate::lock::nested::{Child, Nested};
 use crate::pieces::trays::Trays;
 use crate::running::in_trays::TrayWork;
@@ -20,8 +19,7 @@ use spindle_parts::fault::Fault;
 use spindle_rounds::round::publishing::PublishedRound;
 use spindle_rounds::round_table::slots::{Bare, SlotContents};
 use spindle_threads::member::Member;
-use spindle_threads::members::Members;
-use spindle_threads::tables::Tables;
+use spindle_threads::tables::{Members, Tables};
 use std::alloc::Global;
 use std::sync::Wait;
 use std::thread::Threads;
@@ -33,8 +31,11 @@ pub struct Workspace<J: Job> {
     trays: Trays<J>,
 }
 
+/// What `Opens` is implemented for. `spindle` doesn't give it out.
+pub trait HasWorkspace<L> {}
+
 /// The kinds of jobs whose locks have a workspace of type L. Each kind of job has one, `Workspace<J>`, which a caller leaves
-/// to the compiler; the trait's calls are the library's own, and nobody else can implement it.
+/// to the compiler; the trait's calls are the library's own, and who names `spindle` alone can't implement it.
 pub trait Opens<L>: Job + HasWorkspace<L> {
     /// The workspace of a lock of so many threads.
     fn open(alloc: Global, threads: usize) -> Result<L, Fault>

@@ -2,7 +2,7 @@
 //! they were dealt never wait for one another.
 ghost use Rattle.std.specs.Prelude.{◌≡◌, ◌<◌, ◌≤◌, [], IfOk, IfErr, IfSome, OnOk, OnErr, IsErrOf, length, vec_len, vec_capacity};
 ghost use Rattle.std.specs.List.{AllZip};
-ghost use Rattle.spindle_trays.specs.PieceRuns.{items_before};
+ghost use Rattle.spindle_trays.specs.Ahead.{HasAnswered};
 ghost use Rattle.spindle_trays.specs.Reports.{IsNoted};
 
 use crate::job::Job;
@@ -165,10 +165,8 @@ impl<J: Job> Trays<J> {
         first: usize,
         outputs: &mut Vec<J::Out>,
     ) -> Result<(), usize>
-        requires first { first ≤ pieces.now.count }
-        requires before { AllZip J.meets
-            (items_before pieces.now.items pieces.now.count first) outputs.old.items }
-        requires room { length pieces.now.items ≤ vec_capacity outputs.old }
+        requires before { HasAnswered J.meets
+            pieces.now.items pieces.now.count first outputs.old }
         ensures answers { OnOk result (AllZip J.meets pieces.now.items outputs.new.items) }
         ensures lost { IfErr result (λ k. k < pieces.now.count) }
     {
@@ -187,10 +185,8 @@ impl<J: Job> Trays<J> {
         first: usize,
         outputs: &mut Vec<J::Out>,
     ) -> Result<(), usize>
-        requires first { first ≤ pieces.now.count }
-        requires before { AllZip J.meets
-            (items_before pieces.now.items pieces.now.count first) outputs.old.items }
-        requires room { length pieces.now.items ≤ vec_capacity outputs.old }
+        requires before { HasAnswered J.meets
+            pieces.now.items pieces.now.count first outputs.old }
         ensures answers { OnOk result (AllZip J.meets pieces.now.items outputs.new.items) }
         ensures lost { IfErr result (λ k. k < pieces.now.count) }
     {
@@ -217,9 +213,7 @@ impl<J: Job> Trays<J> {
         }
         Ok(())
     }
-}
 
-impl<J: Job> Trays<J> {
     /// Notes what came of the pieces of a round that may stop, of which some are marked as left: what lies in each place, if it is the
     /// piece of its number with its inputs. The trays hold no piece any more. Takes no memory.
     pub fn tally<H: Wait>(

@@ -7,8 +7,7 @@ ghost use denote.Param.Send.{IsSync};
 
 use crate::job::Job;
 use crate::job::gate::NoGate;
-use crate::job::is_nest::IsNest;
-use crate::job::nest::Nest;
+use crate::job::nest::{IsNest, Nest};
 use crate::lock::helper::help;
 use crate::lock::nested::child_lease::{ChildSlot, make_slots, serve_slots};
 use crate::lock::workspace::{Opens, TakesPart, Workspace};
@@ -56,7 +55,7 @@ pub fn help_from<D: SlotContents, J: Job, L: TakesPart<J, D>, H: Threads + Wait 
     let gate = NoGate;
     for spare in spare_seats {
         if let Some(helper_seats) = spare.take(tables) {
-            let seats = help::<D, J, L, NoGate, H>(rt, alloc, helper_seats, workspace, &gate);
+            let seats = help::<D, J, L, NoGate>(rt, alloc, helper_seats, workspace, &gate);
             spare.give(tables, seats);
             return;
         }

@@ -11,7 +11,7 @@ ghost use Rattle.spindle_threads.specs.ThreadCounts.{lock_threads};
 ghost use Rattle.spindle_threads.specs.Opening.{AreSeatsAt};
 
 use crate::job::Job;
-use crate::job::context::JobCx;
+use crate::job::context::{JobCx, child_slots_for};
 use crate::job::gate::NoGate;
 use crate::lock::helper::join_as_leader;
 use crate::lock::leader::{Leader, MOST_JOBS, numbers};
@@ -81,29 +81,7 @@ impl<'a, K: Job> JobCx<'a, Under<K>> {
         run_each::<K, H>(rt, alloc, items.as_slice(), &mut context, &mut outputs);
         Ok(outputs)
     }
-}
 
-impl<'a, K: Job<In = usize>> JobCx<'a, Under<K>> {
-    /// Runs the numbers from 0 up to `n_jobs`, the end not included, as `for_each` runs items in so many jobs.
-    pub fn for_each_raw<H: Threads + Wait + Sync>(
-        &mut self,
-        rt: &H,
-        alloc: Global,
-        n_jobs: usize,
-    ) -> Result<Vec<K::Out>, Fault>
-        ensures answer { IfOk result (λ outputs. AllZip K.meets (counted 0 n_jobs) outputs.items) }
-        ensures refused { let jobs = job_count n_jobs n_jobs in
-            IfErr result (IsRefusal (hands_in self.old jobs) jobs) }
-        ensures same { self.new ≡ self.old }
-    {
-        if n_jobs == 0 {
-            return Ok(Vec::new(alloc));
-        }
-        self.for_each(rt, alloc, n_jobs, numbers(alloc, n_jobs)?)
-    }
-}
-
-impl<'a, K: Job> JobCx<'a, Under<K>> {
     /// Opens a lock over jobs of kind K, to which idle helpers of the job's lock move, runs f with its leader, and closes the lock.
     ///
     /// The lock has the least of the pool's threads, `max_threads` and 32767, its leader counted. With one thread, or where the
@@ -128,9 +106,7 @@ impl<'a, K: Job> JobCx<'a, Under<K>> {
     {
         let counts = self.counts_for(max_threads);
         let sleep = self.site.sleep;
-        if let Some(slots) = self.slots
-            && counts.threads() > 1
-        {
+        if let Some(slots) = child_slots_for(self, counts) {
             let (child, seats) = Child::open(alloc, counts, sleep.idling())?;
             let asked = self.asks.ask(child.tables());
             if let Some(child_lease) = ChildLease::take(rt, slots, &child, asked, sleep) {
@@ -143,6 +119,26 @@ impl<'a, K: Job> JobCx<'a, Under<K>> {
         let (child, seats) = Child::open(alloc, counts.alone(), sleep.idling())?;
         let mut leader = take_lead(rt, &child, &NoGate, seats);
         Ok(f(&mut leader))
+    }
+}
+
+impl<'a, K: Job<In = usize>> JobCx<'a, Under<K>> {
+    /// Runs the numbers from 0 up to `n_jobs`, the end not included, as `for_each` runs items in so many jobs.
+    pub fn for_each_raw<H: Threads + Wait + Sync>(
+        &mut self,
+        rt: &H,
+        alloc: Global,
+        n_jobs: usize,
+    ) -> Result<Vec<K::Out>, Fault>
+        ensures answer { IfOk result (λ outputs. AllZip K.meets (counted 0 n_jobs) outputs.items) }
+        ensures refused { let jobs = job_count n_jobs n_jobs in
+            IfErr result (IsRefusal (hands_in self.old jobs) jobs) }
+        ensures same { self.new ≡ self.old }
+    {
+        if n_jobs == 0 {
+            return Ok(Vec::new(alloc));
+        }
+        self.for_each(rt, alloc, n_jobs, numbers(alloc, n_jobs)?)
     }
 }
 

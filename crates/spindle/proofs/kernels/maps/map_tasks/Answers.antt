@@ -1,23 +1,13 @@
 -- One more task.
-use Rattle.std.proofs.Common.{◌≡◌, rules, ◌+◌, List, [], ◌∷◌, ◌++◌, map, ap, subst, sym, ◌∙◌, All}
+use Rattle.std.proofs.Common.{rules, ◌+◌, [], ◌∷◌, ap, sym, ◌∙◌}
 use Rattle.std.proofs.lemmas.List.{length-append}
-use Rattle.std.proofs.lemmas.List.Elements.{All-push}
-use Rattle.spindle_parts.proofs.ListLaws.{map_snoc}
 use Rattle.spindle.specs.Kernels.{IsOfKernel}
-use Rattle.spindle.specs.declared.kernels.maps.Run.{Run}
-use Rattle.spindle.specs.declared.kernels.tasks.Task.{Task}
+use Rattle.spindle.proofs.KernelLists.{one_more}
 use Rattle.spindle.proofs.kernels.maps.map_tasks.Goals as goal
 
 pub loop-part-preserved : goal.loop-part-preserved
-loop-part-preserved g c =
-    let T : Type 0 = Task g.row.K.Denot (Run g.row.S.Denot g.row.U.Denot g.row.S-Item.Denot g.S.Source) in
-    let source : T → g.row.S.Denot = λ task. task.part.source in
-    let old : List T = c.loop-part.tasks.items in
-    let task : T = record { kernel = c.in_ok-kernel.kernel; part = c.in_ok-part.part } in
-    let kernel : IsOfKernel c.args.kernel.now task = c.in_ok-kernel.ensures in
-    let pushed : c.push_reserved.new.self.items ≡ old ++ task ∷ [] = search rules in
-    let sources : map source c.push_reserved.new.self.items ≡ c.loop-part.yielded ++ c.in-Some.part ∷ [] = ap (map source) pushed ∙ map_snoc source old task
-    ∙ (λ j. c.loop-part.invariant.0 j ++ c.in_ok-part.ensures j ∷ []) in
-    let all : All (IsOfKernel c.args.kernel.now) c.push_reserved.new.self.items = subst (All (IsOfKernel c.args.kernel.now)) (sym pushed)
-    (All-push (IsOfKernel c.args.kernel.now) old task c.loop-part.invariant.1 kernel) in
-    (sources, all, search rules, c.push_reserved.ensures.len ∙ ap (λ n. n + 1) c.loop-part.invariant.3 ∙ sym (length-append c.loop-part.yielded (c.in-Some.part ∷ [])))
+loop-part-preserved g c = let l = c.loop-part in let i = l.invariant in
+    let more = one_more (IsOfKernel c.args.kernel.now) l.tasks.items c.push_reserved.new.self.items
+    (record { kernel = c.in_ok-kernel.kernel; part = c.in_ok-part.part }) (λ task. task.part.source)
+    l.yielded c.in-Some.part (search rules) i.0 c.in_ok-part.ensures i.1 c.in_ok-kernel.ensures in
+    (more.0, more.1, search rules, c.push_reserved.ensures.len ∙ ap (λ n. n + 1) i.3 ∙ sym (length-append l.yielded (c.in-Some.part ∷ [])))

@@ -1,6 +1,5 @@
 -- The leader stands where its post stood.
 use Rattle.std.proofs.Common.{ap, sym, subst, ◌∙◌}
-use Rattle.spindle_rounds.specs.Seating.{slots_of}
 use Rattle.spindle_threads.specs.SlotMembers.{StandsAt}
 use Rattle.spindle_slots.proofs.leader_states.leader_state.LeaderSeats.new.Goals as goal
 
@@ -9,6 +8,4 @@ invariant_of-result g c = let q = c.part-stance.ensures in let r = c.requires in
   stands = subst (λ t. StandsAt t c.part-stance.result) (sym r.tables) q.stands;
   hand = ap (λ z. z.me.1) q.seat ∙ r.fresh.0;
   board = ap (λ z. z.me.0.board) q.seat ∙ r.fresh.1;
-  many = ap (λ z. slots_of z.round.init) r.tables ∙ r.slots.0;
-  few = (r.slots.1, r.slots.2);
 }

@@ -15,7 +15,7 @@ invariant_of-result g c = let n = c.args.leader_seats in let r = n.stands in let
     let u = ap (λ z. z.0.standing) me in
     let f = ap (λ z. z.0.from) me in let t = ap (λ z. z.0.to) me in let i = r.5.1 in record {
       there = refl;
-      stands = λ s e. subst (λ z. StandsAt n.tables.value z) (some_is e) (
+      stands = λ s e. subst (λ z. StandsAt n.share.tables.value z) (some_is e) (
         h.seat.0 ∙ r.0,
         ap (λ z. z.0.threads) me ∙ r.1,
         ap (λ z. z.0.leader) me ∙ r.2,
@@ -25,7 +25,5 @@ invariant_of-result g c = let n = c.args.leader_seats in let r = n.stands in let
         r.6 ∙ ap (λ z. round_of z % 2) (sym u),
         r.7,
       );
-      holds = λ s e. subst (λ z. HoldsEmpty n.slots z) (some_is e) (empty_hand n.slots _ h.held.hand, h.held.out);
-      many = n.many;
-      few = n.few;
+      holds = λ s e. subst (λ z. HoldsEmpty n.share.slots z) (some_is e) (empty_hand n.share.slots _ h.held.hand, h.held.out);
     }

@@ -11,15 +11,13 @@ update-requires-clause-leads g c κs within = let p = c.args.self.now in let s =
     let b = c.in-Some.is in let there : p.stance ≡ Some s = cc in let r = c.resume-barrier.ensures in let same = c.deref-tables.ensures in
     resumed c.deref-tables.result.now c.resume-barrier.result s r.party r.barrier
     (subst (λ t. StandsAt t s) (sym same) (p.stands s there))
-    (subst (λ n. HoldsEmpty n s) (sym (ap (λ t. slots_of t.round.init) same ∙ p.many)) (p.holds s there))
+    (subst (λ n. HoldsEmpty n s) (sym (ap (λ t. slots_of t.round.init) same ∙ p.share.many)) (p.holds s there))
 
-pub invariant_of-self : goal.invariant_of-self
-invariant_of-self g c = let p = c.args.self.now in let same = c.deref-tables.ensures in let t = c.deref-tables.result.now in
+pub invariant_of-self-2 : goal.invariant_of-self-2
+invariant_of-self-2 g c = let p = c.args.self.now in let same = c.deref-tables.ensures in let t = c.deref-tables.result.now in
     let h = parted t c.update.new.barrier c.part.result c.part.ensures c.update.ensures.leads in record {
       there = refl;
       stands = λ s e. subst (λ z. StandsAt z s) same (subst (λ z. StandsAt t z) (some_is e) h.0);
-      holds = λ s e. subst (λ n. HoldsEmpty n s) (ap (λ z. slots_of z.round.init) same ∙ p.many)
+      holds = λ s e. subst (λ n. HoldsEmpty n s) (ap (λ z. slots_of z.round.init) same ∙ p.share.many)
           (subst (λ z. HoldsEmpty (slots_of t.round.init) z) (some_is e) h.1);
-      many = p.many;
-      few = p.few;
     }

@@ -3,7 +3,7 @@ use Rattle.std.proofs.Common.{◌≡◌, ap, ◌∙◌}
 use Rattle.spindle_threads.specs.ThreadCounts.{lock_threads}
 use Rattle.spindle_threads.specs.declared.tables.ThreadCounts.{ThreadCounts}
 use Rattle.spindle.specs.SlotLeaders.{WasLed}
-use Rattle.spindle.proofs.lock.slot_opening.open.Goals as goal
+use Rattle.spindle.proofs.lock.slot_root.open.Goals as goal
 
 pub returns-clause-promise : goal.returns-clause-promise
 unfolding WasLed

@@ -1,11 +1,11 @@
 -- The leader's seats stay its own while the helpers' are split from them, and there is room for the helpers that are left.
 use Rattle.std.proofs.Common.{◌≡◌, ◌≤◌, vec_len, vec_capacity}
 use Rattle.spindle_threads.specs.Opening.{AreSeatsAt}
-use Rattle.spindle_trays.proofs.lock.opening.start.Given as goal
+use Rattle.spindle_trays.proofs.lock.root.LeaderStart.muster.Given as goal
 
 abbrev pub invariant-loop-asked : goal.invariant-loop-asked
 invariant-loop-asked g l = record {
-  seats : AreSeatsAt l.fn.tables l.seats;
+  seats : AreSeatsAt l.fn.self.tables.now l.seats;
   few : vec_len l.threads ≤ l.asked;
-  room : vec_capacity l.threads ≡ vec_capacity l.fn.room.threads;
+  room : vec_capacity l.threads ≡ vec_capacity l.fn.self.threads;
 }

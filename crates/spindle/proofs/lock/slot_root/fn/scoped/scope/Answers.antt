@@ -2,7 +2,7 @@
 use Rattle.std.proofs.Common.{ap, refl, ◌∙◌}
 use Rattle.spindle_threads.specs.declared.tables.ThreadCounts.{ThreadCounts}
 use Rattle.spindle.specs.SlotLeaders.{WasLed}
-use Rattle.spindle.proofs.lock.slot_opening.fn.scoped.scope.Goals as goal
+use Rattle.spindle.proofs.lock.slot_root.fn.scoped.scope.Goals as goal
 
 pub f-answer-requires : goal.f-answer-requires
 f-answer-requires g c = c.requires.callable c.new-leader.result

@@ -9,18 +9,18 @@ use Rattle.spindle_rounds.proofs.PieceRounds.{may_take, still_published, answere
 use Rattle.spindle_rounds.proofs.SlotHands.{turning_less, still_out, passed_taking, played_taking}
 use Rattle.spindle_rounds.proofs.Workers.{passed_after, played_after}
 use Rattle.spindle_slots.proofs.SlotRounds.{may_await}
-use Rattle.spindle_slots.proofs.running.in_slots.SlotTables+PieceSlots+A.play_held.Goals as goal
+use Rattle.spindle_slots.proofs.running.in_slots.play_held.Goals as goal
 
 pub publish_held-requires-clause-held : goal.publish_held-requires-clause-held
-publish_held-requires-clause-held g c = let A = g.A.PieceKind.answers in let s : ℕ = slots_of c.args.self.now.tables.now.round.init in
-    let many : s ≡ c.args.self.now.slots = c.args.self.now.many in let m = c.args.barrier.now.seat.me in let j : ℕ = c.args.jobs in
+publish_held-requires-clause-held g c = let A = g.A.PieceKind.answers in let s : ℕ = slots_of c.args.table.now.tables.now.round.init in
+    let many : s ≡ c.args.table.now.slots = c.args.table.now.many in let m = c.args.barrier.now.seat.me in let j : ℕ = c.args.jobs in
     rw c.seat.ensures.value
     (turning_less IsEmpty (λ k y. IsUnrun A y) IsPiece IsPiece s j m.1 (subst (λ (k : ℕ). Turning IsEmpty IsPiece k j m.1) (sym many) c.requires.pieces)
     (λ k y e. subst (IsUnrun A) (sym e) (tt {0})) (λ k y w. w))
 
 pub take_answered-requires-clause-leads : goal.take_answered-requires-clause-leads
-take_answered-requires-clause-leads g c = let A = g.A.PieceKind.answers in let s : ℕ = slots_of c.args.self.now.tables.now.round.init in
-    let j : ℕ = c.args.jobs in let many : s ≡ c.args.self.now.slots = c.args.self.now.many in let m = c.args.barrier.now.seat.me in
+take_answered-requires-clause-leads g c = let A = g.A.PieceKind.answers in let s : ℕ = slots_of c.args.table.now.tables.now.round.init in
+    let j : ℕ = c.args.jobs in let many : s ≡ c.args.table.now.slots = c.args.table.now.many in let m = c.args.barrier.now.seat.me in
     let t = subst (λ (k : ℕ). Turning IsEmpty IsPiece k j m.1) (sym many) c.requires.pieces in
     let w = c.publish_held.new.seat.me in let u = c.work.new.seat.me in let worked = c.work.ensures in
     rw c.seat-3.ensures.value (may_take A s j u c.end_round.new.barrier.seat.me
@@ -28,8 +28,8 @@ take_answered-requires-clause-leads g c = let A = g.A.PieceKind.answers in let s
     worked.idle worked.done) c.end_round.ensures.next)
 
 pub take_answered-requires-clause-published : goal.take_answered-requires-clause-published
-take_answered-requires-clause-published g c = let A = g.A.PieceKind.answers in let s : ℕ = slots_of c.args.self.now.tables.now.round.init in
-    let j : ℕ = c.args.jobs in let many : s ≡ c.args.self.now.slots = c.args.self.now.many in let m = c.args.barrier.now.seat.me in
+take_answered-requires-clause-published g c = let A = g.A.PieceKind.answers in let s : ℕ = slots_of c.args.table.now.tables.now.round.init in
+    let j : ℕ = c.args.jobs in let many : s ≡ c.args.table.now.slots = c.args.table.now.many in let m = c.args.barrier.now.seat.me in
     let t = subst (λ (k : ℕ). Turning IsEmpty IsPiece k j m.1) (sym many) c.requires.pieces in
     let w = c.publish_held.new.seat.me in let u = c.work.new.seat.me in let worked = c.work.ensures in
     rw c.seat-3.ensures.value (still_published A s j u c.end_round.new.barrier.seat.me
@@ -37,8 +37,8 @@ take_answered-requires-clause-published g c = let A = g.A.PieceKind.answers in l
     worked.idle worked.done) c.end_round.ensures.next)
 
 pub returns-clause-answered : goal.returns-clause-answered
-returns-clause-answered g c = let A = g.A.PieceKind.answers in let s : ℕ = slots_of c.args.self.now.tables.now.round.init in
-    let j : ℕ = c.args.jobs in let many : s ≡ c.args.self.now.slots = c.args.self.now.many in let m = c.args.barrier.now.seat.me in
+returns-clause-answered g c = let A = g.A.PieceKind.answers in let s : ℕ = slots_of c.args.table.now.tables.now.round.init in
+    let j : ℕ = c.args.jobs in let many : s ≡ c.args.table.now.slots = c.args.table.now.many in let m = c.args.barrier.now.seat.me in
     let t = subst (λ (k : ℕ). Turning IsEmpty IsPiece k j m.1) (sym many) c.requires.pieces in
     let w = c.publish_held.new.seat.me in let u = c.work.new.seat.me in let e = c.end_round.new.barrier.seat.me in let worked = c.work.ensures in
     let shown = rw c.seat.ensures.value at c.publish_held.ensures.published in
@@ -59,7 +59,7 @@ returns-clause-answered g c = let A = g.A.PieceKind.answers in let s : ℕ = slo
     }
 
 pub returns-clause-leads : goal.returns-clause-leads
-returns-clause-leads g c = let A = g.A.PieceKind.answers in let s : ℕ = slots_of c.args.self.now.tables.now.round.init in
+returns-clause-leads g c = let A = g.A.PieceKind.answers in let s : ℕ = slots_of c.args.table.now.tables.now.round.init in
     let w = c.publish_held.new.seat.me in let u = c.work.new.seat.me in let e = c.end_round.new.barrier.seat.me in
     let shown = rw c.seat.ensures.value at c.publish_held.ensures.published in let worked = c.work.ensures in
     let on = rw c.seat-2.ensures.value at worked.went.on in let same = rw c.seat-3.ensures.value at c.take_answered.ensures.seat in
@@ -83,7 +83,7 @@ returns-clause-leads g c = let A = g.A.PieceKind.answers in let s : ℕ = slots_
     }
 
 pub returns-clause-played : goal.returns-clause-played
-returns-clause-played g c = let A = g.A.PieceKind.answers in let s : ℕ = slots_of c.args.self.now.tables.now.round.init in let j : ℕ = c.args.jobs in
+returns-clause-played g c = let A = g.A.PieceKind.answers in let s : ℕ = slots_of c.args.table.now.tables.now.round.init in let j : ℕ = c.args.jobs in
     let m = c.args.barrier.now.seat.me in let w = c.publish_held.new.seat.me in let u = c.work.new.seat.me in let e = c.end_round.new.barrier.seat.me in
     let shown = rw c.seat.ensures.value at c.publish_held.ensures.published in let worked = c.work.ensures in
     let on = rw c.seat-2.ensures.value at worked.went.on in let taken = rw c.seat-3.ensures.value at c.take_answered.ensures.step in

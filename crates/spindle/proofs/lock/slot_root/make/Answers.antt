@@ -1,7 +1,7 @@
 -- The round table was opened for these threads.
 use Rattle.std.proofs.Common.{[], true, ap, sym, ◌∙◌, rules}
 use Rattle.spindle_rounds.specs.RoundSteps.{outsider}
-use Rattle.spindle.proofs.lock.slot_opening.make.Goals as goal
+use Rattle.spindle.proofs.lock.slot_root.make.Goals as goal
 
 pub with_slots-requires : goal.with_slots-requires
 with_slots-requires g c = record { threads = (c.threads-threads.ensures.some, c.threads-threads.ensures.most) }

@@ -1,4 +1,0 @@
-//! A trait that can't be named outside the library: what has it as its supertrait is implemented here alone.
-
-/// What `Opens` is implemented for.
-pub trait HasWorkspace<L> {}
