@@ -1,20 +1,17 @@
-//! Rows of calls that spare a caller his own. No clause says how many jobs one call has, on how many threads, and that the memory of
-//! a list which the caller keeps serves again.
-ghost use Rattle.std.specs.Prelude.{◌≡◌, ◌<◌};
-ghost use Rattle.std.proofs.Common.{rules};
+//! Rows of calls that spare a caller his own, and of the callers. No clause says how many jobs one call has, on how many threads, and
+//! that the memory of a list which the caller keeps serves again.
 ghost use denote.Param.Send.{IsSync};
 
 use crate::callers;
 use crate::checks::{are, holds, is};
-use crate::jobs::{Calls, Counting, Place, Square};
-use spindle::lock::{Job, JobCx, Limits, NoGate, Pool, RunsRounds, Under};
+use crate::jobs::{Calls, Counting, Square};
+use crate::nested::inner_rounds::Playing;
+use crate::staying::{Seen, Staying, all_see, each_ran};
+use spindle::lock::{Job, Limits, Nest, NoGate, Pool, RunsRounds};
 use spindle::{Fault, run_one, with_lock};
-use spindle_trays_tests::jobs::each_ran;
-use spindle_trays_tests::staying::{MOST_ROUNDS, STAY, Staying};
 use std::alloc::Global;
 use std::process::Abort;
 use std::sync::Wait;
-use std::test::Fail;
 use std::thread::Threads;
 
 // The jobs that are asked for over ten numbers in a pool of three threads, those that run, and the threads of their lock.
@@ -33,60 +30,34 @@ fn one_call_has_no_more_threads_than_jobs(rt: HostRuntime) -> Result<(), Fault> 
     for (asked, jobs, threads) in ONE_CALL {
         let calls = Calls::new();
         let pool = Pool::new(3, Limits::new(), Counting { calls: &calls });
-        let numbers = vec![in alloc; 0, 1, 2, 3, 4, 5, 6, 7, 8, 9]?;
-        let places = run_one::<Place>(&rt, alloc, &pool, asked, numbers)?;
-        is(&rt, calls.in_all(), (jobs, jobs));
-        is(&rt, places.len(), 10);
-        holds(&rt, places.iter().all(|place| place.2 == threads));
+        let places = run_one::<Staying>(&rt, alloc, &pool, asked, vec![in alloc; 0; 10]?)?;
+        is(&rt, (places.len(), calls.in_all()), (10, (jobs, jobs)));
+        holds(&rt, all_see(&places, 1, threads, threads));
     }
     Ok(())
 }
 
-// Plays rounds of so many jobs until each runs in a thread of its own: whether one had as many.
-struct Playing;
-
-impl Job for Playing {
-    type In = usize;
-
-    type Out = bool;
-
-    type Inner = Under<Staying>;
-
-    ghost meets = { λ _ _. Unit {0} };
-
-    fn run<H: Threads + Wait + Sync>(
-        rt: &H,
-        alloc: Global,
-        jobs: &usize,
-        cx: &mut JobCx<Under<Staying>>,
-    ) -> bool {
-        for _ in 0..MOST_ROUNDS {
-            let Ok(stays) = Vec::from_elem(alloc, STAY, *jobs) else {
-                return false;
-            };
-            match cx.for_each(rt, alloc, (*jobs).max(1), stays) {
-                Ok(places) if each_ran(&places, *jobs, 1) => return true,
-                Ok(_) => {}
-                Err(_) => return false,
-            }
-        }
-        false
+// What one job of a call answers; the kind is a parameter, since its jobs open locks.
+fn in_one_job<K: Job<In = usize, Out = Vec<Seen>> + Send, H: Threads + Wait + Abort + Sync>(
+    rt: &H,
+    alloc: Global,
+) -> Result<(), Fault>
+where
+    K::Inner: Send,
+    <K::Inner as Nest>::ChildSlots: Send + Sync,
+{
+    let pool = Pool::new(3, Limits::new(), NoGate);
+    let answers = run_one::<K>(rt, alloc, &pool, 1, vec![in alloc; 3]?)?;
+    is(rt, answers.len(), 1);
+    for places in answers {
+        holds(rt, each_ran(&places, 3, 1));
     }
-
-    ghost equal_is_same = { Prim.search rules };
+    Ok(())
 }
 
 #[test]
 fn helpers_run_rounds_in_the_only_job_of_a_call(rt: HostRuntime) -> Result<(), Fault> {
-    let alloc = rt.alloc();
-    let pool = Pool::new(3, Limits::new(), NoGate);
-    let jobs = vec![in alloc; 3]?;
-    are(
-        &rt,
-        &run_one::<Playing>(&rt, alloc, &pool, 1, jobs)?,
-        &[true],
-    );
-    Ok(())
+    in_one_job::<Playing, _>(&rt, rt.alloc())
 }
 
 // Rounds into one list, whose memory serves again.
@@ -121,5 +92,29 @@ fn rounds_of_one_leader_answer_each_list(rt: HostRuntime) -> Result<(), Fault> {
     })??;
     are(&rt, &first, &[4, 9, 25]);
     are(&rt, &second, &[49, 121]);
+    Ok(())
+}
+
+// What the callers promise, with numbers.
+#[test]
+fn callers_answer_in_full(rt: HostRuntime) -> Result<(), Fault> {
+    let alloc = rt.alloc();
+    let pool = Pool::of_machine(&rt);
+    are(
+        &rt,
+        &callers::squares(&rt, vec![in alloc; 0, 1, 2, 3]?)?,
+        &[0, 1, 4, 9],
+    );
+    let numbers = vec![in alloc; 0, 1, 2, 3]?;
+    let squares = callers::squares_without_a_lock(&rt, alloc, &pool, 3, numbers)?;
+    are(&rt, &squares, &[0, 1, 4, 9]);
+    let numbers = vec![in alloc; 3, 1, 4, 1, 5, u32::MAX, 2]?;
+    let sums = callers::one_more_each(&rt, alloc, &pool, 3, numbers)?;
+    are(&rt, &sums, &[4, 2, 5, 2, 6, 4294967296, 3]);
+    let one = vec![in alloc; 2, 3, 5]?;
+    let equal = vec![in alloc; 2, 3, 5]?;
+    let both = callers::outputs_twice::<Square, _, _>(&rt, alloc, &pool, 2, one, equal)?;
+    are(&rt, &both.0, &[4, 9, 25]);
+    are(&rt, &both.1, &[4, 9, 25]);
     Ok(())
 }

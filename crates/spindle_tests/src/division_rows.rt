@@ -1,4 +1,4 @@
-//! Rows of a problem that is divided, and what a refused allocation leaves of it: the same call with memory answers in full.
+//! A row of a problem that is divided, and what a refused allocation leaves of it: the same call with memory answers in full.
 ghost use Rattle.std.specs.Prelude.{◌≡◌};
 
 use crate::checks::{holds, is};
@@ -42,21 +42,6 @@ impl Division for Walk {
             first.2 & second.2 & (first.1 == second.0),
         )
     }
-}
-
-#[test]
-fn a_divided_walk_goes_all_the_way(rt: HostRuntime) -> Result<(), Fault> {
-    let alloc = rt.alloc();
-    for threads in [1, 2, 4, 7] {
-        let pool = Pool::new(threads, Limits::new(), NoGate);
-        for longest in [0, 1, 10, 100] {
-            for to in [0, 1, 2, 3, 11, 1000] {
-                let walked = divide(&rt, alloc, &pool, &Walk { longest }, (0, to))?;
-                is(&rt, walked, (0, to, true));
-            }
-        }
-    }
-    Ok(())
 }
 
 #[test]

@@ -1,40 +1,17 @@
 //! Rows of lists that run outside a lock, and of a pool of the machine's size. No clause says that such a list is answered where
 //! memory is there, that a closure is called once for each item, and on which threads.
 
-use crate::callers;
 use crate::checks::{are, holds, is};
+use crate::gates::Meetings;
 use crate::sevens::{are_seven_squares, seven_items};
-use spindle::lock::{Limits, NoGate, Pool};
+use spindle::lock::{Gate, Limits, NoGate, Pool};
 use spindle::{Fault, for_each, for_each_raw};
-use std::hint::spin_loop;
 use std::process::Abort;
 use std::sync::atomic::{AtomicUsize, Ordering};
-use std::thread;
 use std::thread::available_parallelism;
 
-/// A closure waits for another that comes for at most so many turns: more than other programs keep a processor away from it.
-const MOST_TURNS: usize = 3000000000;
-
-/// After so many of them it gives its core to the other.
-const TURNS_BEFORE_A_YIELD: usize = 1000;
-
-// Begins, and tells whether so many have begun by the end of so many turns.
-fn meet(begun: &AtomicUsize, all: usize, turns: usize) -> bool {
-    begun.fetch_add(1, Ordering::SeqCst);
-    for turn in 0..turns {
-        if begun.load(Ordering::SeqCst) >= all {
-            return true;
-        }
-        if turn % TURNS_BEFORE_A_YIELD == 0 {
-            thread::yield_now();
-        }
-        spin_loop();
-    }
-    false
-}
-
 #[test]
-fn three_numbers_and_one_more_each(rt: HostRuntime) -> Result<(), Fault> {
+fn lists_outside_a_lock_are_answered(rt: HostRuntime) -> Result<(), Fault> {
     let alloc = rt.alloc();
     for threads in [3, 1] {
         let pool = Pool::new(threads, Limits::new(), NoGate);
@@ -42,44 +19,11 @@ fn three_numbers_and_one_more_each(rt: HostRuntime) -> Result<(), Fault> {
         let more = for_each(&rt, alloc, &pool, 2, numbers, |x| x.wrapping_add(1))?;
         are(&rt, &more, &[6, 7, 8]);
     }
-    Ok(())
-}
-
-#[test]
-fn four_numbers_are_squared_and_none_answer_nothing(rt: HostRuntime) -> Result<(), Fault> {
-    let alloc = rt.alloc();
     let pool = Pool::new(2, Limits::new(), NoGate);
-    let squares = for_each_raw(&rt, alloc, &pool, 4, |n| n.wrapping_mul(n))?;
-    are(&rt, &squares, &[0, 1, 4, 9]);
-    let none = for_each_raw(&rt, alloc, &pool, 0, |n| n.wrapping_mul(n))?;
-    holds(&rt, none.is_empty());
-    Ok(())
-}
-
-#[test]
-fn long_lists_answer_as_their_numbers_do(rt: HostRuntime) -> Result<(), Fault> {
-    let alloc = rt.alloc();
-    let f = |x: usize| x.wrapping_mul(x) ^ 5;
-    let pool = Pool::new(4, Limits::new(), NoGate);
-    for length in [1usize, 2, 3, 7, 64, 65, 1000, 2047, 2048, 5000] {
-        let items = (0..length).collect(alloc)?;
-        let by_list = for_each(&rt, alloc, &pool, 4, items, f)?;
-        is(&rt, by_list.len(), length);
-        are(&rt, &for_each_raw(&rt, alloc, &pool, length, f)?, &by_list);
+    for (count, wanted) in [(4, [0, 1, 4, 9].as_slice()), (0, [].as_slice())] {
+        let squares = for_each_raw(&rt, alloc, &pool, count, |n| n.wrapping_mul(n))?;
+        are(&rt, &squares, wanted);
     }
-    Ok(())
-}
-
-#[test]
-fn a_closure_takes_the_words_of_a_list_away(rt: HostRuntime) -> Result<(), Fault> {
-    let alloc = rt.alloc();
-    let pool = Pool::new(4, Limits::new(), NoGate);
-    let fork = String::from_str(alloc, "fork")?;
-    let and = String::from_str(alloc, "and")?;
-    let join = String::from_str(alloc, "join")?;
-    let words = vec![in alloc; fork, and, join]?;
-    let lengths = for_each(&rt, alloc, &pool, 3, words, |word| word.len())?;
-    are(&rt, &lengths, &[4, 3, 4]);
     Ok(())
 }
 
@@ -88,48 +32,54 @@ fn a_closure_is_called_once_for_each_number(rt: HostRuntime) -> Result<(), Fault
     let alloc = rt.alloc();
     let pool = Pool::new(4, Limits::new(), NoGate);
     let calls = AtomicUsize::new(0);
-    for _ in 0..50 {
-        let before = for_each_raw(&rt, alloc, &pool, 9, |_n| {
-            calls.fetch_add(1, Ordering::SeqCst)
+    for length in [1usize, 2, 3, 7, 64, 65, 1000, 2047, 2048, 5000] {
+        let before = calls.load(Ordering::SeqCst);
+        let found = for_each_raw(&rt, alloc, &pool, length, |n| {
+            calls.fetch_add(1, Ordering::SeqCst);
+            n
         })?;
-        is(&rt, before.len(), 9);
+        are(&rt, &found, &(0..length).collect::<Vec<usize>>(alloc)?);
+        is(
+            &rt,
+            calls.load(Ordering::SeqCst).wrapping_sub(before),
+            length,
+        );
     }
-    is(&rt, calls.load(Ordering::SeqCst), 450);
     Ok(())
 }
 
-// Two threads are there on every machine.
+// Two items each wait for the other. Two threads are there on every machine.
 #[test]
 fn two_items_run_side_by_side(rt: HostRuntime) -> Result<(), Fault> {
     let alloc = rt.alloc();
     let pool = Pool::new(2, Limits::new(), NoGate);
+    let meetings = Meetings::new();
+    let gate = meetings.of_jobs(2);
     for _ in 0..20 {
-        let begun = AtomicUsize::new(0);
         let items = vec![in alloc; (), ()]?;
-        let met = for_each(
-            &rt,
-            alloc,
-            &pool,
-            2,
-            items,
-            |()| meet(&begun, 2, MOST_TURNS),
-        )?;
-        are(&rt, &met, &[true, true]);
-        let begun = AtomicUsize::new(0);
-        let met = for_each_raw(&rt, alloc, &pool, 2, |_n| meet(&begun, 2, MOST_TURNS))?;
-        are(&rt, &met, &[true, true]);
+        for_each(&rt, alloc, &pool, 2, items, |()| gate.begun(0))?;
+        for_each_raw(&rt, alloc, &pool, 2, |n| gate.begun(n))?;
     }
+    is(&rt, meetings.counts(), (80, 0));
     Ok(())
 }
 
+// The first of two items waits in vain for the second.
 #[test]
 fn a_pool_of_one_thread_runs_item_after_item(rt: HostRuntime) -> Result<(), Fault> {
     let alloc = rt.alloc();
     let pool = Pool::new(1, Limits::new(), NoGate);
-    let begun = AtomicUsize::new(0);
-    let items = vec![in alloc; (), ()]?;
-    let met = for_each(&rt, alloc, &pool, 2, items, |()| meet(&begun, 2, 100000))?;
-    are(&rt, &met, &[false, true]);
+    let meetings = Meetings::new();
+    let gate = meetings.missed_by(2);
+    for_each(
+        &rt,
+        alloc,
+        &pool,
+        2,
+        vec![in alloc; (), ()]?,
+        |()| gate.begun(0),
+    )?;
+    is(&rt, meetings.counts(), (2, 1));
     let turn = AtomicUsize::new(0);
     let turns = for_each_raw(
         &rt,
@@ -143,20 +93,12 @@ fn a_pool_of_one_thread_runs_item_after_item(rt: HostRuntime) -> Result<(), Faul
 }
 
 #[test]
-fn a_pool_of_the_machine_has_as_many_threads_as_std_tells(rt: HostRuntime) -> Result<(), Fault> {
-    let alloc = rt.alloc();
+fn a_pool_of_the_machine_has_as_many_threads_as_std_tells(rt: HostRuntime) {
     let threads = match available_parallelism(&rt) {
         Ok(number) => number.get(),
         Err(_) => 1,
     };
-    let pool = Pool::of_machine(&rt);
-    is(&rt, pool.max_num_threads(), threads);
-    let by_lock = callers::squares(&rt, vec![in alloc; 0, 1, 2, 3]?)?;
-    let numbers = vec![in alloc; 0, 1, 2, 3]?;
-    let by_list = callers::squares_without_a_lock(&rt, alloc, &pool, 3, numbers)?;
-    are(&rt, &by_lock, &[0, 1, 4, 9]);
-    are(&rt, &by_list, &[0, 1, 4, 9]);
-    Ok(())
+    is(&rt, Pool::of_machine(&rt).max_num_threads(), threads);
 }
 
 // 1 where memory was refused; else the squares must have come out.

@@ -1,11 +1,17 @@
-//! Rows of calls over whole lists by a kernel, and what a refused allocation leaves of them: no job was run, and the same call with
-//! memory answers in full.
+//! Rows of calls over whole lists by a kernel, in a lock for one list and by a leader, and what a refused allocation leaves of them.
+//!
+//! No clause says that a refused call has run no job, how many jobs one has, that nothing takes no memory, or that memory which is there is
+//! used.
 ghost use Rattle.std.specs.Prelude.{◌≡◌, ◌+◌, min};
 
 use crate::checks::{are, holds, is};
+use crate::chunks::LastOdd;
 use crate::jobs::{Calls, Counting};
-use spindle::lock::{Combine, Limits, NoGate, Pool};
-use spindle::{Change, Fault, Kernel, SharedList, map, map_pairs, reduce_pairs, update};
+use spindle::lock::{Combine, Limits, LockOf, NoGate, Pool};
+use spindle::{
+    Change, Fault, Kernel, Shared, SharedList, TotalsOf, UpdatesOf, map, map_pairs, reduce_pairs,
+    update,
+};
 use std::alloc::Global;
 
 // A number, but no more than one that is borrowed.
@@ -26,8 +32,8 @@ impl<'a> Kernel for AtMost<'a> {
     }
 }
 
-/// Eleven numbers; where memory for them is refused once, it is asked for again.
-pub fn eleven_numbers(alloc: Global) -> Result<Vec<u32>, Fault> {
+// Eleven numbers; where memory for them is refused once, it is asked for again.
+fn eleven_numbers(alloc: Global) -> Result<Vec<u32>, Fault> {
     let numbers = [3, 1, 4, 1, 5, 9, 2, 6, 5, 3, u32::MAX];
     match Vec::from_array(alloc, numbers) {
         Ok(list) => Ok(list),
@@ -37,18 +43,6 @@ pub fn eleven_numbers(alloc: Global) -> Result<Vec<u32>, Fault> {
 
 // Each of them, but 7 at most.
 const LEAST: [u32; 11] = [3, 1, 4, 1, 5, 7, 2, 6, 5, 3, 7];
-
-#[test]
-fn outputs_of_a_map_stand_in_the_order_of_their_items(rt: HostRuntime) -> Result<(), Fault> {
-    let alloc = rt.alloc();
-    for threads in [1, 2, 4] {
-        let pool = Pool::new(threads, Limits::new(), NoGate);
-        let kernel = AtMost { most: &7 };
-        let least = map(&rt, alloc, &pool, &kernel, eleven_numbers(alloc)?)?;
-        are(&rt, &least, &LEAST);
-    }
-    Ok(())
-}
 
 #[test]
 fn refused_map_has_run_no_job(rt: HostRuntime) -> Result<(), Fault> {
@@ -66,27 +60,15 @@ fn refused_map_has_run_no_job(rt: HostRuntime) -> Result<(), Fault> {
     };
     are(&rt, &least, &LEAST);
     is(&rt, calls.in_all(), (11, 11));
+    let none = map(&rt, alloc, &pool, &kernel, Vec::new(alloc))?;
+    is(&rt, (none.capacity(), calls.in_all()), (0, (11, 11)));
     Ok(())
 }
 
-// An empty list that took memory would be refused it once.
-#[test]
-fn refused_nothing_where_a_kernel_has_no_items(rt: HostRuntime) -> Result<(), Fault> {
-    let alloc = rt.alloc();
-    let calls = Calls::new();
-    let pool = Pool::new(4, Limits::new(), Counting { calls: &calls });
-    let kernel = AtMost { most: &7 };
-    let least = map(&rt, alloc, &pool, &kernel, Vec::new(alloc))?;
-    is(&rt, least.capacity(), 0);
-    is(&rt, calls.in_all(), (0, 0));
-    Ok(())
-}
-
-/// Lowers a number to a bound.
+// Lowers a number to a bound.
 #[derive(Drop)]
-pub struct Bound {
-    /// No number is above it.
-    pub most: u32,
+struct Bound {
+    most: u32,
 }
 
 impl Change for Bound {
@@ -99,25 +81,8 @@ impl Change for Bound {
     }
 }
 
-/// The eleven numbers, none above 5.
-pub const BOUNDED: [u32; 11] = [3, 1, 4, 1, 5, 5, 2, 5, 5, 3, 5];
-
-#[test]
-fn an_updated_list_has_its_items_in_their_places(rt: HostRuntime) -> Result<(), Fault> {
-    let alloc = rt.alloc();
-    for threads in [1, 2, 4] {
-        let pool = Pool::new(threads, Limits::new(), NoGate);
-        let list = update(
-            &rt,
-            alloc,
-            &pool,
-            &Bound { most: 5 },
-            eleven_numbers(alloc)?,
-        )?;
-        are(&rt, &list, &BOUNDED);
-    }
-    Ok(())
-}
+// The eleven numbers, none above 5.
+const BOUNDED: [u32; 11] = [3, 1, 4, 1, 5, 5, 2, 5, 5, 3, 5];
 
 #[test]
 fn refused_update_has_run_no_job(rt: HostRuntime) -> Result<(), Fault> {
@@ -211,5 +176,47 @@ fn pairs_are_combined_in_their_order(rt: HostRuntime) -> Result<(), Fault> {
         let last = reduce_pairs::<_, _, LastSecond>(&rt, alloc, &pool, jobs, &first, &second)?;
         is(&rt, last, 5);
     }
+    Ok(())
+}
+
+#[test]
+fn a_leader_updates_a_list_again(rt: HostRuntime) -> Result<(), Fault> {
+    let alloc = rt.alloc();
+    let pool = Pool::new(4, Limits::new(), NoGate);
+    let kernel = Shared::new(alloc, Bound { most: 5 })?;
+    let numbers = eleven_numbers(alloc)?;
+    let list = LockOf::<UpdatesOf<Bound>>::with_slots_in_place(
+        &rt,
+        alloc,
+        &pool,
+        4,
+        5,
+        |leader| -> Result<Vec<u32>, Fault> {
+            let once = leader.update(&rt, alloc, &kernel, numbers)?;
+            leader.update(&rt, alloc, &kernel, once)
+        },
+    )??;
+    are(&rt, &list, &BOUNDED);
+    Ok(())
+}
+
+#[test]
+fn a_leader_makes_totals_again(rt: HostRuntime) -> Result<(), Fault> {
+    let alloc = rt.alloc();
+    let pool = Pool::new(4, Limits::new(), NoGate);
+    let list = SharedList::from_vec(alloc, eleven_numbers(alloc)?)?;
+    let list = list.run(0, list.len())?;
+    let (one, other) = LockOf::<TotalsOf<LastOdd>>::with_slots_in_place(
+        &rt,
+        alloc,
+        &pool,
+        4,
+        5,
+        |leader| -> Result<(u32, u32), Fault> {
+            let one = leader.reduce(&rt, alloc, &list)?;
+            Ok((one, leader.reduce(&rt, alloc, &list)?))
+        },
+    )??;
+    is(&rt, (one, other), (u32::MAX, u32::MAX));
     Ok(())
 }

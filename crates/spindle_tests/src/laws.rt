@@ -1,17 +1,16 @@
-//! Kinds of jobs that are given lists of signed numbers and of pairs: their law is that of lists.
+//! Kinds of jobs that are given lists of signed numbers and of pairs: their law is that of lists. That they are proved is the test.
 ghost use Rattle.std.specs.Prelude.{◌≡◌, length};
 ghost use Rattle.std.proofs.Common.{rules};
 ghost use Rattle.spindle.specs.Same.{law_of_lists};
 
-use crate::checks::are;
-use spindle::lock::{End, Job, JobCx, Limits, NoGate, Pool};
-use spindle::{Fault, ListRun, SharedList, run_one};
+use spindle::ListRun;
+use spindle::lock::{End, Job, JobCx};
 use std::alloc::Global;
 use std::sync::Wait;
 use std::thread::Threads;
 
-// Counts the pairs of a run.
-struct CountPairs;
+/// Counts the pairs of a run.
+pub struct CountPairs;
 
 impl Job for CountPairs {
     type In = ListRun<(u32, u32)>;
@@ -34,8 +33,8 @@ impl Job for CountPairs {
     ghost equal_is_same = { law_of_lists (Prim.search rules) };
 }
 
-// Counts the numbers of a run.
-struct CountNumbers;
+/// Counts the numbers of a run.
+pub struct CountNumbers;
 
 impl Job for CountNumbers {
     type In = ListRun<i64>;
@@ -56,25 +55,4 @@ impl Job for CountNumbers {
     }
 
     ghost equal_is_same = { law_of_lists (Prim.search rules) };
-}
-
-#[test]
-fn lists_of_signed_numbers_and_of_pairs_are_inputs(rt: HostRuntime) -> Result<(), Fault> {
-    let alloc = rt.alloc();
-    let pool = Pool::new(2, Limits::new(), NoGate);
-    let pairs = SharedList::from_vec(alloc, vec![in alloc; (1, 2), (3, 4), (5, 6)]?)?;
-    let runs = pairs.share_out_evenly(alloc, 2)?;
-    are(
-        &rt,
-        &run_one::<CountPairs>(&rt, alloc, &pool, 2, runs)?,
-        &[2, 1],
-    );
-    let numbers = SharedList::from_vec(alloc, vec![in alloc; -1, 0, 1]?)?;
-    let runs = numbers.share_out_evenly(alloc, 2)?;
-    are(
-        &rt,
-        &run_one::<CountNumbers>(&rt, alloc, &pool, 2, runs)?,
-        &[2, 1],
-    );
-    Ok(())
 }

@@ -1,6 +1,7 @@
-//! Worked examples over the whole library: callers whose contracts are proved from the library's public clauses alone,
-//! and rows of inputs with the outputs that they must give. The rows of locks with trays stand in `spindle_trays_tests`,
-//! those of locks with slots in `spindle_slots_tests`.
+//! Tests of locks of each kind, and of calls that open one: callers whose contracts are proved from the library's public clauses alone,
+//! and rows of inputs with the outputs that they must give, or with what a refused allocation leaves.
+//!
+//! All of it is read with the tests alone, so that it is proved once.
 #![tactic(auto)]
 
 #[cfg(test)]
@@ -8,27 +9,58 @@ mod attempt_rows;
 #[cfg(test)]
 mod call_rows;
 #[cfg(test)]
-mod caller_rows;
-pub mod callers;
+mod callers;
 #[cfg(test)]
 mod checks;
-pub mod chunks;
+#[cfg(test)]
+mod chunks;
+#[cfg(test)]
+mod crossings;
 #[cfg(test)]
 mod division_rows;
 #[cfg(test)]
 mod free_rows;
 #[cfg(test)]
+mod gates;
+#[cfg(test)]
+mod in_place_rows;
+#[cfg(test)]
+mod item_rows;
+#[cfg(test)]
+mod jobs;
+#[cfg(test)]
 mod kernel_rows;
 #[cfg(test)]
 mod laws;
 #[cfg(test)]
-mod leader_rows;
+mod lists;
+#[cfg(test)]
+mod marks;
+#[cfg(test)]
+mod nested;
 #[cfg(test)]
 mod pass_rows;
 #[cfg(test)]
+mod place_rows;
+#[cfg(test)]
 mod refused_calls;
 #[cfg(test)]
-mod try_rows;
-
+mod refused_rounds;
 #[cfg(test)]
-use spindle_trays_tests::{jobs, sevens};
+mod refused_slots;
+#[cfg(test)]
+mod rounds;
+#[cfg(test)]
+mod sevens;
+#[cfg(test)]
+mod square_rows;
+#[cfg(test)]
+mod staying;
+#[cfg(test)]
+mod stopping_rows;
+#[cfg(test)]
+mod tray_rows;
+#[cfg(test)]
+mod try_rows;
+#[cfg(test)]
+mod trying;
