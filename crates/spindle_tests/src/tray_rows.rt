@@ -217,6 +217,17 @@ fn tallied<H: Wait + Abort>(
     Ok(tally.finish::<Trying>(&pieces, left))
 }
 
+// The same by the marks themselves.
+fn told<H: Wait + Abort>(
+    rt: &H,
+    alloc: Global,
+    fails: bool,
+    back: Back,
+    left: [bool; 5],
+) -> Result<Result<Report<Item>, usize>, Fail> {
+    tallied(rt, alloc, fails, back, &left)
+}
+
 type Numbers = &'static [usize];
 
 // Whether the first item fails, the pieces that are brought back, and the marks; the pieces that ran and those that were skipped, or
@@ -267,7 +278,7 @@ const TALLIED: [Row; 22] = [
 #[test]
 fn each_piece_ran_or_was_skipped_or_is_lost(rt: HostRuntime) -> Result<(), Fail> {
     for (fails, back, left, ran, skipped, lost) in TALLIED {
-        match tallied(&rt, rt.alloc(), fails, back, &left)? {
+        match told(&rt, rt.alloc(), fails, back, left)? {
             Ok(report) => {
                 these_ran(&rt, &report, ran);
                 are(&rt, &report.skipped, skipped);
