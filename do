@@ -83,7 +83,7 @@ refusals() { .ci/refusals "$@"; }
 soak() {
   local seconds=${1:-15}
   # A lock's rounds go on where the time is over, and beside proofs threads that meet are slow.
-  (cd crates/spindle_bench && rt try --seconds $((600 + 2 * seconds)) -- soak "$seconds")
+  (cd crates/spindle_examples_run && rt try --seconds $((600 + 2 * seconds)) -- soak "$seconds")
 }
 
 #: edits CRATE..        try the crates' must-fail edits: the prover must refuse each in the function that it changes
@@ -93,7 +93,7 @@ edits() {
   .ci/edits "$@"
 }
 
-#: bench [check]        time the rounds of locks and of the kit's rayon, as THREADS, SHAPE and POOL say, or only check their results
+#: bench [check]        time the rounds of locks, as THREADS, SHAPE and POOL say, or only check their results
 bench() {
   (cd crates/spindle_bench && rt run --cpu "${CPU:-x86-64-v3}" -- "$@")
 }

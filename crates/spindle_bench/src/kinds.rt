@@ -1,276 +1,275 @@
-//! The kinds of jobs of the shapes, but of `nested`: each over lists and in place.
-ghost use Rattle.std.specs.Prelude.{◌≡◌, IfOk};
+//! The kinds of jobs of the shapes, but of `nested`: each over lists and in place; and what their values ought to be.
+ghost use Rattle.std.specs.Prelude.{◌≡◌, true};
 ghost use Rattle.std.proofs.Common.{rules};
-ghost use Rattle.spindle_bench.specs.Kernels.{one_more_of, squares_of};
 
-use crate::kernels::{
-    are_all, are_squares, each_and_one, each_squared, one_more_by_lines, square_each, stirred,
-};
-use crate::series::{Listed, Placed};
-use crate::stop::Stop;
-use spindle::lock::{End, InPlace, Job, JobCx, Update};
-use spindle::{Fault, SharedList};
-use std::alloc::Global;
-use std::sync::Wait;
-use std::thread::Threads;
+use crate::series::Placed;
+use spindle::prelude::*;
+use std::marker::PhantomData;
 
 /// A list with room for so many numbers, 32 MiB, has pages of its own whatever was let go before, since the C library maps it, and its
 /// first number stands 16 bytes behind their beginning. Room that isn't used takes no memory.
 const OWN_PAGES: usize = 4194304;
 
-/// Does nothing; in place its number stays.
-pub struct Nothing;
+/// So many numbers stand between a place 16 bytes behind the beginning of a cache line and the next line.
+const BEFORE_A_LINE: usize = 6;
 
-impl Job for Nothing {
-    type In = usize;
+/// What a job over lists is given.
+pub trait Input: Clone + Eq + Drop {
+    /// What the job of this number is given in the first round, so many numbers where that is a list.
+    fn input(alloc: Global, number: usize, size: usize) -> Result<Self, Fault>;
 
-    type Out = ();
+    /// Equal inputs are the same value.
+    ghost equal_is_same: { (x y : Self) → Self.eq x y ≡ true → x ≡ y };
+}
+
+impl Input for usize {
+    ghost equal_is_same = { Prim.search rules };
+
+    fn input(_: Global, number: usize, _: usize) -> Result<usize, Fault> {
+        Ok(number)
+    }
+}
+
+/// Numbers.
+type List = SharedList<u64>;
+
+impl Input for List {
+    ghost equal_is_same = { Prim.search rules };
+
+    fn input(alloc: Global, number: usize, size: usize) -> Result<List, Fault> {
+        Ok(SharedList::from_vec(alloc, list(alloc, number, size, 0)?)?)
+    }
+}
+
+/// What jobs of a shape do. The number of a job and the numbers of its list, where it has one, tell its values after each round.
+pub trait Task {
+    /// What a job over lists is given.
+    type In: Input;
+
+    /// What it answers.
+    type Out: PartialEq + Drop;
+
+    /// What is changed in place.
+    type Item: PartialEq + Drop;
+
+    /// A job over lists.
+    fn answer(alloc: Global, input: &Self::In) -> Self::Out;
+
+    /// A job in place.
+    fn update(item: Self::Item) -> Self::Item;
+
+    /// What it answers after so many rounds.
+    fn output(alloc: Global, number: usize, size: usize, rounds: u64) -> Result<Self::Out, Fault>;
+
+    /// Its item after so many rounds, before the first after 0.
+    fn item(alloc: Global, number: usize, size: usize, rounds: u64) -> Result<Self::Item, Fault>;
+
+    /// What the jobs of the next round are given, after this in the first and these answers: the same, where they aren't given those.
+    fn next(_: Global, first: &Vec<Self::In>, _: Vec<Self::Out>) -> Result<Vec<Self::In>, Fault> {
+        Ok(first.clone()?)
+    }
+}
+
+/// The context of a job that opens no lock.
+type Cx<'a> = JobCx<'a, End>;
+
+/// The kind of job that does this.
+pub struct Doing<T> {
+    task: PhantomData<T>,
+}
+
+impl<T: Task> Job for Doing<T> {
+    type In = T::In;
+
+    type Out = T::Out;
 
     type Inner = End;
 
     ghost meets = { λ _ _. Unit {0} };
 
-    fn run<H: Threads + Wait + Sync>(_: &H, _: Global, _number: &usize, _: &mut JobCx<End>) {}
+    fn run<H: Threads + Wait + Sync>(_: &H, alloc: Global, x: &T::In, _: &mut Cx) -> T::Out {
+        T::answer(alloc, x)
+    }
 
-    ghost equal_is_same = { Prim.search rules };
+    ghost equal_is_same = { T.In.equal_is_same };
 }
 
-impl Update for Nothing {
-    type Item = usize;
+impl<T: Task> Update for Doing<T> {
+    type Item = T::Item;
 
     type Inner = End;
 
-    ghost updated = { λ old new. new ≡ old };
+    ghost updated = { λ _ _. Unit {0} };
 
-    fn run<H: Threads + Wait + Sync>(_: &H, _: Global, item: usize, _: &mut JobCx<End>) -> usize {
-        item
+    fn run<H: Threads + Wait + Sync>(_: &H, _: Global, x: T::Item, _: &mut Cx) -> T::Item {
+        T::update(x)
     }
 }
 
-impl Listed for Nothing {
-    fn first(_: Global, number: usize, _size: usize) -> Result<usize, Stop> {
-        Ok(number)
-    }
-
-    fn is_right(_first: &usize, _output: &(), _rounds: u64) -> bool {
-        true
+impl<T: Task> Placed for InPlace<Doing<T>> {
+    fn item(alloc: Global, number: usize, size: usize, rounds: u64) -> Result<T::Item, Fault> {
+        T::item(alloc, number, size, rounds)
     }
 }
 
-impl Placed for InPlace<Nothing> {
-    fn first(_: Global, number: usize, _size: usize) -> Result<usize, Stop> {
-        Ok(number)
+/// Does nothing; in place its number stays.
+pub struct Nothing;
+
+impl Task for Nothing {
+    type In = usize;
+
+    type Out = ();
+
+    type Item = usize;
+
+    fn answer(_: Global, _number: &usize) {}
+
+    fn update(number: usize) -> usize {
+        number
     }
 
-    fn is_right(item: &usize, number: usize, _rounds: u64) -> bool {
-        *item == number
+    fn output(_: Global, _: usize, _: usize, _: u64) -> Result<(), Fault> {
+        Ok(())
+    }
+
+    fn item(_: Global, number: usize, _: usize, _: u64) -> Result<usize, Fault> {
+        Ok(number)
     }
 }
 
 /// Stirs its number by dependent arithmetic; in place it writes down beside it what comes out.
 pub struct Stir;
 
-impl Job for Stir {
+// 26 turns of a xorshift generator from the number and one more: about 50 ns in which no step overlaps another.
+fn stirred(number: u64) -> u64 {
+    let mut x = number.wrapping_add(1);
+    for _ in 0..26 {
+        x ^= x << 13;
+        x ^= x >> 7;
+        x ^= x << 17;
+    }
+    x
+}
+
+impl Task for Stir {
     type In = usize;
 
     type Out = u64;
 
-    type Inner = End;
+    type Item = (u64, u64);
 
-    ghost meets = { λ _ _. Unit {0} };
-
-    fn run<H: Threads + Wait + Sync>(_: &H, _: Global, item: &usize, _: &mut JobCx<End>) -> u64 {
-        stirred(*item as u64)
+    fn answer(_: Global, number: &usize) -> u64 {
+        stirred(*number as u64)
     }
 
-    ghost equal_is_same = { Prim.search rules };
-}
+    fn update(pair: (u64, u64)) -> (u64, u64) {
+        (pair.0, stirred(pair.0))
+    }
 
-/// A number, and what came out of it once it was stirred.
-pub type Pair = (u64, u64);
+    fn output(_: Global, number: usize, _: usize, _: u64) -> Result<u64, Fault> {
+        Ok(stirred(number as u64))
+    }
 
-impl Update for Stir {
-    type Item = Pair;
-
-    type Inner = End;
-
-    ghost updated = { λ _ _. Unit {0} };
-
-    fn run<H: Threads + Wait + Sync>(_: &H, _: Global, item: Pair, _: &mut JobCx<End>) -> Pair {
-        (item.0, stirred(item.0))
+    fn item(_: Global, number: usize, _: usize, rounds: u64) -> Result<(u64, u64), Fault> {
+        Ok((
+            number as u64,
+            stirred(number as u64).wrapping_mul(rounds.min(1)),
+        ))
     }
 }
-
-impl Listed for Stir {
-    fn first(_: Global, number: usize, _size: usize) -> Result<usize, Stop> {
-        Ok(number)
-    }
-
-    fn is_right(first: &usize, output: &u64, _rounds: u64) -> bool {
-        *output == stirred(*first as u64)
-    }
-}
-
-impl Placed for InPlace<Stir> {
-    fn first(_: Global, number: usize, _size: usize) -> Result<Pair, Stop> {
-        Ok((number as u64, 0))
-    }
-
-    fn is_right(item: &Pair, number: usize, _rounds: u64) -> bool {
-        *item == (number as u64, stirred(number as u64))
-    }
-}
-
-/// What the job of a stencil over lists answers.
-pub type Sums = Result<SharedList<u64>, Fault>;
 
 /// Answers a list of each number and one more; in place it adds one to each, by whole cache lines.
 pub struct AddOne;
 
-impl Job for AddOne {
-    type In = SharedList<u64>;
-
-    type Out = Sums;
-
-    type Inner = End;
-
-    ghost meets = { λ numbers output. IfOk output (λ sums. sums ≡ one_more_of numbers) };
-
-    fn run<H: Threads + Wait + Sync>(
-        _: &H,
-        alloc: Global,
-        numbers: &SharedList<u64>,
-        _: &mut JobCx<End>,
-    ) -> Sums {
-        Ok(SharedList::from_vec(alloc, each_and_one(alloc, numbers.as_slice())?)?)
+/// Adds one to each number; the sum wraps.
+pub fn add_one(numbers: &mut [u64]) {
+    for x in numbers {
+        *x = x.wrapping_add(1);
     }
-
-    ghost equal_is_same = { Prim.search rules };
 }
 
-impl Update for AddOne {
+// The numbers of a job's list after so many rounds that add one.
+fn list(alloc: Global, number: usize, size: usize, rounds: u64) -> Result<Vec<u64>, Fault> {
+    let from = (size.saturating_mul(number) as u64).saturating_add(rounds);
+    Ok((from..from.saturating_add(size as u64)).collect(alloc)?)
+}
+
+impl Task for AddOne {
+    type In = List;
+
+    type Out = Result<List, Fault>;
+
     type Item = Vec<u64>;
 
-    type Inner = End;
+    fn answer(alloc: Global, numbers: &List) -> Result<List, Fault> {
+        let sums = numbers.as_slice().iter().map(|x| x.wrapping_add(1));
+        Ok(SharedList::from_vec(alloc, sums.collect(alloc)?)?)
+    }
 
-    ghost updated = { λ old new. new.items ≡ one_more_of old.items };
-
-    fn run<H: Threads + Wait + Sync>(
-        _: &H,
-        _: Global,
-        mut numbers: Vec<u64>,
-        _: &mut JobCx<End>,
-    ) -> Vec<u64> {
-        one_more_by_lines(numbers.as_mut_slice());
+    fn update(mut numbers: Vec<u64>) -> Vec<u64> {
+        let first = numbers.len().min(BEFORE_A_LINE);
+        let (before, lines) = numbers.as_mut_slice().split_at_mut(first);
+        add_one(before);
+        add_one(lines);
         numbers
     }
-}
 
-impl Listed for AddOne {
-    fn first(alloc: Global, _number: usize, size: usize) -> Result<SharedList<u64>, Stop> {
-        Ok(SharedList::from_vec(alloc, vec![in alloc; 0u64; size]?)?)
+    fn output(alloc: Global, number: usize, size: usize, rounds: u64) -> Result<Self::Out, Fault> {
+        Ok(Ok(SharedList::from_vec(alloc, list(alloc, number, size, rounds)?)?))
     }
 
-    fn next(alloc: Global, first: &Vec<Self::In>, sums: Vec<Sums>) -> Result<Vec<Self::In>, Stop> {
-        if sums.is_empty() {
-            return Ok(first.clone()?);
-        }
+    fn item(alloc: Global, number: usize, size: usize, rounds: u64) -> Result<Vec<u64>, Fault> {
+        let mut numbers = Vec::with_capacity(alloc, OWN_PAGES)?;
+        numbers.extend_from_slice(list(alloc, number, size, rounds)?.as_slice())?;
+        Ok(numbers)
+    }
+
+    fn next(alloc: Global, _: &Vec<List>, sums: Vec<Self::Out>) -> Result<Vec<List>, Fault> {
         let mut next = Vec::with_capacity(alloc, sums.len())?;
         for list in sums {
             next.push(list?)?;
         }
         Ok(next)
     }
-
-    fn is_right(first: &SharedList<u64>, output: &Sums, rounds: u64) -> bool {
-        matches!(output, Ok(sums) if are_all(sums.as_slice(), first.len(), rounds))
-    }
 }
-
-impl Placed for InPlace<AddOne> {
-    fn first(alloc: Global, _number: usize, size: usize) -> Result<Vec<u64>, Stop> {
-        let mut zeros = Vec::with_capacity(alloc, OWN_PAGES)?;
-        zeros.resize(size, 0)?;
-        Ok(zeros)
-    }
-
-    fn is_right(sums: &Vec<u64>, _number: usize, rounds: u64) -> bool {
-        are_all(sums.as_slice(), sums.len(), rounds)
-    }
-}
-
-/// What the job of `map` over lists answers.
-pub type Squares = Result<Vec<u64>, Fault>;
 
 /// Answers the squares of a list; in place it writes them into another.
 pub struct Square;
 
-impl Job for Square {
-    type In = SharedList<u64>;
-
-    type Out = Squares;
-
-    type Inner = End;
-
-    ghost meets = { λ numbers output. IfOk output (λ squares. squares.items ≡ squares_of numbers) };
-
-    fn run<H: Threads + Wait + Sync>(
-        _: &H,
-        alloc: Global,
-        numbers: &SharedList<u64>,
-        _: &mut JobCx<End>,
-    ) -> Squares {
-        Ok(each_squared(alloc, numbers.as_slice())?)
-    }
-
-    ghost equal_is_same = { Prim.search rules };
-}
-
 /// Numbers, and as many others, which become their squares.
-#[derive(Drop)]
-pub struct Squaring {
-    numbers: SharedList<u64>,
-    squares: Vec<u64>,
-}
+type Squaring = (List, Vec<u64>);
 
-impl Update for Square {
+impl Task for Square {
+    type In = List;
+
+    type Out = Result<Vec<u64>, Fault>;
+
     type Item = Squaring;
 
-    type Inner = End;
+    fn answer(alloc: Global, numbers: &List) -> Result<Vec<u64>, Fault> {
+        let squares = numbers.as_slice().iter().map(|x| x.wrapping_mul(*x));
+        Ok(squares.collect(alloc)?)
+    }
 
-    ghost updated = { λ _ _. Unit {0} };
-
-    fn run<H: Threads + Wait + Sync>(
-        _: &H,
-        _: Global,
-        mut item: Squaring,
-        _: &mut JobCx<End>,
-    ) -> Squaring {
-        square_each(item.numbers.as_slice(), item.squares.as_mut_slice());
+    fn update(mut item: Squaring) -> Squaring {
+        let (numbers, squares) = (item.0.as_slice(), item.1.as_mut_slice());
+        let count = numbers.len().min(squares.len());
+        for at in 0..count {
+            squares[at] = numbers[at].wrapping_mul(numbers[at]);
+        }
         item
     }
-}
 
-impl Listed for Square {
-    fn first(alloc: Global, number: usize, size: usize) -> Result<SharedList<u64>, Stop> {
-        let from = size.saturating_mul(number) as u64;
-        let numbers = (from..from.saturating_add(size as u64)).collect(alloc)?;
-        Ok(SharedList::from_vec(alloc, numbers)?)
+    fn output(alloc: Global, number: usize, size: usize, _: u64) -> Result<Self::Out, Fault> {
+        Ok(Square::answer(alloc, &List::input(alloc, number, size)?))
     }
 
-    fn is_right(first: &SharedList<u64>, output: &Squares, _rounds: u64) -> bool {
-        matches!(output, Ok(squares) if are_squares(squares.as_slice(), first.as_slice()))
-    }
-}
-
-impl Placed for InPlace<Square> {
-    fn first(alloc: Global, number: usize, size: usize) -> Result<Squaring, Stop> {
-        let numbers = <Square as Listed>::first(alloc, number, size)?;
-        let squares = vec![in alloc; 0u64; size]?;
-        Ok(Squaring { numbers, squares })
-    }
-
-    fn is_right(item: &Squaring, _number: usize, _rounds: u64) -> bool {
-        are_squares(item.squares.as_slice(), item.numbers.as_slice())
+    fn item(alloc: Global, number: usize, size: usize, rounds: u64) -> Result<Squaring, Fault> {
+        let numbers = List::input(alloc, number, size)?;
+        let mut squares = vec![in alloc; 0u64; size]?;
+        if rounds > 0 {
+            squares = Square::answer(alloc, &numbers)?;
+        }
+        Ok((numbers, squares))
     }
 }

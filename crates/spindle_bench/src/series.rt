@@ -1,193 +1,153 @@
-//! Series of rounds: what a shape's first round is given, what each round leaves, and whether that is right.
+//! Series of rounds: what stands before the first, how the next one is played, and what ought to stand then.
 ghost use Rattle.std.specs.Prelude.{◌≡◌, ◌<◌};
 ghost use denote.Param.Send.{IsSync};
 
-use crate::shape::Shape;
-use crate::stop::Stop;
-use spindle::lock::{
-    End, Gate, Job, Leader, Opens, OpensSlots, PlaysInPlace, Report, RunsRounds, SlotLeader,
-    Updates,
-};
-use std::alloc::Global;
+use crate::kinds::{Doing, Input, Task};
+use crate::settings::Shape;
+use spindle::lock::{Opens, PlaysInPlace, Updates};
+use spindle::prelude::*;
 use std::mem;
-use std::sync::Wait;
-use std::thread::Threads;
 
-/// A kind of job whose rounds answer new lists.
-pub trait Listed: Job<Inner = End> {
-    /// What the job of this number is given in the first round, so many numbers where that is a list.
-    fn first(alloc: Global, number: usize, size: usize) -> Result<Self::In, Stop>;
+/// Whether there was memory.
+pub type Done = Result<(), Fault>;
 
-    /// What the jobs of the next round are given, after this in the first and these answers: the same, where they aren't given those.
-    fn next(_: Global, first: &Vec<Self::In>, _: Vec<Self::Out>) -> Result<Vec<Self::In>, Stop> {
-        Ok(first.clone()?)
-    }
+/// What threads of a lock need of their runtime.
+pub trait Runs: Threads + Wait + Sync {}
 
-    /// Whether a job that was given this in the first round has answered right after so many.
-    fn is_right(first: &Self::In, output: &Self::Out, rounds: u64) -> bool;
-}
+impl<H: Threads + Wait + Sync> Runs for H {}
 
 /// A kind of job whose rounds are played in place.
-pub trait Placed: Updates<In = (), Out = ()> {
-    /// The item of the job of this number before the first round, so many numbers where that is a list.
-    fn first(alloc: Global, number: usize, size: usize) -> Result<Self::Item, Stop>;
-
-    /// Whether the item of the job of this number is right after so many rounds.
-    fn is_right(item: &Self::Item, number: usize, rounds: u64) -> bool;
+pub trait Placed: Updates<In = (), Out = (), Item: PartialEq> {
+    /// The item of the job of this number after so many rounds, so many numbers where that is a list.
+    fn item(alloc: Global, number: usize, size: usize, rounds: u64) -> Result<Self::Item, Fault>;
 }
 
 /// A series of rounds, over what the last one left.
 pub trait Series: Drop {
-    /// What stands before the first round of this shape, for rounds of so many jobs.
-    fn new(alloc: Global, shape: Shape, jobs: usize) -> Result<Self, Stop>
-        requires { 0 < jobs };
+    /// What stands before the first round of this shape.
+    fn new(alloc: Global, shape: Shape) -> Result<Self, Fault>;
 
-    /// Whether what the rounds left is right after so many of them.
-    fn is_right(&self, rounds: u64) -> bool;
-}
-
-/// A leader that tells whether all threads of its lock are there.
-pub trait SeesThreads {
-    /// Whether they are.
-    fn has_all_threads(&self) -> bool;
-}
-
-impl<'a, J: Opens<L>, G: Gate, L> SeesThreads for Leader<'a, J, G, L> {
-    fn has_all_threads(&self) -> bool {
-        self.current_num_threads() == self.max_num_threads()
-    }
-}
-
-impl<'a, J: OpensSlots<P>, G: Gate, P> SeesThreads for SlotLeader<'a, J, G, P> {
-    fn has_all_threads(&self) -> bool {
-        self.current_num_threads() == self.max_num_threads()
-    }
+    /// Whether what stands after so many rounds is right.
+    fn is_right(&self, alloc: Global, shape: Shape, rounds: u64) -> Result<bool, Fault>;
 }
 
 /// A leader that plays the rounds of a series S.
-pub trait Plays<S>: SeesThreads {
+pub trait Plays<S> {
     /// Plays the next round.
-    fn play<H: Threads + Wait + Sync>(
-        &mut self,
-        rt: &H,
-        alloc: Global,
-        series: &mut S,
-    ) -> Result<(), Stop>
+    fn play<H: Runs>(&mut self, rt: &H, alloc: Global, series: &mut S) -> Done
         requires { IsSync H.row };
+
+    /// Plays so many rounds.
+    fn play_all<H: Runs>(&mut self, rt: &H, alloc: Global, series: &mut S, rounds: u64) -> Done
+        requires { IsSync H.row }
+    {
+        for _ in 0..rounds {
+            self.play(rt, alloc, series)?;
+        }
+        Ok(())
+    }
+}
+
+// What the jobs of a shape answer after so many rounds.
+fn outputs<T: Task>(alloc: Global, shape: Shape, rounds: u64) -> Result<Vec<T::Out>, Fault> {
+    let mut outputs = Vec::new(alloc);
+    for number in 0..shape.jobs {
+        outputs.push(T::output(alloc, number, shape.size, rounds)?)?;
+    }
+    Ok(outputs)
 }
 
 /// Rounds that answer new lists.
 #[derive(Drop)]
-pub struct ListSeries<J: Job> {
-    first: Vec<J::In>,
-    outputs: Vec<J::Out>,
+pub struct Lists<T: Task> {
+    first: Vec<T::In>,
+    outputs: Vec<T::Out>,
 }
 
-impl<J: Listed> Series for ListSeries<J> {
-    fn new(alloc: Global, shape: Shape, jobs: usize) -> Result<ListSeries<J>, Stop> {
+impl<T: Task> Series for Lists<T> {
+    fn new(alloc: Global, shape: Shape) -> Result<Lists<T>, Fault> {
         let mut first = Vec::new(alloc);
-        for number in 0..jobs {
-            first.push(J::first(alloc, number, shape.numbers() / jobs)?)?;
+        for number in 0..shape.jobs {
+            first.push(T::In::input(alloc, number, shape.size)?)?;
         }
-        let outputs = Vec::new(alloc);
-        Ok(ListSeries { first, outputs })
+        let outputs = outputs::<T>(alloc, shape, 0)?;
+        Ok(Lists { first, outputs })
     }
 
-    fn is_right(&self, rounds: u64) -> bool {
-        for (first, output) in self.first.iter().zip(&self.outputs) {
-            if !J::is_right(first, output, rounds) {
-                return false;
-            }
-        }
-        self.outputs.len() == self.first.len()
+    fn is_right(&self, alloc: Global, shape: Shape, rounds: u64) -> Result<bool, Fault> {
+        Ok(self.outputs == outputs::<T>(alloc, shape, rounds)?)
     }
 }
 
-impl<J: Listed, E: RunsRounds<J> + SeesThreads> Plays<ListSeries<J>> for E {
-    fn play<H: Threads + Wait + Sync>(
-        &mut self,
-        rt: &H,
-        alloc: Global,
-        series: &mut ListSeries<J>,
-    ) -> Result<(), Stop> {
-        let outputs = mem::replace(&mut series.outputs, Vec::new(alloc));
-        let mut inputs = J::next(alloc, &series.first, outputs)?;
+impl<T: Task, E: RunsRounds<Doing<T>>> Plays<Lists<T>> for E {
+    fn play<H: Runs>(&mut self, rt: &H, alloc: Global, lists: &mut Lists<T>) -> Done {
+        let outputs = mem::replace(&mut lists.outputs, Vec::new(alloc));
+        let mut inputs = T::next(alloc, &lists.first, outputs)?;
         let jobs = inputs.len();
-        Ok(self.for_each_into(rt, alloc, jobs, &mut inputs, &mut series.outputs)?)
+        self.for_each_into(rt, alloc, jobs, &mut inputs, &mut lists.outputs)
     }
 }
 
 /// Rounds over one list that may stop, into one report.
 #[derive(Drop)]
-pub struct TrySeries<J: Job> {
-    lists: ListSeries<J>,
+pub struct Tries<J: Job> {
+    first: Vec<J::In>,
     report: Report<J::Out>,
 }
 
-impl<J: Listed> Series for TrySeries<J> {
-    fn new(alloc: Global, shape: Shape, jobs: usize) -> Result<TrySeries<J>, Stop> {
-        let lists = ListSeries::new(alloc, shape, jobs)?;
+impl<T: Task> Series for Tries<Doing<T>> {
+    fn new(alloc: Global, shape: Shape) -> Result<Tries<Doing<T>>, Fault> {
+        let first = Lists::<T>::new(alloc, shape)?.first;
         let report = Report::new(alloc);
-        Ok(TrySeries { lists, report })
+        Ok(Tries { first, report })
     }
 
-    fn is_right(&self, rounds: u64) -> bool {
-        for (first, piece) in self.lists.first.iter().zip(&self.report.ran) {
-            if !matches!(piece.1.as_slice(), [output] if J::is_right(first, output, rounds)) {
-                return false;
-            }
-        }
-        self.report.ran.len() == self.lists.first.len()
+    fn is_right(&self, alloc: Global, shape: Shape, rounds: u64) -> Result<bool, Fault> {
+        let wanted = outputs::<T>(alloc, shape, rounds)?;
+        let mut ran = self.report.ran.iter().zip(&wanted);
+        let right = ran.all(|(piece, wanted)| matches!(piece.1.as_slice(), [x] if x == wanted));
+        Ok(right && self.report.ran.len() == wanted.len())
     }
 }
 
-impl<'a, J: Listed + Opens<L>, G: Gate, L> Plays<TrySeries<J>> for Leader<'a, J, G, L> {
-    fn play<H: Threads + Wait + Sync>(
-        &mut self,
-        rt: &H,
-        alloc: Global,
-        series: &mut TrySeries<J>,
-    ) -> Result<(), Stop> {
-        let inputs = series.lists.first.clone()?;
+impl<'a, J: Opens<L>, G: Gate, L> Plays<Tries<J>> for Leader<'a, J, G, L> {
+    fn play<H: Runs>(&mut self, rt: &H, alloc: Global, all: &mut Tries<J>) -> Done {
+        let inputs = all.first.clone()?;
         let jobs = inputs.len();
-        Ok(self.try_for_each_into(rt, alloc, jobs, inputs, &mut series.report)?)
+        self.try_for_each_into(rt, alloc, jobs, inputs, &mut all.report)
     }
 }
 
 /// Rounds in place.
 #[derive(Drop)]
-pub struct PlaceSeries<J: Updates> {
+pub struct Places<J: Updates> {
     /// What the jobs of the last round left.
     pub items: Vec<J::Item>,
 }
 
-impl<J: Placed> Series for PlaceSeries<J> {
-    fn new(alloc: Global, shape: Shape, jobs: usize) -> Result<PlaceSeries<J>, Stop> {
-        let mut items = Vec::new(alloc);
-        for number in 0..jobs {
-            items.push(J::first(alloc, number, shape.numbers() / jobs)?)?;
-        }
-        Ok(PlaceSeries { items })
+impl<J: Placed> Series for Places<J> {
+    fn new(alloc: Global, shape: Shape) -> Result<Places<J>, Fault> {
+        let items = items::<J>(alloc, shape, 0)?;
+        Ok(Places { items })
     }
 
-    fn is_right(&self, rounds: u64) -> bool {
-        for number in 0..self.items.len() {
-            if !J::is_right(&self.items[number], number, rounds) {
-                return false;
-            }
-        }
-        true
+    fn is_right(&self, alloc: Global, shape: Shape, rounds: u64) -> Result<bool, Fault> {
+        Ok(self.items == items::<J>(alloc, shape, rounds)?)
     }
 }
 
-impl<'a, J: PlaysInPlace<P>, G: Gate, P> Plays<PlaceSeries<J>> for SlotLeader<'a, J, G, P> {
-    fn play<H: Threads + Wait + Sync>(
-        &mut self,
-        rt: &H,
-        alloc: Global,
-        series: &mut PlaceSeries<J>,
-    ) -> Result<(), Stop> {
-        let jobs = series.items.len();
-        Ok(self.update_each(rt, alloc, jobs, &mut series.items)?)
+/// The items of all jobs of a shape after so many rounds.
+pub fn items<J: Placed>(alloc: Global, shape: Shape, rounds: u64) -> Result<Vec<J::Item>, Fault> {
+    let mut items = Vec::new(alloc);
+    for number in 0..shape.jobs {
+        items.push(J::item(alloc, number, shape.size, rounds)?)?;
+    }
+    Ok(items)
+}
+
+impl<'a, J: PlaysInPlace<P>, G: Gate, P> Plays<Places<J>> for SlotLeader<'a, J, G, P> {
+    fn play<H: Runs>(&mut self, rt: &H, alloc: Global, all: &mut Places<J>) -> Done {
+        let jobs = all.items.len();
+        self.update_each(rt, alloc, jobs, &mut all.items)
     }
 }

@@ -1,97 +1,113 @@
-//! What the environment and the words ask for.
-ghost use Rattle.std.specs.Prelude.{◌≡◌, ◌*◌, ◌<◌, ◌≤◌, IfOk};
+//! What the environment and the words ask for, shapes of rounds, and why the program stops early.
+ghost use Rattle.std.specs.Prelude.{◌≡◌, ◌*◌, ◌<◌, ◌≤◌};
 
-use crate::line::Line;
-use crate::shape::Shape;
-use crate::stop::Stop;
-use std::alloc::Global;
-use std::env;
+use spindle::prelude::*;
 use std::rt::Env;
+use std::{env, io};
 
-/// The threads of each lock where the environment names none.
-const DEFAULT_THREADS: usize = 4;
+/// A shape of rounds.
+#[derive(Clone, Copy)]
+pub struct Shape {
+    /// Its name in the environment and in the printed line.
+    pub name: &'static str,
+    /// The jobs of a round.
+    pub jobs: usize,
+    /// The numbers of a job's list, where it has one.
+    pub size: usize,
+    /// The rounds of a batch.
+    pub rounds: u64,
+    ghost some: { 0 < jobs },
+    ghost few: { jobs ≤ 4294967295 },
+}
 
-/// A lock has at most so many threads.
-const MOST_THREADS: usize = 32767;
+impl Shape {
+    /// A shape of so many jobs a round, and so many numbers in all of their lists.
+    pub fn new(name: &'static str, jobs: usize, numbers: usize, rounds: u64) -> Shape
+        requires { (0 < jobs) × (jobs ≤ 4294967295) }
+    {
+        let size = numbers / jobs;
+        Shape {
+            name,
+            jobs,
+            size,
+            rounds,
+        }
+    }
+}
 
-/// For so many seconds uneven jobs are played where no word says it.
-const DEFAULT_SECONDS: u64 = 15;
+/// What the rounds of a line are played on: its name in the environment, and the name that is printed.
+#[derive(Clone, Copy)]
+pub struct Line(pub &'static str, pub &'static str);
 
-/// What to run.
+/// What to run, and on what.
 #[derive(Drop)]
-pub struct Settings {
+pub struct Bench<'a, H> {
+    /// The runtime.
+    pub rt: &'a H,
     /// The threads of each lock.
     pub threads: usize,
-    /// The name of the one shape to run; all where there is none.
-    shape: Option<String>,
-    /// The name of the one line of each shape to run; all where there is none.
-    pool: Option<String>,
+    /// The pool that locks are opened from.
+    pub pool: Pool<NoGate>,
     /// Whether rounds are only checked, and not timed.
     pub is_check: bool,
-    /// For how many seconds uneven jobs are played in place of all that; none where rounds are timed or checked.
-    pub soak: Option<u64>,
+    lines: Option<String>,
+    shapes: Option<String>,
     ghost some: { 0 < threads },
     ghost few: { threads ≤ 32767 },
 }
 
-impl Settings {
-    /// Reads THREADS, SHAPE and POOL, and the words `check` or `soak SECONDS`.
-    pub fn read(rt: &(impl Env + Alloc<A = Global>)) -> Result<Settings, Stop> {
-        let threads = threads_of(env::var(rt, "THREADS").ok().as_deref())?;
-        let shape = env::var(rt, "SHAPE").ok();
-        let pool = env::var(rt, "POOL").ok();
-        let word = env::args(rt)?.nth(1);
-        let soak = match word.as_deref() {
-            Some("soak") => Some(seconds_of(env::args(rt)?.nth(2).as_deref())?),
-            _ => None,
+impl<'a, H: Env + Alloc<A = Global>> Bench<'a, H> {
+    /// Reads THREADS, SHAPE and POOL, and the word `check`. The pool's helpers let so many pauses pass before they look for inner locks.
+    pub fn read(rt: &'a H, patience: u32) -> Result<Bench<'a, H>, Stop> {
+        let text = env::var(rt, "THREADS").ok();
+        let threads = match text.as_deref().unwrap_or("4").parse::<usize>() {
+            Ok(threads) if 0 < threads && threads <= 32767 => threads,
+            _ => return Err(Stop::Threads),
         };
-        Ok(Settings {
+        let pool = Pool::new(threads, Limits::new(), NoGate).with_patience(patience);
+        let is_check = env::args(rt)?.nth(1).as_deref() == Some("check");
+        let (lines, shapes) = (env::var(rt, "POOL").ok(), env::var(rt, "SHAPE").ok());
+        Ok(Bench {
+            rt,
             threads,
-            shape,
             pool,
-            is_check: word.as_deref() == Some("check"),
-            soak,
+            is_check,
+            lines,
+            shapes,
         })
     }
 
-    /// Whether this line of a shape is asked for. `try8` has none but that of trays, and the last two have none of a lock.
+    /// Whether this line of a shape is asked for.
     pub fn wants(&self, line: Line, shape: Shape) -> bool {
-        let has_line = match shape {
-            Shape::Try8 => line == Line::Trays,
-            Shape::Map1m | Shape::Dot1m => line == Line::Lists || line == Line::Rayon,
-            _ => line != Line::Lists,
-        };
-        has_line
-            && is_asked(self.pool.as_deref(), line.name())
-            && is_asked(self.shape.as_deref(), shape.name())
+        self.lines.as_deref().is_none_or(|name| name == line.0)
+            && self.shapes.as_deref().is_none_or(|name| name == shape.name)
     }
 }
 
-// Whether a name is the one that is asked for, where one is. The word `all` asks for each.
-fn is_asked(asked: Option<&str>, name: &str) -> bool {
-    match asked {
-        Some(asked) => asked == name || asked == "all",
-        None => true,
+/// Whether it went well.
+pub type Ended = Result<(), Stop>;
+
+/// Why the program stops early.
+#[derive(Debug, Drop)]
+pub enum Stop {
+    /// THREADS is no number from 1 to 32767.
+    Threads,
+    /// A lock or a round was refused.
+    Refused(Fault),
+    /// The clock, the words or the output could not be read or written.
+    System(io::Error),
+    /// Rounds of this shape answered something wrong.
+    Wrong(&'static str),
+}
+
+impl From<Fault> for Stop {
+    fn from(fault: Fault) -> Stop {
+        Stop::Refused(fault)
     }
 }
 
-// For how many seconds a text asks.
-fn seconds_of(text: Option<&str>) -> Result<u64, Stop> {
-    match text {
-        Some(text) => text.parse::<u64>().map_err(|_| Stop::Seconds),
-        None => Ok(DEFAULT_SECONDS),
-    }
-}
-
-// The number of threads that a text asks for.
-fn threads_of(text: Option<&str>) -> Result<usize, Stop>
-    ensures { IfOk result (λ threads. (0 < threads) × (threads ≤ 32767)) }
-{
-    let Some(text) = text else {
-        return Ok(DEFAULT_THREADS);
-    };
-    match text.parse::<usize>() {
-        Ok(threads) if 0 < threads && threads <= MOST_THREADS => Ok(threads),
-        _ => Err(Stop::Threads),
+impl From<io::Error> for Stop {
+    fn from(error: io::Error) -> Stop {
+        Stop::System(error)
     }
 }

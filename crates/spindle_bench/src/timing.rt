@@ -1,123 +1,160 @@
-//! The clock, batches of rounds, and the printed line.
-ghost use Rattle.std.specs.Prelude.{◌≡◌, ◌<◌, true, OnOk};
+//! A shape's rounds in each kind of lock: against the clock, or a few to be checked; and the printed line.
+ghost use Rattle.std.specs.Prelude.{◌≡◌, ◌*◌, ◌<◌, ◌≤◌};
+ghost use denote.Param.Send.{IsSync};
 
-use crate::line::Line;
-use crate::settings::Settings;
-use crate::shape::Shape;
-use crate::stop::Stop;
-use std::alloc::Global;
-use std::rt::Clock;
-use std::sync::Wait;
-use std::thread::yield_now;
+use crate::kinds::{Doing, Task};
+use crate::series::{Lists, Placed, Places, Plays, Runs, Series, Tries};
+use crate::settings::{Bench, Ended, Line, Shape, Stop};
+use spindle::lock::Nest;
+use spindle::prelude::*;
+use std::rt::{Clock, Env};
 use std::time::Instant;
 
-/// So many batches come before those that count.
-const WARM_UP: usize = 3;
+/// Batches that begin within so many nanoseconds warm up.
+const WARM_UP: u64 = 50_000_000;
 
-/// So many batches count at least.
-const LEAST: usize = 3;
+/// No batch begins after so many.
+const END: u64 = 850_000_000;
 
-/// No batch begins after so many nanoseconds.
-const MOST_NANOS: u64 = 800_000_000;
-
-/// No longer than so many nanoseconds are threads waited for.
-const MOST_WAITED: u64 = 2_000_000_000;
+/// At most so many batches count.
+const BATCHES: usize = 300;
 
 /// The rounds of each line where they are only checked.
 const CHECKED: u64 = 20;
 
-/// What a shape's batches took.
-#[derive(Drop)]
-pub struct Times {
-    /// Whole nanoseconds a round, one number a batch, in order of size. None where rounds are only checked.
-    batches: Vec<u64>,
-    /// How many rounds were run, those that warmed up included.
-    pub rounds: u64,
+/// What the program needs of its runtime.
+pub trait Machine: Runs + Clock + Env + Print + Alloc<A = Global> {}
+
+impl<H: Runs + Clock + Env + Print + Alloc<A = Global>> Machine for H {}
+
+/// Runs a shape in each kind of lock.
+pub fn in_each<T: Task + Send, H: Machine>(bench: &Bench<H>, shape: Shape) -> Ended
+where
+    T::In: Send + Sync,
+    T::Out: Send,
+    T::Item: Send,
+{
+    LockOf::<Doing<T>>::with_slots(
+        bench.rt,
+        bench.rt.alloc(),
+        &bench.pool,
+        bench.threads,
+        shape.jobs,
+        |leader| -> Ended
+            requires { IsSync H.row }
+        { led::<Lists<T>, _, H>(bench, Line("slots", "zuflanto"), shape, leader) },
+    )??;
+    in_trays::<T, H>(bench, shape)?;
+    in_place::<InPlace<Doing<T>>, H>(bench, Line("place", "zuflanto-place"), shape)
 }
 
-/// Runs rounds as the settings say: in batches against the clock, or a few to be checked.
-pub fn run<H: Clock, F: FnMut() -> Result<(), Stop>>(
-    rt: &H,
-    alloc: Global,
-    settings: &Settings,
+/// Runs a shape in a lock with trays; `try8` in rounds that may stop.
+pub fn in_trays<T: Task + Send, H: Machine>(bench: &Bench<H>, shape: Shape) -> Ended
+where
+    T::In: Send + Sync,
+    T::Out: Send,
+{
+    LockOf::<Doing<T>>::with_lock(
+        bench.rt,
+        bench.rt.alloc(),
+        &bench.pool,
+        bench.threads,
+        |leader| -> Ended
+            requires { IsSync H.row }
+        {
+            let line = Line("trays", "zuflanto-trays");
+            match shape.name {
+                "try8" => led::<Tries<Doing<T>>, _, H>(bench, line, shape, leader),
+                _ => led::<Lists<T>, _, H>(bench, line, shape, leader),
+            }
+        },
+    )?
+}
+
+/// Runs a shape in a lock with a slot for each of its jobs, in place.
+pub fn in_place<J: Placed + Send, H: Machine>(bench: &Bench<H>, line: Line, shape: Shape) -> Ended
+where
+    J::Item: Send,
+    J::Inner: Send,
+    <J::Inner as Nest>::ChildSlots: Send + Sync,
+{
+    LockOf::<J>::with_slots_in_place(
+        bench.rt,
+        bench.rt.alloc(),
+        &bench.pool,
+        bench.threads,
+        shape.jobs,
+        |leader| -> Ended
+            requires { IsSync H.row }
+        { led::<Places<J>, _, H>(bench, line, shape, leader) },
+    )?
+}
+
+// Runs a shape's series with the leader of its lock, and prints the line, where it is asked for.
+fn led<S: Series, E: Plays<S>, H: Machine>(
+    bench: &Bench<H>,
+    line: Line,
     shape: Shape,
-    round: F,
-) -> Result<Times, Stop>
-    requires callable { F.IsAlwaysCallable round }
+    leader: &mut E,
+) -> Ended
+    requires { IsSync H.row }
 {
-    if settings.is_check {
-        checked(alloc, round)
-    } else {
-        timed(rt, alloc, shape, round)
-    }
-}
-
-// Runs batches of rounds against the clock.
-fn timed<H: Clock, F: FnMut() -> Result<(), Stop>>(
-    rt: &H,
-    alloc: Global,
-    shape: Shape,
-    mut round: F,
-) -> Result<Times, Stop>
-    requires callable { F.IsAlwaysCallable round }
-{
-    let begin = Instant::now(rt)?;
-    let mut batches = Vec::with_capacity(alloc, shape.batches())?;
-    let mut run = 0u64;
-    for batch in 0..shape.batches() + WARM_UP {
-        let start = Instant::now(rt)?;
-        for _ in 0..shape.rounds() {
-            round()?;
-        }
-        let nanos = nanos_since(rt, start)?;
-        run = run.saturating_add(shape.rounds());
-        if WARM_UP <= batch {
-            batches.push(nanos / shape.rounds())?;
-        }
-        if MOST_NANOS < nanos_since(rt, begin)? && LEAST <= batches.len() {
-            break;
-        }
-    }
-    batches.sort_unstable();
-    Ok(Times {
-        batches,
-        rounds: run,
-    })
-}
-
-// Runs a few rounds, with no clock.
-fn checked<F: FnMut() -> Result<(), Stop>>(alloc: Global, mut round: F) -> Result<Times, Stop>
-    requires callable { F.IsAlwaysCallable round }
-{
-    for _ in 0..CHECKED {
-        round()?;
-    }
-    Ok(Times {
-        batches: Vec::new(alloc),
-        rounds: CHECKED,
-    })
-}
-
-/// Waits until this holds, so that no round is timed in which a leader is alone; for two seconds at most, since a machine may start
-/// fewer threads. Rounds that are only checked don't wait.
-pub fn wait_until<H: Wait + Clock, F: FnMut() -> bool>(
-    rt: &H,
-    settings: &Settings,
-    mut holds: F,
-) -> Result<(), Stop>
-    requires callable { F.IsAlwaysCallable holds }
-{
-    if settings.is_check {
+    if !bench.wants(line, shape) {
         return Ok(());
     }
-    let begin = Instant::now(rt)?;
-    for _ in rt.forever() {
-        if holds() || MOST_WAITED < nanos_since(rt, begin)? {
-            return Ok(());
-        }
-        yield_now();
+    let (rt, alloc) = (bench.rt, bench.rt.alloc());
+    let mut series = S::new(alloc, shape)?;
+    let mut times = Vec::with_capacity(alloc, BATCHES).map_err(Fault::from)?;
+    let rounds = time(bench, shape, leader, &mut series, &mut times)?;
+    if !series.is_right(alloc, shape, rounds)? {
+        return Err(Stop::Wrong(shape.name));
     }
-    unreachable!()
+    let (head, name, threads) = (line.1, shape.name, bench.threads);
+    if bench.is_check {
+        println!(rt; "{head} {name} right")?;
+    } else {
+        let (best, median) = (after(&times, 0), after(&times, 5));
+        let (low, high) = (after(&times, 1), after(&times, 9));
+        println!(rt; "{head} {name} {threads} {best} {median} {low} {high}")?;
+    }
+    Ok(())
+}
+
+// The batch that so many tenths of all stand below, or 0 where there is none.
+fn after(times: &Vec<u64>, tenths: usize) -> u64 {
+    let place = times.len().saturating_mul(tenths) / 10;
+    times.get(place).copied().unwrap_or(0)
+}
+
+// Plays batches of rounds, or a few rounds, and tells how many. Puts down what a round of each batch took, in order of size.
+fn time<S: Series, E: Plays<S>, H: Machine>(
+    bench: &Bench<H>,
+    shape: Shape,
+    leader: &mut E,
+    series: &mut S,
+    times: &mut Vec<u64>,
+) -> Result<u64, Stop>
+    requires { IsSync H.row }
+{
+    let (rt, alloc) = (bench.rt, bench.rt.alloc());
+    if bench.is_check {
+        leader.play_all(rt, alloc, series, CHECKED)?;
+        return Ok(CHECKED);
+    }
+    let begin = Instant::now(rt)?;
+    let (mut rounds, mut end) = (0u64, 0u64);
+    while times.len() < BATCHES && end < END {
+        let start = nanos_since(rt, begin)?;
+        leader.play_all(rt, alloc, series, shape.rounds)?;
+        end = nanos_since(rt, begin)?;
+        rounds = rounds.saturating_add(shape.rounds);
+        if WARM_UP <= start {
+            let nanos = end.saturating_sub(start) / shape.rounds.max(1);
+            times.push(nanos).map_err(Fault::from)?;
+        }
+    }
+    times.sort_unstable();
+    Ok(rounds)
 }
 
 // The nanoseconds from an instant up to now.
@@ -125,38 +162,4 @@ fn nanos_since(rt: &impl Clock, begin: Instant) -> Result<u64, Stop> {
     let elapsed = begin.elapsed(rt)?;
     let seconds = elapsed.as_secs().saturating_mul(1_000_000_000);
     Ok(seconds.saturating_add(u64::from(elapsed.subsec_nanos())))
-}
-
-impl Times {
-    /// Prints the line of a shape, or that its rounds were right where they were only checked. Stops where they were wrong.
-    pub fn print(
-        &self,
-        rt: &impl Print,
-        settings: &Settings,
-        line: Line,
-        shape: Shape,
-        is_right: bool,
-    ) -> Result<(), Stop>
-        ensures { OnOk result (is_right ≡ true) }
-    {
-        if !is_right {
-            return Err(Stop::Wrong(shape));
-        }
-        let (head, name) = (line.head(), shape.name());
-        if settings.is_check {
-            println!(rt; "{head} {name} right")?;
-            return Ok(());
-        }
-        let threads = settings.threads;
-        let (best, median) = (self.after(0), self.after(5));
-        let (low, high) = (self.after(1), self.after(9));
-        println!(rt; "{head} {name} {threads} {best} {median} {low} {high}")?;
-        Ok(())
-    }
-
-    // The batch that so many tenths of all stand below, or 0 where there is none.
-    fn after(&self, tenths: usize) -> u64 {
-        let place = self.batches.len().saturating_mul(tenths) / 10;
-        self.batches.get(place).copied().unwrap_or(0)
-    }
 }

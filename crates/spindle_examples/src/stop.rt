@@ -8,8 +8,12 @@ use std::io;
 pub enum Stop {
     /// A lock, a round or a list was refused.
     Refused(Fault),
-    /// The output could not be written.
+    /// The clock, the words or the output could not be read or written.
     System(io::Error),
+    /// Rounds in this kind of lock answered something wrong.
+    Wrong(&'static str),
+    /// For how long to play is no number.
+    Seconds,
 }
 
 impl From<Fault> for Stop {

@@ -49,6 +49,17 @@ fn stays_with_a_run(rt: &impl Abort, list: SharedList<u32>) -> Result<SharedList
 }
 
 #[test]
+fn runs_of_the_same_items_are_equal(rt: HostRuntime) -> Result<(), Fault> {
+    let alloc = rt.alloc();
+    let list = SharedList::from_vec(alloc, vec![in alloc; 1u32, 2, 3, 1, 2]?)?;
+    holds(
+        &rt,
+        list.run(0, 2)? == list.run(3, 5)? && list.run(0, 2)? != list.run(1, 3)?,
+    );
+    Ok(())
+}
+
+#[test]
 fn a_list_comes_out_again_where_no_clone_is_left(rt: HostRuntime) -> Result<(), Fault> {
     let list = stays_with_a_clone(&rt, five(rt.alloc())?)?;
     let list = stays_with_a_run(&rt, list)?;

@@ -18,6 +18,9 @@ fn lists_outside_a_lock_are_answered(rt: HostRuntime) -> Result<(), Fault> {
         let numbers = vec![in alloc; 5u64, 6, 7]?;
         let more = for_each(&rt, alloc, &pool, 2, numbers, |x| x.wrapping_add(1))?;
         are(&rt, &more, &[6, 7, 8]);
+        let boxes = vec![in alloc; Box::new(alloc, 5u64)?, Box::new(alloc, 6u64)?]?;
+        let more = for_each(&rt, alloc, &pool, 2, boxes, |x: Box<u64>| x.wrapping_add(1))?;
+        are(&rt, &more, &[6, 7]);
     }
     let pool = Pool::new(2, Limits::new(), NoGate);
     for (count, wanted) in [(4, [0, 1, 4, 9].as_slice()), (0, [].as_slice())] {

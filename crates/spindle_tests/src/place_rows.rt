@@ -40,14 +40,16 @@ fn places_of<G: Gate + Sync, H: Threads + Wait + Sync>(
 // thread has, and the threads of the lock. A leader has no number between rounds, and none in a round of one job.
 #[test]
 fn a_leader_has_a_number_in_a_published_round_alone(rt: HostRuntime) -> Result<(), Fault> {
-    for (threads, starts, most, jobs, count, number, lock_threads) in [
-        (4usize, 0usize, 16usize, 1usize, 2usize, None, 4usize),
-        (4, 3, 16, 1, 2, None, 4),
-        (16, 16, 1, 2, 2, Some(0), 1),
-        (16, 0, 16, 8, 1, None, 16),
-        (16, 0, 4, 2, 2, Some(0), 4),
-        (40000, 0, 40000, 1, 1, None, 32767),
-        (1, 1, 1, 1, 1, None, 1),
+    for (has_slots, threads, starts, most, jobs, count, number, lock_threads) in [
+        (false, 4usize, 0usize, 16usize, 1usize, 2usize, None, 4usize),
+        (false, 4, 3, 16, 1, 2, None, 4),
+        (false, 16, 16, 1, 2, 2, Some(0), 1),
+        (false, 16, 0, 16, 8, 1, None, 16),
+        (false, 16, 0, 4, 2, 2, Some(0), 4),
+        (false, 40000, 0, 40000, 1, 1, None, 32767),
+        (false, 1, 1, 1, 1, 1, None, 1),
+        (true, 4, 0, 4, 1, 2, None, 4),
+        (true, 4, 0, 4, 2, 2, Some(0), 4),
     ] {
         let pool = Pool::with_starts(threads, Limits::new(), NoGate, starts);
         is(
@@ -55,7 +57,7 @@ fn a_leader_has_a_number_in_a_published_round_alone(rt: HostRuntime) -> Result<(
             (pool.current_num_threads(), pool.current_thread_index()),
             (threads, None),
         );
-        let (places, after) = places_of(&rt, rt.alloc(), &pool, false, most, jobs, count, 100)?;
+        let (places, after) = places_of(&rt, rt.alloc(), &pool, has_slots, most, jobs, count, 100)?;
         let all = count.wrapping_mul(100);
         is(&rt, (places.len(), runs_of(&places, number)), (all, all));
         is(&rt, (after.len(), runs_of(&after, None)), (100, 100));

@@ -2,11 +2,11 @@
 ghost use Rattle.std.specs.Prelude.{◌≡◌, ◌<◌, IfOk};
 ghost use denote.Param.Send.{IsSync};
 
-use crate::locks::Machine;
-use crate::stop::Stop;
+use crate::soak::Machine;
 use spindle::lock::{Nest, PlaysInPlace, Updates};
 use spindle::prelude::*;
 use spindle::with_slots_in_place;
+use spindle_examples::stop::Stop;
 use std::io;
 use std::rt::Clock;
 use std::time::{Duration, Instant};

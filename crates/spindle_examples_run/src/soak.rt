@@ -5,52 +5,28 @@
 mod kinds;
 mod rounds;
 
-use crate::locks::Machine;
 use crate::soak::kinds::{InSlots, InTrays, Places, Turns};
 use crate::soak::rounds::{Seen, in_place, in_slots, in_trays};
-use crate::stop::Stop;
 use spindle::prelude::*;
+use spindle_examples::stop::Stop;
 use std::fs;
+use std::rt::{Clock, Files};
 use std::time::Duration;
 
-/// What is played: the kind of lock, and of those that its jobs open.
-#[derive(Clone, Copy, Debug, PartialEq, Eq)]
-pub enum Kind {
-    /// With trays.
-    Trays,
-    /// With slots.
-    Slots,
-    /// In place.
-    Place,
-    /// Trays in trays.
-    NestedTrays,
-    /// Slots in slots.
-    NestedSlots,
-    /// In place in place.
-    NestedPlace,
-}
-
-const KINDS: [Kind; 6] = [
-    Kind::Trays,
-    Kind::Slots,
-    Kind::Place,
-    Kind::NestedTrays,
-    Kind::NestedSlots,
-    Kind::NestedPlace,
+/// The kinds of locks, each with those that its jobs open.
+const KINDS: [&str; 6] = [
+    "trays",
+    "slots",
+    "place",
+    "trays in trays",
+    "slots in slots",
+    "place in place",
 ];
 
-impl Kind {
-    fn name(self) -> &'static str {
-        match self {
-            Kind::Trays => "trays",
-            Kind::Slots => "slots",
-            Kind::Place => "place",
-            Kind::NestedTrays => "trays in trays",
-            Kind::NestedSlots => "slots in slots",
-            Kind::NestedPlace => "place in place",
-        }
-    }
-}
+/// What is needed of the runtime.
+pub trait Machine: Threads + Wait + Sync + Clock + Print + Files + Alloc<A = Global> {}
+
+impl<H: Threads + Wait + Sync + Clock + Print + Files + Alloc<A = Global>> Machine for H {}
 
 /// Plays all kinds for so many seconds in all. With 0 a round is played in each lock, and nothing is printed.
 pub fn soak<H: Machine>(rt: &H, seconds: u64) -> Result<(), Stop> {
@@ -58,7 +34,7 @@ pub fn soak<H: Machine>(rt: &H, seconds: u64) -> Result<(), Stop> {
     for kind in KINDS {
         let seen = in_each_pool(rt, kind, share)?;
         if !seen.is_right {
-            return Err(Stop::Answer(kind));
+            return Err(Stop::Wrong(kind));
         }
         if 0 < seconds {
             print(rt, kind, &seen)?;
@@ -68,7 +44,7 @@ pub fn soak<H: Machine>(rt: &H, seconds: u64) -> Result<(), Stop> {
 }
 
 // Opens locks of a kind, one after the other, for so long in each of six pools.
-fn in_each_pool<H: Machine>(rt: &H, kind: Kind, share: Duration) -> Result<Seen, Stop> {
+fn in_each_pool<H: Machine>(rt: &H, kind: &'static str, share: Duration) -> Result<Seen, Stop> {
     let mut seen = Seen::new(rt)?;
     for threads in [2, 5, 64] {
         for limits in [Limits::new(), Limits { spin: 0, pause: 0 }] {
@@ -86,19 +62,24 @@ fn in_each_pool<H: Machine>(rt: &H, kind: Kind, share: Duration) -> Result<Seen,
 }
 
 // Plays rounds in a lock of this kind.
-fn play<H: Machine>(rt: &H, kind: Kind, pool: &Pool<NoGate>, seen: &mut Seen) -> Result<(), Stop> {
+fn play<H: Machine>(
+    rt: &H,
+    kind: &'static str,
+    pool: &Pool<NoGate>,
+    seen: &mut Seen,
+) -> Result<(), Stop> {
     match kind {
-        Kind::Trays => in_trays::<Turns, H>(rt, pool, seen),
-        Kind::Slots => in_slots::<Turns, H>(rt, pool, seen),
-        Kind::Place => in_place::<InPlace<Turns>, H>(rt, pool, seen),
-        Kind::NestedTrays => in_trays::<InTrays, H>(rt, pool, seen),
-        Kind::NestedSlots => in_slots::<InSlots, H>(rt, pool, seen),
-        Kind::NestedPlace => in_place::<InPlace<Places>, H>(rt, pool, seen),
+        "trays" => in_trays::<Turns, H>(rt, pool, seen),
+        "slots" => in_slots::<Turns, H>(rt, pool, seen),
+        "place" => in_place::<InPlace<Turns>, H>(rt, pool, seen),
+        "trays in trays" => in_trays::<InTrays, H>(rt, pool, seen),
+        "slots in slots" => in_slots::<InSlots, H>(rt, pool, seen),
+        _ => in_place::<InPlace<Places>, H>(rt, pool, seen),
     }
 }
 
 // Prints a kind's line. The system counts the memory in pages of 4 kB.
-fn print<H: Machine>(rt: &H, kind: Kind, seen: &Seen) -> Result<(), Stop> {
+fn print<H: Machine>(rt: &H, kind: &'static str, seen: &Seen) -> Result<(), Stop> {
     let text = fs::read_to_string(rt, "/proc/self/statm")?;
     let pages = text
         .as_str()
@@ -107,8 +88,8 @@ fn print<H: Machine>(rt: &H, kind: Kind, seen: &Seen) -> Result<(), Stop> {
         .unwrap_or("0")
         .parse::<u64>()
         .unwrap_or(0);
-    let (name, rounds, worst) = (kind.name(), seen.rounds, seen.worst.as_micros());
+    let (rounds, worst) = (seen.rounds, seen.worst.as_micros());
     let memory = pages.saturating_mul(4);
-    println!(rt; "{name}: {rounds} rounds, the longest took {worst} us, {memory} kB of memory")?;
+    println!(rt; "{kind}: {rounds} rounds, the longest took {worst} us, {memory} kB of memory")?;
     Ok(())
 }

@@ -1,2 +1,0 @@
--- The definitions that contracts of this crate cite.
-pub mod Kernels
