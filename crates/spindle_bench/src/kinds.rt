@@ -61,24 +61,28 @@ pub trait Task {
     /// What it answers after so many rounds.
     fn output(alloc: Global, number: usize, size: usize, rounds: u64) -> Result<Self::Out, Fault>;
 
-    /// Its item after so many rounds, before the first after 0.
-    fn item(alloc: Global, number: usize, size: usize, rounds: u64) -> Result<Self::Item, Fault>;
-
     /// What the jobs of the next round are given, after this in the first and these answers: the same, where they aren't given those.
     fn next(_: Global, first: &Vec<Self::In>, _: Vec<Self::Out>) -> Result<Vec<Self::In>, Fault> {
         Ok(first.clone()?)
     }
+
+    /// Its item after so many rounds, before the first after 0.
+    fn item(alloc: Global, number: usize, size: usize, rounds: u64) -> Result<Self::Item, Fault>;
 }
 
-/// The context of a job that opens no lock.
-type Cx<'a> = JobCx<'a, End>;
+/// A kind of job whose rounds answer new lists.
+pub trait Listed: Job<Inner = End, In: Input, Out: PartialEq> {
+    /// What the job of this number answers after so many rounds.
+    fn output(alloc: Global, number: usize, size: usize, rounds: u64) -> Result<Self::Out, Fault>;
+
+    /// What the jobs of the next round are given, after this in the first and these answers.
+    fn next(_: Global, first: &Vec<Self::In>, _: Vec<Self::Out>) -> Result<Vec<Self::In>, Fault>;
+}
 
 /// The kind of job that does this.
-pub struct Doing<T> {
-    task: PhantomData<T>,
-}
+pub struct Does<T>(PhantomData<T>);
 
-impl<T: Task> Job for Doing<T> {
+impl<T: Task> Job for Does<T> {
     type In = T::In;
 
     type Out = T::Out;
@@ -87,26 +91,36 @@ impl<T: Task> Job for Doing<T> {
 
     ghost meets = { λ _ _. Unit {0} };
 
-    fn run<H: Threads + Wait + Sync>(_: &H, alloc: Global, x: &T::In, _: &mut Cx) -> T::Out {
-        T::answer(alloc, x)
+    fn run<H: Threads + Wait + Sync>(_: &H, heap: Global, x: &T::In, _: &mut JobCx<End>) -> T::Out {
+        T::answer(heap, x)
     }
 
     ghost equal_is_same = { T.In.equal_is_same };
 }
 
-impl<T: Task> Update for Doing<T> {
+impl<T: Task> Update for Does<T> {
     type Item = T::Item;
 
     type Inner = End;
 
     ghost updated = { λ _ _. Unit {0} };
 
-    fn run<H: Threads + Wait + Sync>(_: &H, _: Global, x: T::Item, _: &mut Cx) -> T::Item {
+    fn run<H: Threads + Wait + Sync>(_: &H, _: Global, x: T::Item, _: &mut JobCx<End>) -> T::Item {
         T::update(x)
     }
 }
 
-impl<T: Task> Placed for InPlace<Doing<T>> {
+impl<T: Task> Listed for Does<T> {
+    fn output(alloc: Global, number: usize, size: usize, rounds: u64) -> Result<T::Out, Fault> {
+        T::output(alloc, number, size, rounds)
+    }
+
+    fn next(alloc: Global, first: &Vec<T::In>, all: Vec<T::Out>) -> Result<Vec<T::In>, Fault> {
+        T::next(alloc, first, all)
+    }
+}
+
+impl<T: Task> Placed for InPlace<Does<T>> {
     fn item(alloc: Global, number: usize, size: usize, rounds: u64) -> Result<T::Item, Fault> {
         T::item(alloc, number, size, rounds)
     }
@@ -128,12 +142,12 @@ impl Task for Nothing {
         number
     }
 
-    fn output(_: Global, _: usize, _: usize, _: u64) -> Result<(), Fault> {
-        Ok(())
-    }
-
     fn item(_: Global, number: usize, _: usize, _: u64) -> Result<usize, Fault> {
         Ok(number)
+    }
+
+    fn output(_: Global, _: usize, _: usize, _: u64) -> Result<(), Fault> {
+        Ok(())
     }
 }
 
@@ -166,15 +180,15 @@ impl Task for Stir {
         (pair.0, stirred(pair.0))
     }
 
-    fn output(_: Global, number: usize, _: usize, _: u64) -> Result<u64, Fault> {
-        Ok(stirred(number as u64))
-    }
-
     fn item(_: Global, number: usize, _: usize, rounds: u64) -> Result<(u64, u64), Fault> {
         Ok((
             number as u64,
             stirred(number as u64).wrapping_mul(rounds.min(1)),
         ))
+    }
+
+    fn output(_: Global, number: usize, _: usize, _: u64) -> Result<u64, Fault> {
+        Ok(stirred(number as u64))
     }
 }
 
@@ -214,14 +228,14 @@ impl Task for AddOne {
         numbers
     }
 
-    fn output(alloc: Global, number: usize, size: usize, rounds: u64) -> Result<Self::Out, Fault> {
-        Ok(Ok(SharedList::from_vec(alloc, list(alloc, number, size, rounds)?)?))
-    }
-
     fn item(alloc: Global, number: usize, size: usize, rounds: u64) -> Result<Vec<u64>, Fault> {
         let mut numbers = Vec::with_capacity(alloc, OWN_PAGES)?;
         numbers.extend_from_slice(list(alloc, number, size, rounds)?.as_slice())?;
         Ok(numbers)
+    }
+
+    fn output(alloc: Global, number: usize, size: usize, rounds: u64) -> Result<Self::Out, Fault> {
+        Ok(Ok(SharedList::from_vec(alloc, list(alloc, number, size, rounds)?)?))
     }
 
     fn next(alloc: Global, _: &Vec<List>, sums: Vec<Self::Out>) -> Result<Vec<List>, Fault> {
@@ -236,22 +250,19 @@ impl Task for AddOne {
 /// Answers the squares of a list; in place it writes them into another.
 pub struct Square;
 
-/// Numbers, and as many others, which become their squares.
-type Squaring = (List, Vec<u64>);
-
 impl Task for Square {
     type In = List;
 
     type Out = Result<Vec<u64>, Fault>;
 
-    type Item = Squaring;
+    type Item = (List, Vec<u64>);
 
     fn answer(alloc: Global, numbers: &List) -> Result<Vec<u64>, Fault> {
         let squares = numbers.as_slice().iter().map(|x| x.wrapping_mul(*x));
         Ok(squares.collect(alloc)?)
     }
 
-    fn update(mut item: Squaring) -> Squaring {
+    fn update(mut item: Self::Item) -> Self::Item {
         let (numbers, squares) = (item.0.as_slice(), item.1.as_mut_slice());
         let count = numbers.len().min(squares.len());
         for at in 0..count {
@@ -260,16 +271,16 @@ impl Task for Square {
         item
     }
 
-    fn output(alloc: Global, number: usize, size: usize, _: u64) -> Result<Self::Out, Fault> {
-        Ok(Square::answer(alloc, &List::input(alloc, number, size)?))
-    }
-
-    fn item(alloc: Global, number: usize, size: usize, rounds: u64) -> Result<Squaring, Fault> {
+    fn item(alloc: Global, number: usize, size: usize, rounds: u64) -> Result<Self::Item, Fault> {
         let numbers = List::input(alloc, number, size)?;
         let mut squares = vec![in alloc; 0u64; size]?;
         if rounds > 0 {
             squares = Square::answer(alloc, &numbers)?;
         }
         Ok((numbers, squares))
+    }
+
+    fn output(alloc: Global, number: usize, size: usize, _: u64) -> Result<Self::Out, Fault> {
+        Ok(Square::answer(alloc, &List::input(alloc, number, size)?))
     }
 }

@@ -13,12 +13,12 @@
 //!
 //! SHAPE in the environment names the one shape to run, and POOL what to run it on: `slots`, `trays`, `place` or `patient`. No line is
 //! printed where nothing has that name. THREADS is how many threads run, else 4. With the word `check` the program reads no clock: it
-//! runs a few rounds for each line, checks what came out, and says so.
+//! runs a few rounds for each line, checks what came out, and prints zeros.
 //!
 //! NAME is `zuflanto` for a lock that `with_slots` opens, with a slot for each job of the round,
 //! `zuflanto-trays` for one that `with_lock` opens, and `zuflanto-place` for one that `with_slots_in_place` opens, whose rounds are
 //! `update_each`. `try8` runs with trays alone, and `nested` in place alone, and once more as `zuflanto-patient`, whose pool lets
-//! `PATIENCE` pauses pass before a helper looks for inner locks.
+//! 512 pauses, some four microseconds, pass before a helper looks for inner locks.
 //!
 //! - `empty`: as many numbers as threads; a job does nothing. In place the numbers stay from round to round.
 //! - `tiny8`: the same for eight numbers a thread; a job is about 50 ns of dependent arithmetic. In place an item is a number with
@@ -44,29 +44,29 @@ mod series;
 mod settings;
 mod timing;
 
-use crate::kinds::{AddOne, Nothing, Square, Stir};
+use crate::kinds::{AddOne, Does, Nothing, Square, Stir};
 use crate::nested::{AddOneToPart, InRounds};
-use crate::settings::{Bench, Ended, Line, Shape};
+use crate::settings::{Bench, Ended, shaped};
 use crate::timing::{in_each, in_place, in_trays};
 use spindle::lock::InPlace;
 
-/// The pauses of a patient helper before its first look at requests: some four microseconds.
-const PATIENCE: u32 = 512;
+/// The kind of job that does this in place.
+type Place<T> = InPlace<Does<T>>;
 
-/// The kind of job of `nested`, in place all through.
+/// That of `nested`, in place all through.
 type Nested = InPlace<InRounds<InPlace<AddOneToPart>>>;
 
 fn main(rt: HostRuntime) -> Ended {
     let bench = Bench::read(&rt, 0)?;
-    let patient = Bench::read(&rt, PATIENCE)?;
+    let patient = Bench::read(&rt, 512)?;
     let threads = bench.threads;
-    in_each::<Nothing, _>(&bench, Shape::new("empty", threads, 0, 100))?;
-    in_each::<Stir, _>(&bench, Shape::new("tiny8", 8 * threads, 0, 100))?;
-    in_trays::<Stir, _>(&bench, Shape::new("try8", 8 * threads, 0, 100))?;
-    let nested = Shape::new("nested", 2, 0, 20);
-    in_place::<Nested, _>(&bench, Line("place", "zuflanto-place"), nested)?;
-    in_place::<Nested, _>(&patient, Line("patient", "zuflanto-patient"), nested)?;
-    in_each::<AddOne, _>(&bench, Shape::new("stencil4k", threads, 4096, 100))?;
-    in_each::<AddOne, _>(&bench, Shape::new("stencil256k", threads, 262144, 10))?;
-    in_each::<Square, _>(&bench, Shape::new("map", 4 * threads, 4096, 100))
+    in_each::<Does<Nothing>, Place<Nothing>, _>(&bench, shaped("empty", threads, 0, 100))?;
+    in_each::<Does<Stir>, Place<Stir>, _>(&bench, shaped("tiny8", 8 * threads, 0, 100))?;
+    in_trays::<Does<Stir>, _>(&bench, shaped("try8", 8 * threads, 0, 100))?;
+    let nested = shaped("nested", 2, 0, 20);
+    in_place::<Nested, _>(&bench, ("place", "zuflanto-place"), nested)?;
+    in_place::<Nested, _>(&patient, ("patient", "zuflanto-patient"), nested)?;
+    in_each::<Does<AddOne>, Place<AddOne>, _>(&bench, shaped("stencil4k", threads, 4096, 100))?;
+    in_each::<Does<AddOne>, Place<AddOne>, _>(&bench, shaped("stencil256k", threads, 262144, 10))?;
+    in_each::<Does<Square>, Place<Square>, _>(&bench, shaped("map", 4 * threads, 4096, 100))
 }

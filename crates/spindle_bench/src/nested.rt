@@ -4,7 +4,7 @@ ghost use denote.Param.Send.{IsSync};
 
 use crate::kinds::add_one;
 use crate::series::{Placed, Places, Plays, items};
-use crate::settings::Shape;
+use crate::settings::shaped;
 use spindle::lock::{ChunkOf, UnderPieces};
 use spindle::prelude::*;
 use std::marker::PhantomData;
@@ -41,9 +41,7 @@ impl Placed for InPlace<AddOneToPart> {
 }
 
 /// Opens a lock over jobs of kind J, of half as many threads as its own lock has, and plays a series of so many rounds there.
-pub struct InRounds<J> {
-    kind: PhantomData<J>,
-}
+pub struct InRounds<J>(PhantomData<J>);
 
 impl<J: Placed> Update for InRounds<J> {
     type Item = Vec<J::Item>;
@@ -77,7 +75,7 @@ impl<J: Placed> Update for InRounds<J> {
 
 impl<J: Placed> Placed for InPlace<InRounds<J>> {
     fn item(alloc: Global, _: usize, _: usize, rounds: u64) -> Result<Vec<J::Item>, Fault> {
-        let parts = Shape::new("parts", PARTS, 0, 0);
+        let parts = shaped("parts", PARTS, 0, 0);
         items::<J>(alloc, parts, rounds.saturating_mul(ROUNDS))
     }
 }

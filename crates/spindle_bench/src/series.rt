@@ -2,7 +2,7 @@
 ghost use Rattle.std.specs.Prelude.{◌≡◌, ◌<◌};
 ghost use denote.Param.Send.{IsSync};
 
-use crate::kinds::{Doing, Input, Task};
+use crate::kinds::{Input, Listed};
 use crate::settings::Shape;
 use spindle::lock::{Opens, PlaysInPlace, Updates};
 use spindle::prelude::*;
@@ -49,40 +49,40 @@ pub trait Plays<S> {
 }
 
 // What the jobs of a shape answer after so many rounds.
-fn outputs<T: Task>(alloc: Global, shape: Shape, rounds: u64) -> Result<Vec<T::Out>, Fault> {
+fn outputs<J: Listed>(alloc: Global, shape: Shape, rounds: u64) -> Result<Vec<J::Out>, Fault> {
     let mut outputs = Vec::new(alloc);
     for number in 0..shape.jobs {
-        outputs.push(T::output(alloc, number, shape.size, rounds)?)?;
+        outputs.push(J::output(alloc, number, shape.size, rounds)?)?;
     }
     Ok(outputs)
 }
 
 /// Rounds that answer new lists.
 #[derive(Drop)]
-pub struct Lists<T: Task> {
-    first: Vec<T::In>,
-    outputs: Vec<T::Out>,
+pub struct Lists<J: Job> {
+    first: Vec<J::In>,
+    outputs: Vec<J::Out>,
 }
 
-impl<T: Task> Series for Lists<T> {
-    fn new(alloc: Global, shape: Shape) -> Result<Lists<T>, Fault> {
+impl<J: Listed> Series for Lists<J> {
+    fn new(alloc: Global, shape: Shape) -> Result<Lists<J>, Fault> {
         let mut first = Vec::new(alloc);
         for number in 0..shape.jobs {
-            first.push(T::In::input(alloc, number, shape.size)?)?;
+            first.push(J::In::input(alloc, number, shape.size)?)?;
         }
-        let outputs = outputs::<T>(alloc, shape, 0)?;
+        let outputs = outputs::<J>(alloc, shape, 0)?;
         Ok(Lists { first, outputs })
     }
 
     fn is_right(&self, alloc: Global, shape: Shape, rounds: u64) -> Result<bool, Fault> {
-        Ok(self.outputs == outputs::<T>(alloc, shape, rounds)?)
+        Ok(self.outputs == outputs::<J>(alloc, shape, rounds)?)
     }
 }
 
-impl<T: Task, E: RunsRounds<Doing<T>>> Plays<Lists<T>> for E {
-    fn play<H: Runs>(&mut self, rt: &H, alloc: Global, lists: &mut Lists<T>) -> Done {
+impl<J: Listed, E: RunsRounds<J>> Plays<Lists<J>> for E {
+    fn play<H: Runs>(&mut self, rt: &H, alloc: Global, lists: &mut Lists<J>) -> Done {
         let outputs = mem::replace(&mut lists.outputs, Vec::new(alloc));
-        let mut inputs = T::next(alloc, &lists.first, outputs)?;
+        let mut inputs = J::next(alloc, &lists.first, outputs)?;
         let jobs = inputs.len();
         self.for_each_into(rt, alloc, jobs, &mut inputs, &mut lists.outputs)
     }
@@ -95,15 +95,15 @@ pub struct Tries<J: Job> {
     report: Report<J::Out>,
 }
 
-impl<T: Task> Series for Tries<Doing<T>> {
-    fn new(alloc: Global, shape: Shape) -> Result<Tries<Doing<T>>, Fault> {
-        let first = Lists::<T>::new(alloc, shape)?.first;
+impl<J: Listed> Series for Tries<J> {
+    fn new(alloc: Global, shape: Shape) -> Result<Tries<J>, Fault> {
+        let first = Lists::<J>::new(alloc, shape)?.first;
         let report = Report::new(alloc);
         Ok(Tries { first, report })
     }
 
     fn is_right(&self, alloc: Global, shape: Shape, rounds: u64) -> Result<bool, Fault> {
-        let wanted = outputs::<T>(alloc, shape, rounds)?;
+        let wanted = outputs::<J>(alloc, shape, rounds)?;
         let mut ran = self.report.ran.iter().zip(&wanted);
         let right = ran.all(|(piece, wanted)| matches!(piece.1.as_slice(), [x] if x == wanted));
         Ok(right && self.report.ran.len() == wanted.len())

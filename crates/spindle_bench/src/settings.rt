@@ -20,24 +20,21 @@ pub struct Shape {
     ghost few: { jobs ≤ 4294967295 },
 }
 
-impl Shape {
-    /// A shape of so many jobs a round, and so many numbers in all of their lists.
-    pub fn new(name: &'static str, jobs: usize, numbers: usize, rounds: u64) -> Shape
-        requires { (0 < jobs) × (jobs ≤ 4294967295) }
-    {
-        let size = numbers / jobs;
-        Shape {
-            name,
-            jobs,
-            size,
-            rounds,
-        }
+/// A shape of so many jobs a round, and so many numbers in all of their lists.
+pub fn shaped(name: &'static str, jobs: usize, numbers: usize, rounds: u64) -> Shape
+    requires { (0 < jobs) × (jobs ≤ 4294967295) }
+{
+    let size = numbers / jobs;
+    Shape {
+        name,
+        jobs,
+        size,
+        rounds,
     }
 }
 
 /// What the rounds of a line are played on: its name in the environment, and the name that is printed.
-#[derive(Clone, Copy)]
-pub struct Line(pub &'static str, pub &'static str);
+pub type Line = (&'static str, &'static str);
 
 /// What to run, and on what.
 #[derive(Drop)]

@@ -2,10 +2,10 @@
 ghost use Rattle.std.specs.Prelude.{◌≡◌, ◌*◌, ◌<◌, ◌≤◌};
 ghost use denote.Param.Send.{IsSync};
 
-use crate::kinds::{Doing, Task};
+use crate::kinds::Listed;
 use crate::series::{Lists, Placed, Places, Plays, Runs, Series, Tries};
 use crate::settings::{Bench, Ended, Line, Shape, Stop};
-use spindle::lock::Nest;
+use spindle::lock::{Nest, Updates};
 use spindle::prelude::*;
 use std::rt::{Clock, Env};
 use std::time::Instant;
@@ -27,14 +27,17 @@ pub trait Machine: Runs + Clock + Env + Print + Alloc<A = Global> {}
 
 impl<H: Runs + Clock + Env + Print + Alloc<A = Global>> Machine for H {}
 
-/// Runs a shape in each kind of lock.
-pub fn in_each<T: Task + Send, H: Machine>(bench: &Bench<H>, shape: Shape) -> Ended
+/// Runs a shape in each kind of lock, over lists by jobs of kind J and in place by those of kind M.
+pub fn in_each<J: Listed + Send, M: Placed + Updates<Inner = End> + Send, H: Machine>(
+    bench: &Bench<H>,
+    shape: Shape,
+) -> Ended
 where
-    T::In: Send + Sync,
-    T::Out: Send,
-    T::Item: Send,
+    J::In: Send + Sync,
+    J::Out: Send,
+    M::Item: Send,
 {
-    LockOf::<Doing<T>>::with_slots(
+    LockOf::<J>::with_slots(
         bench.rt,
         bench.rt.alloc(),
         &bench.pool,
@@ -42,19 +45,19 @@ where
         shape.jobs,
         |leader| -> Ended
             requires { IsSync H.row }
-        { led::<Lists<T>, _, H>(bench, Line("slots", "zuflanto"), shape, leader) },
+        { led::<Lists<J>, _, H>(bench, ("slots", "zuflanto"), shape, leader) },
     )??;
-    in_trays::<T, H>(bench, shape)?;
-    in_place::<InPlace<Doing<T>>, H>(bench, Line("place", "zuflanto-place"), shape)
+    in_trays::<J, H>(bench, shape)?;
+    in_place::<M, H>(bench, ("place", "zuflanto-place"), shape)
 }
 
 /// Runs a shape in a lock with trays; `try8` in rounds that may stop.
-pub fn in_trays<T: Task + Send, H: Machine>(bench: &Bench<H>, shape: Shape) -> Ended
+pub fn in_trays<J: Listed + Send, H: Machine>(bench: &Bench<H>, shape: Shape) -> Ended
 where
-    T::In: Send + Sync,
-    T::Out: Send,
+    J::In: Send + Sync,
+    J::Out: Send,
 {
-    LockOf::<Doing<T>>::with_lock(
+    LockOf::<J>::with_lock(
         bench.rt,
         bench.rt.alloc(),
         &bench.pool,
@@ -62,10 +65,10 @@ where
         |leader| -> Ended
             requires { IsSync H.row }
         {
-            let line = Line("trays", "zuflanto-trays");
+            let line = ("trays", "zuflanto-trays");
             match shape.name {
-                "try8" => led::<Tries<Doing<T>>, _, H>(bench, line, shape, leader),
-                _ => led::<Lists<T>, _, H>(bench, line, shape, leader),
+                "try8" => led::<Tries<J>, _, H>(bench, line, shape, leader),
+                _ => led::<Lists<J>, _, H>(bench, line, shape, leader),
             }
         },
     )?
@@ -104,57 +107,48 @@ fn led<S: Series, E: Plays<S>, H: Machine>(
     }
     let (rt, alloc) = (bench.rt, bench.rt.alloc());
     let mut series = S::new(alloc, shape)?;
-    let mut times = Vec::with_capacity(alloc, BATCHES).map_err(Fault::from)?;
-    let rounds = time(bench, shape, leader, &mut series, &mut times)?;
+    let (rounds, times) = time(bench, shape, leader, &mut series)?;
     if !series.is_right(alloc, shape, rounds)? {
         return Err(Stop::Wrong(shape.name));
     }
     let (head, name, threads) = (line.1, shape.name, bench.threads);
-    if bench.is_check {
-        println!(rt; "{head} {name} right")?;
-    } else {
-        let (best, median) = (after(&times, 0), after(&times, 5));
-        let (low, high) = (after(&times, 1), after(&times, 9));
-        println!(rt; "{head} {name} {threads} {best} {median} {low} {high}")?;
-    }
+    let (at, all) = (|at: usize| times.get(at).copied().unwrap_or(0), times.len());
+    let (best, median, low, high) = (at(0), at(all / 2), at(all / 10), at(all - all / 10));
+    println!(rt; "{head} {name} {threads} {best} {median} {low} {high}")?;
     Ok(())
 }
 
-// The batch that so many tenths of all stand below, or 0 where there is none.
-fn after(times: &Vec<u64>, tenths: usize) -> u64 {
-    let place = times.len().saturating_mul(tenths) / 10;
-    times.get(place).copied().unwrap_or(0)
-}
-
-// Plays batches of rounds, or a few rounds, and tells how many. Puts down what a round of each batch took, in order of size.
+// Plays batches of rounds, or a few rounds, and tells how many, and what a round of each batch took, in order of size.
 fn time<S: Series, E: Plays<S>, H: Machine>(
     bench: &Bench<H>,
     shape: Shape,
     leader: &mut E,
     series: &mut S,
-    times: &mut Vec<u64>,
-) -> Result<u64, Stop>
+) -> Result<(u64, Vec<u64>), Stop>
     requires { IsSync H.row }
 {
     let (rt, alloc) = (bench.rt, bench.rt.alloc());
+    let mut times = Vec::with_capacity(alloc, BATCHES).map_err(Fault::from)?;
     if bench.is_check {
         leader.play_all(rt, alloc, series, CHECKED)?;
-        return Ok(CHECKED);
+        return Ok((CHECKED, times));
     }
-    let begin = Instant::now(rt)?;
-    let (mut rounds, mut end) = (0u64, 0u64);
-    while times.len() < BATCHES && end < END {
+    let (begin, mut rounds) = (Instant::now(rt)?, 0u64);
+    for _ in 0..u64::MAX {
         let start = nanos_since(rt, begin)?;
         leader.play_all(rt, alloc, series, shape.rounds)?;
-        end = nanos_since(rt, begin)?;
+        let end = nanos_since(rt, begin)?;
         rounds = rounds.saturating_add(shape.rounds);
         if WARM_UP <= start {
             let nanos = end.saturating_sub(start) / shape.rounds.max(1);
             times.push(nanos).map_err(Fault::from)?;
         }
+        if BATCHES <= times.len() || END < end {
+            break;
+        }
     }
     times.sort_unstable();
-    Ok(rounds)
+    Ok((rounds, times))
 }
 
 // The nanoseconds from an instant up to now.
