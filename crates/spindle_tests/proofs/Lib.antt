@@ -1,3 +1,1 @@
--- The lemmas of the examples.
-pub mod Answering
-pub mod Trails
+-- The lemmas of this crate.

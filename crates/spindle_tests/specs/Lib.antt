@@ -1,4 +1,1 @@
--- The definitions that the examples cite.
-pub mod Callers
-pub mod Last
-pub mod Halves
+-- The definitions that contracts of this crate cite.

@@ -1,23 +1,14 @@
-//! Tests of locks of each kind, and of calls that open one: callers whose contracts are proved from the library's public clauses alone,
-//! and rows of inputs with the outputs that they must give, or with what a refused allocation leaves.
+//! Tests of locks of each kind: rows of inputs with the outputs that they must give, or with what a refused allocation leaves.
 //!
 //! All of it is read with the tests alone, so that it is proved once.
 #![tactic(auto)]
 
 #[cfg(test)]
-mod attempt_rows;
-#[cfg(test)]
 mod call_rows;
-#[cfg(test)]
-mod callers;
 #[cfg(test)]
 mod checks;
 #[cfg(test)]
-mod chunks;
-#[cfg(test)]
 mod crossings;
-#[cfg(test)]
-mod division_rows;
 #[cfg(test)]
 mod free_rows;
 #[cfg(test)]
@@ -29,21 +20,13 @@ mod item_rows;
 #[cfg(test)]
 mod jobs;
 #[cfg(test)]
-mod kernel_rows;
-#[cfg(test)]
-mod laws;
-#[cfg(test)]
 mod lists;
 #[cfg(test)]
 mod marks;
 #[cfg(test)]
 mod nested;
 #[cfg(test)]
-mod pass_rows;
-#[cfg(test)]
 mod place_rows;
-#[cfg(test)]
-mod refused_calls;
 #[cfg(test)]
 mod refused_rounds;
 #[cfg(test)]
@@ -60,7 +43,5 @@ mod staying;
 mod stopping_rows;
 #[cfg(test)]
 mod tray_rows;
-#[cfg(test)]
-mod try_rows;
 #[cfg(test)]
 mod trying;

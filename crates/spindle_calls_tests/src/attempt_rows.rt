@@ -34,31 +34,30 @@ impl Job for BelowSeven {
     ghost equal_is_same = { Prim.search rules };
 }
 
+fn eight(alloc: Global) -> Result<Vec<u32>, Fault> {
+    Ok(vec![in alloc; 1, 2, 9, 3, 4, 5, 6, 8]?)
+}
+
 // The first so many of eight numbers; where memory for them is refused once, it is asked for again.
 fn numbers(alloc: Global, count: usize) -> Result<Vec<u32>, Fault> {
-    let eight = [1, 2, 9, 3, 4, 5, 6, 8];
-    let mut numbers = match Vec::from_array(alloc, eight) {
+    let mut numbers = match eight(alloc) {
         Ok(numbers) => numbers,
-        Err(_) => Vec::from_array(alloc, eight)?,
+        Err(_) => eight(alloc)?,
     };
     numbers.truncate(count);
     Ok(numbers)
 }
 
-// The pieces of eight numbers, two in each, of which so many ran.
-fn are_pairs(attempts: &[Attempt<u32, u32>], ran: usize) -> bool {
-    let items = [[1, 2], [9, 3], [4, 5], [6, 8]];
-    let outputs = [[1, 2], [7, 3], [4, 5], [6, 7]];
-    let mut right = attempts.len() == 4;
-    for at in 0..4 {
-        if let Some(attempt) = attempts.get(at) {
-            let count = if at < ran { 2 } else { 0 };
-            right = right & (attempt.ran() == (at < ran));
-            right = right & (attempt.items() == items[at].as_slice());
-            right = right & (attempt.outputs() == &outputs[at][..count]);
+// Whether an attempt at this place had these items, and these outputs; it has run where it has some.
+fn is_pair(attempts: &[Attempt<u32, u32>], at: usize, items: &[u32], outputs: &[u32]) -> bool {
+    match attempts.get(at) {
+        Some(attempt) => {
+            attempt.ran() != outputs.is_empty()
+                && attempt.items() == items
+                && attempt.outputs() == outputs
         }
+        None => false,
     }
-    right
 }
 
 #[test]
@@ -100,7 +99,11 @@ fn refused_round_that_may_stop_has_run_no_job(rt: HostRuntime) -> Result<(), Fau
         let before = calls.in_all();
         match try_one::<BelowSeven, _, _>(&rt, alloc, &pool, 4, numbers(alloc, 8)?) {
             Ok(attempts) => {
-                holds(&rt, are_pairs(attempts.as_slice(), 2));
+                holds(&rt, attempts.len() == 4);
+                holds(&rt, is_pair(&attempts, 0, &[1, 2], &[1, 2]));
+                holds(&rt, is_pair(&attempts, 1, &[9, 3], &[7, 3]));
+                holds(&rt, is_pair(&attempts, 2, &[4, 5], &[]));
+                holds(&rt, is_pair(&attempts, 3, &[6, 8], &[]));
                 is(&rt, calls.since(before), (4, 4));
             }
             Err(fault) => {

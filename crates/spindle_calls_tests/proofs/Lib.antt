@@ -1,0 +1,3 @@
+-- The lemmas of the examples.
+pub mod Answering
+pub mod Trails

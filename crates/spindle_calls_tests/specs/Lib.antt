@@ -1,0 +1,4 @@
+-- The definitions that the examples cite.
+pub mod Callers
+pub mod Last
+pub mod Halves
