@@ -10,8 +10,8 @@ pub enum Stop {
     Refused(Fault),
     /// The clock, the words or the output could not be read or written.
     System(io::Error),
-    /// Rounds in this kind of lock answered something wrong.
-    Wrong(&'static str),
+    /// What was played or timed after the last line answered something wrong.
+    Wrong,
     /// For how long to play is no number.
     Seconds,
 }

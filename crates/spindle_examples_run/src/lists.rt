@@ -123,7 +123,7 @@ fn print<H: Machine>(
     times: &Vec<u64>,
 ) -> Result<(), Stop> {
     if !is_right {
-        return Err(Stop::Wrong(name));
+        return Err(Stop::Wrong);
     }
     let (runs_on, threads) = (
         if is_lock { "lock" } else { "rayon" },

@@ -34,7 +34,7 @@ pub fn soak<H: Machine>(rt: &H, seconds: u64) -> Result<(), Stop> {
     for kind in KINDS {
         let seen = in_each_pool(rt, kind, share)?;
         if !seen.is_right {
-            return Err(Stop::Wrong(kind));
+            return Err(Stop::Wrong);
         }
         if 0 < seconds {
             print(rt, kind, &seen)?;
