@@ -4,14 +4,14 @@ use Rattle.std.specs.Prelude.{slice_get}
 use Rattle.std.specs.List.{AllZip}
 use Rattle.spindle_trays.specs.PieceRuns.{items_before}
 use Rattle.spindle_trays.specs.Trays.{HoldsDone}
-use Rattle.spindle_trays.proofs.pieces.tray.Tray.gather.Given as goal
+use Rattle.spindle_trays.proofs.pieces.place.gather.Given as goal
 
 abbrev pub invariant-loop-at : goal.invariant-loop-at
 invariant-loop-at g l =
     let pieces = l.fn.pieces in
-    let found = l.initial.self.places.items in record {
+    let found = l.initial.tray.items in record {
       before : AllZip g.J.Job.meets (items_before pieces.items pieces.count (l.fn.number + l.at)) l.outputs.items;
       room : length pieces.items ≤ vec_capacity l.outputs;
       held : HoldsDone pieces.items pieces.count l.fn.number l.fn.from l.at found;
-      others : (k : ℕ) → l.fn.from + l.at ≤ k → slice_get l.self.places.items k ≡ slice_get found k;
+      others : (k : ℕ) → l.fn.from + l.at ≤ k → slice_get l.tray.items k ≡ slice_get found k;
     }
