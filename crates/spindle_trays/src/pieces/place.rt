@@ -2,7 +2,7 @@
 //! tray is the places of the pieces that one thread number was dealt.
 ghost use Rattle.std.specs.Prelude.{◌≡◌, ℕ, ◌+◌, ◌^◌, ◌<◌, ◌≤◌, ◌↔◌, Some, OnOk, OnErr, IfErr, IfSome, IsNone, IsSome, IsTrue, IsOk, true, length, vec_len, vec_capacity, [], IfOk};
 ghost use Rattle.std.specs.List.{AllZip};
-ghost use Rattle.spindle_trays.specs.PieceRuns.{items_before};
+ghost use Rattle.spindle_trays.specs.Ahead.{HasAnswered};
 ghost use Rattle.spindle_trays.specs.Rounds.{AddsAnswers};
 ghost use Rattle.spindle_trays.specs.Outputs.{IsDoneOf};
 ghost use Rattle.spindle_trays.specs.Trays.{brought_to, AwaitsHand, HoldsDone, IsFirstMissing};
@@ -39,8 +39,7 @@ impl<J: Job> Place<Ready<J>, Finished<J>> {
         inputs: ListRun<J::In>,
         spares: &mut SpareLists<J::Out>,
     ) -> Result<(), AllocError>
-        ensures { OnOk result
-            (self.new ≡ Waits (record { number = number; inputs = inputs })) }
+        ensures { OnOk result (self.new ≡ Waits (record { number = number; inputs = inputs })) }
     {
         let room = match mem::replace(self, Place::Away(number)) {
             Place::Away(_) => spares.take(alloc),
@@ -164,12 +163,10 @@ pub(crate) fn gather<J: Job>(
 ) -> Result<(), usize>
     requires numbers { number + count ≤ pieces.now.count }
     requires places { from + count < 2 ^ 64 }
-    requires before { AllZip J.meets
-        (items_before pieces.now.items pieces.now.count number) outputs.old.items }
-    requires room { length pieces.now.items ≤ vec_capacity outputs.old }
-    ensures answers { OnOk result (AllZip J.meets
-        (items_before pieces.now.items pieces.now.count (number + count)) outputs.new.items) }
-    ensures room { length pieces.now.items ≤ vec_capacity outputs.new }
+    requires before { HasAnswered J.meets
+        pieces.now.items pieces.now.count number outputs.old }
+    ensures answers { OnOk result (HasAnswered J.meets
+        pieces.now.items pieces.now.count (number + count) outputs.new) }
     ensures complete { OnOk result
         (HoldsDone pieces.now.items pieces.now.count number from count tray.old.items) }
     ensures lost { IfErr result (IsFirstMissing pieces.now.items pieces.now.count

@@ -1,21 +1,14 @@
 -- There is room for one more piece's outputs, they answer its items, and what the places held is told place by place.
-use Rattle.std.proofs.Common.{◌≡◌, ◌+◌, ◌<◌, length, ap, sym, ◌∙◌, arith, refl}
+use Rattle.std.proofs.Common.{◌≡◌, ◌+◌, ◌<◌, sym, ◌∙◌, arith, refl}
 use Rattle.std.proofs.lemmas.Bool.{false≢true}
-use Rattle.spindle_trays.proofs.Outputs.{AllZip-AddsAnswers}
-use Rattle.spindle_trays.proofs.PieceRuns.{items_more, next_fits}
+use Rattle.spindle_trays.proofs.PieceRuns.{room_for_next, answered_next}
 use Rattle.spindle_trays.proofs.TrayPlaces.{at_others, told_at, none_past, one_more_done}
-use Rattle.spindle_trays.specs.PieceRuns.{items_before, piece_at}
 use Rattle.spindle_trays.proofs.pieces.place.gather.Goals as goal
 
 pub hand_over-requires : goal.hand_over-requires
 hand_over-requires g c =
-    let pieces = c.args.pieces.now in
-    let number = c.args.number + c.loop-at.at in
-    let items = piece_at pieces.items pieces.count number in
-    let same : length c.piece-items.result.now ≡ length items = ap length {y = items} c.piece-items.ensures.run in
-    let h : number < pieces.count = omega (arith, c.requires.numbers, c.loop-at-test.true) in
-    let fits = next_fits g.J.Job.meets pieces.items pieces.count number c.loop-at.outputs.items h c.loop-at.invariant.before in
-    record { room = omega (arith, fits, same, c.loop-at.invariant.room) }
+    let h : c.args.number + c.loop-at.at < c.args.pieces.now.count = omega (arith, c.requires.numbers, c.loop-at-test.true) in
+    record { room = room_for_next _ _ _ _ _ c.loop-at.outputs h c.piece-items.ensures.run c.loop-at.invariant.before }
 
 pub loop-at-preserved : goal.loop-at-preserved
 loop-at-preserved g c =
@@ -25,14 +18,13 @@ loop-at-preserved g c =
     let now = c.loop-at.tray.items in
     let old = c.args.tray.now.items in
     let is = c.piece-items.ensures.run in
+    let h : number < p.count = omega (arith, c.requires.numbers, c.loop-at-test.true) in
     let next : c.args.number + (c.loop-at.at + 1) ≡ number + 1 = omega arith in
-    let more = AllZip-AddsAnswers g.J.Job.meets (items_before p.items p.count number) c.piece-items.result.now c.loop-at.outputs.items
-    c.hand_over.new.outputs.items c.loop-at.invariant.before (c.hand_over.ensures.answers c.if-not-hand_over.false) in
     let held = told_at p.items c.piece-items.result.now p.count number at now old c.index_mut.result.now (omega (arith, c.if-from-at.false, c.len.ensures))
     c.index_mut.ensures.value (c.loop-at.invariant.others at (omega arith)) is c.hand_over.ensures.held in
     record {
-      before = rw (next, items_more p.items p.count number, ← is) more;
-      room = omega (arith, c.hand_over.ensures.room, c.loop-at.invariant.room);
+      before = rw next (answered_next _ _ _ _ number c.loop-at.outputs c.hand_over.new.outputs h is c.loop-at.invariant.before
+          (c.hand_over.ensures.answers c.if-not-hand_over.false) c.hand_over.ensures.room);
       held = one_more_done p.items p.count c.args.number c.args.from c.loop-at.at old c.loop-at.invariant.held (held.0 c.if-not-hand_over.false);
       others = λ k le. at_others now at c.hand_over.new.self k (λ e. omega (arith, le, e)) ∙ c.loop-at.invariant.others k (omega (arith, le));
     }
