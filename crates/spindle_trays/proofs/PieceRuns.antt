@@ -34,7 +34,8 @@ items_more items pieces number =
     let e : to ≡ from + (to - from) = omega (arith, start_next (length items) pieces number) in
     ap (λ n. take n items) e ∙ take-add from (to - from) items
 
-next_fits : {A B : Type 0} (R : A → B → Type 0) (items : List A) (pieces number : ℕ) (outputs : List B) → number < pieces → AllZip R
+-- where outputs answer the items before a piece, and there is room for all, there is room for the piece's
+pub next_fits : {A B : Type 0} (R : A → B → Type 0) (items : List A) (pieces number : ℕ) (outputs : List B) → number < pieces → AllZip R
     (items_before items pieces number) outputs → length outputs + length (piece_at items pieces number) ≤ length items
 next_fits R items pieces number outputs h z =
     let more = items_before items pieces (number + 1) in

@@ -20,6 +20,9 @@ at_others (x ∷ xs) zero t (suc k) n = refl
 at_others (x ∷ xs) (suc at) t zero n = refl
 at_others (x ∷ xs) (suc at) t (suc k) n = at_others xs at t k (λ e. n (ap suc e))
 
+pub some_is : {A : Type 0} {x y : A} → Some x ≡ Some y → x ≡ y
+some_is e = cc
+
 -- what is told of what stands at a place is told of the place
 pub told_at : {A B P : Type 0} (items run : List A) (pieces n at : ℕ) (now old : List (Place (Given A) (Done A B))) (place : Place (Given A) (Done A B))
     → at < length now → place ≡ get_or now at place → slice_get now at ≡ slice_get old at → run ≡ piece_at items pieces n

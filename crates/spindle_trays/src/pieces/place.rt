@@ -1,6 +1,6 @@
 //! The places where pieces stand: each has the piece, ready to be run, until a thread takes it, and then what the thread brings back. A
 //! tray is the places of the pieces that one thread number was dealt.
-ghost use Rattle.std.specs.Prelude.{◌≡◌, ℕ, ◌+◌, ◌^◌, ◌<◌, ◌≤◌, ◌↔◌, Some, OnOk, OnErr, IfErr, IfSome, IsNone, IsSome, IsTrue, IsOk, true, length, vec_len, vec_capacity, [], IfOk};
+ghost use Rattle.std.specs.Prelude.{◌≡◌, ◌+◌, ◌^◌, ◌<◌, ◌≤◌, ◌↔◌, OnOk, OnErr, IfErr, IfSome, IsNone, IsSome, IsTrue, IsOk, true, length, vec_len, vec_capacity, [], IfOk};
 ghost use Rattle.std.specs.List.{AllZip};
 ghost use Rattle.spindle_trays.specs.Ahead.{HasAnswered};
 ghost use Rattle.spindle_trays.specs.Rounds.{AddsAnswers};
@@ -19,7 +19,7 @@ use std::mem;
 /// What stands at a place.
 #[derive(Drop)]
 pub(crate) enum Place<P, A> {
-    /// Nothing: a thread has the piece of this number.
+    /// Nothing: a thread that has the piece of this number may bring it back.
     Away(usize),
     /// A piece that no thread has taken.
     Waits(P),

@@ -86,7 +86,8 @@ impl<'t, 'r, 'a, J: Job, G: Gate> Work<Bare> for TrayWork<'t, 'r, 'a, J, G> {
             Some(piece) => {
                 let (inputs, mut outputs) = piece.into_parts();
                 let (alloc, items) = (self.alloc, inputs.as_slice());
-                self.runner.run(rt, alloc, Some(number), items, &mut outputs);
+                self.runner
+                    .run(rt, alloc, Some(number), items, &mut outputs);
                 Finished::new(number, inputs, outputs)
             }
             None => Finished::empty(self.alloc, number),
