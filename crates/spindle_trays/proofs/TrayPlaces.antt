@@ -50,8 +50,9 @@ pub all_wait : {X : Type 0} (w : ℕ → X) (own : List ℕ) (places : List X) (
 all_wait w own places len k e h h' z = let end : k ≡ length own = omega (arith, e, h, h') in rw (take_all k own (omega (arith, end)), end) at z
 
 -- one more place holds its piece, run
-pub one_more_done : {A B : Type 0} (items : List A) (pieces number from k : ℕ) (places : List (Place (Given A) (Done A B))) → HoldsDone items pieces number from k places
-    → IsDoneAt items pieces (number + k) (from + k) places → HoldsDone items pieces number from (k + 1) places
+pub one_more_done : {A B : Type 0} (items : List A) (pieces number from k : ℕ) (places : List (Place (Given A) (Done A B)))
+    → HoldsDone items pieces number from k places → IsDoneAt items pieces (number + k) (from + k) places
+    → HoldsDone items pieces number from (k + 1) places
 one_more_done items pieces number from k places before here i lt =
     ⊎_elim (before i) (λ (le : k ≤ i). let e : k ≡ i = omega (arith, le, lt) in
     subst (λ (j : ℕ). IsDoneAt items pieces (number + j) (from + j) places) e here) (cases_lt i k)

@@ -161,8 +161,7 @@ pub(crate) fn play_ahead<'a, J: Job, G: Gate, H: Threads + Wait + Sync>(
     requires counted { (2 ≤ pieces.now.count) × (pieces.now.count ≤ 4294967295) }
     requires empty { outputs.old.items ≡ [] }
     requires room { length pieces.now.items ≤ vec_capacity outputs.old }
-    ensures answered { HasAnswered J.meets
-        pieces.now.items pieces.now.count result outputs.new }
+    ensures answered { HasAnswered J.meets pieces.now.items pieces.now.count result outputs.new }
     ensures played { PlayedRound pieces.now.count
         leader.old.post.barrier.seat.me.0 leader.new.post.barrier.seat.me.0 }
     ensures tables { leader.new.post.tables ≡ leader.old.post.tables }

@@ -17,7 +17,8 @@ loop-thread-preserved g c =
     elim c.if-done-each.branch [
       | then-done-each+in_ok-gather w ↦ (
         omega (arith, w.next-is),
-        let to : c.loop-thread.next + (c.count.result / c.len-threads.result - c.min-done.result) ≡ c.if-done-each.next = omega (arith, w.next-is, w.if-done-each.true, i.0) in
+        let to : c.loop-thread.next + (c.count.result / c.len-threads.result - c.min-done.result) ≡ c.if-done-each.next =
+            omega (arith, w.next-is, w.if-done-each.true, i.0) in
             rw w.outputs-is (subst (λ (n : ℕ). HasAnswered g.J.Job.meets p.items p.count n w.gather.new.outputs) to w.in_ok-gather.ensures.answers),
       )
       | else-done-each w ↦ (omega (arith, w.next-is, w.if-done-each.false, i.0), rw (w.next-is, w.outputs-is) i.1)
