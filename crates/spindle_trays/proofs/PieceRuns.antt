@@ -6,10 +6,9 @@ use Rattle.std.proofs.Math.Nat.{mod-lt}
 use Rattle.std.proofs.Math.Seq.{take-add}
 use Rattle.std.proofs.lemmas.Slice.Zip.{AllZip-long}
 use Rattle.std.specs.List.{AllZip}
-use Rattle.spindle_trays.specs.Ahead.{HasAnswered}
 use Rattle.spindle_trays.specs.Rounds.{AddsAnswers}
 use Rattle.spindle_trays.proofs.Outputs.{AllZip-AddsAnswers}
-use Rattle.spindle_trays.specs.PieceRuns.{piece_start, items_before, piece_at}
+use Rattle.spindle_trays.specs.PieceRuns.{piece_start, items_before, piece_at, HasAnswered}
 
 -- nothing stands before the first piece
 pub before_first : {A : Type 0} (items : List A) (pieces : ℕ) → items_before items pieces 0 ≡ []

@@ -2,7 +2,7 @@
 //! tray is the places of the pieces that one thread number was dealt.
 ghost use Rattle.std.specs.Prelude.{◌≡◌, ◌+◌, ◌^◌, ◌<◌, ◌≤◌, ◌↔◌, OnOk, OnErr, IfErr, IfSome, IsNone, IsSome, IsTrue, IsOk, true, length, vec_len, vec_capacity, [], IfOk};
 ghost use Rattle.std.specs.List.{AllZip};
-ghost use Rattle.spindle_trays.specs.Ahead.{HasAnswered};
+ghost use Rattle.spindle_trays.specs.PieceRuns.{HasAnswered};
 ghost use Rattle.spindle_trays.specs.Rounds.{AddsAnswers};
 ghost use Rattle.spindle_trays.specs.Outputs.{IsDoneOf};
 ghost use Rattle.spindle_trays.specs.Trays.{brought_to, AwaitsHand, HoldsDone, IsFirstMissing};

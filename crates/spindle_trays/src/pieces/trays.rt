@@ -2,7 +2,7 @@
 //! they were dealt never wait for one another.
 ghost use Rattle.std.specs.Prelude.{◌≡◌, ◌+◌, ◌<◌, ◌≤◌, [], IfOk, IfErr, IfSome, OnOk, OnErr, IsErrOf, length, vec_len, vec_capacity};
 ghost use Rattle.std.specs.List.{AllZip};
-ghost use Rattle.spindle_trays.specs.Ahead.{HasAnswered};
+ghost use Rattle.spindle_trays.specs.PieceRuns.{HasAnswered};
 ghost use Rattle.spindle_trays.specs.Reports.{IsNoted};
 
 use crate::job::Job;
@@ -50,27 +50,15 @@ impl<J: Job> Trays<J> {
     ) -> Result<(), Fault>
         ensures { OnErr result (IsErrOf result Fault.Memory) }
     {
-        let handed_out = self.refill(rt, alloc, pieces, spares);
-        if handed_out.is_err() {
-            self.empty(rt);
-        }
-        handed_out
-    }
-
-    // Fills one tray after the other, up to the first that is refused memory.
-    fn refill<H: Wait>(
-        &self,
-        rt: &H,
-        alloc: Global,
-        pieces: &ListRuns<J::In>,
-        spares: &mut SpareLists<J::Out>,
-    ) -> Result<(), Fault>
-        ensures { OnErr result (IsErrOf result Fault.Memory) }
-    {
         let threads = self.trays.len();
         for thread in 0..threads {
             let mut tray = self.trays[thread].lock(rt);
-            fill(&mut tray, alloc, thread, threads, pieces, spares)?;
+            let filled = fill(&mut tray, alloc, thread, threads, pieces, spares);
+            drop(tray);
+            if filled.is_err() {
+                self.empty(rt);
+                return Err(Fault::Memory);
+            }
         }
         Ok(())
     }

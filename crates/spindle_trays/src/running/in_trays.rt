@@ -11,7 +11,7 @@ ghost use Rattle.spindle_rounds.specs.RoundViews.{StopsAsBefore, stops_of};
 ghost use Rattle.spindle_rounds.specs.Seating.{IsSameSeat};
 ghost use Rattle.std.specs.List.{AllZip};
 ghost use Rattle.std.proofs.Common.{refl, ◌∙◌};
-ghost use Rattle.spindle_trays.specs.Ahead.{HasAnswered};
+ghost use Rattle.spindle_trays.specs.PieceRuns.{HasAnswered};
 
 use crate::job::Job;
 use crate::job::gate::Gate;

@@ -1,7 +1,7 @@
 -- So far the outputs answer the items before the next piece, the places so far held their pieces, and the others are as before.
 use Rattle.std.proofs.Common.{◌≡◌, ℕ, ◌+◌, ◌≤◌}
 use Rattle.std.specs.Prelude.{slice_get}
-use Rattle.spindle_trays.specs.Ahead.{HasAnswered}
+use Rattle.spindle_trays.specs.PieceRuns.{HasAnswered}
 use Rattle.spindle_trays.specs.Trays.{HoldsDone}
 use Rattle.spindle_trays.proofs.pieces.place.gather.Given as goal
 

@@ -2,7 +2,7 @@ use Rattle.std.proofs.lemmas.Grind.{common_steps}
 -- The rest of a tray's run ends where the next one begins.
 use Rattle.std.proofs.Common.{◌≡◌, ℕ, ◌+◌, ◌-◌, ◌/◌, ◌<◌, arith, subst}
 use Rattle.spindle_trays.proofs.Addresses.{run_ends}
-use Rattle.spindle_trays.specs.Ahead.{HasAnswered}
+use Rattle.spindle_trays.specs.PieceRuns.{HasAnswered}
 use Rattle.spindle_trays.proofs.pieces.trays.Trays.move_outputs.Goals as goal
 use Rattle.spindle_trays.proofs.pieces.trays.Trays.move_outputs.Goals.{then-done-each+in_ok-gather, else-done-each}
 

@@ -1,6 +1,6 @@
 -- So far the outputs answer the items before the next piece, which the trays so far don't have.
 use Rattle.std.proofs.Common.{◌+◌, ◌*◌, ◌≤◌}
-use Rattle.spindle_trays.specs.Ahead.{HasAnswered}
+use Rattle.spindle_trays.specs.PieceRuns.{HasAnswered}
 use Rattle.spindle_trays.proofs.pieces.trays.Trays.move_outputs.Given as goal
 
 abbrev pub invariant-loop-thread : goal.invariant-loop-thread
