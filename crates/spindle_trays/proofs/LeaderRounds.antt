@@ -51,10 +51,6 @@ some_jobs (suc items) n_jobs empty is isnt more = let some = more (omega arith) 
 pub some_numbers : (n : ℕ) → n ≢ 0 → 0 < job_count n n
 some_numbers n some = omega arith
 
--- a loop ends at its end
-pub same_end : (n m : ℕ) → n ≤ m → m ≤ n → n ≡ m
-same_end n m h k = omega arith
-
 -- a count that isn't 1 is more, and one that is isn't
 pub not_one : (n m : ℕ) → n ≡ m → 0 < n → (n ≡ 1 → ⊥) → m ≤ 1 → ⊥
 not_one n m e some isnt one = isnt (omega arith)

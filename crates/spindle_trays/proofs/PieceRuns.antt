@@ -1,12 +1,14 @@
 -- The pieces of a list as runs of it, one behind the other.
-use Rattle.std.proofs.Common.{◌≡◌, ℕ, ◌+◌, ◌-◌, ◌<◌, ◌≤◌, List, [], ◌++◌, length, take, ap, ◌∙◌, arith, length-append}
+use Rattle.std.proofs.Common.{◌≡◌, ℕ, ◌+◌, ◌-◌, ◌<◌, ◌≤◌, List, [], ◌++◌, length, take, ap, ◌∙◌, arith, length-append, Vec, vec_len, vec_capacity}
 use Rattle.std.proofs.lemmas.List.{length-take, take_all}
 use Rattle.std.proofs.lemmas.Nat.{div-add-mod'}
 use Rattle.std.proofs.Math.Nat.{mod-lt}
 use Rattle.std.proofs.Math.Seq.{take-add}
 use Rattle.std.proofs.lemmas.Slice.Zip.{AllZip-long}
 use Rattle.std.specs.List.{AllZip}
-use Rattle.spindle_trays.specs.PieceRuns.{piece_start, items_before, piece_at}
+use Rattle.spindle_trays.specs.Rounds.{AddsAnswers}
+use Rattle.spindle_trays.proofs.Outputs.{AllZip-AddsAnswers}
+use Rattle.spindle_trays.specs.PieceRuns.{piece_start, items_before, piece_at, HasAnswered}
 
 -- nothing stands before the first piece
 pub before_first : {A : Type 0} (items : List A) (pieces : ℕ) → items_before items pieces 0 ≡ []
@@ -44,3 +46,17 @@ next_fits R items pieces number outputs h z =
       ap length (items_more items pieces number),
       whole,
     )
+
+-- where the outputs answer the items before a piece, there is room for the piece's
+pub room_for_next : {A B Z : Type 0} (R : A → B → Type 0) (items run : List A) (pieces number : ℕ) (outputs : Vec B Z) → number < pieces
+    → run ≡ piece_at items pieces number → HasAnswered R items pieces number outputs → vec_len outputs + length run ≤ vec_capacity outputs
+room_for_next R items run pieces number outputs h is answered =
+    omega (arith, next_fits R items pieces number outputs.items h answered.1, ap length is, answered.2)
+
+-- and once it has run, they answer its items too
+pub answered_next : {A B Z : Type 0} (R : A → B → Type 0) (items run : List A) (pieces number : ℕ) (old new : Vec B Z) → number < pieces
+    → run ≡ piece_at items pieces number → HasAnswered R items pieces number old → AddsAnswers R run old.items new.items
+    → vec_capacity old ≤ vec_capacity new → HasAnswered R items pieces (number + 1) new
+answered_next R items run pieces number old new h is answered adds room =
+    let more = AllZip-AddsAnswers R (items_before items pieces number) run old.items new.items answered.1 adds in
+    (omega (arith, h), rw (items_more items pieces number, ← is) more, omega (arith, room, answered.2))

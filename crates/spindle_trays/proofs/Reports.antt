@@ -272,11 +272,6 @@ least_early false None [] h = refl
 least_early false (Some i) [] h = refl
 least_early false lost (x ∷ skipped) h = ⊎_elim (λ e. absurd cc) (λ e. absurd (false≢true e)) h
 
--- else it is the less of that and the first that was skipped
-pub least_late : (lost : Option ℕ) (first : ℕ) → Some (min (unwrap_or lost first) first) ≡ less_of lost (Some first)
-least_late None first = let same : min first first ≡ first = omega arith in ap (λ (i : ℕ). Some i) same
-least_late (Some i) first = refl
-
 -- where there is none nothing was noted so, and nothing skipped unless a piece failed
 pub least_none : (failed : Bool) (lost : Option ℕ) (skipped : List ℕ) → (if failed then lost else less_of lost (slice_get skipped 0)) ≡ None
     → (lost ≡ None) × ((skipped ≡ []) ⊎ (failed ≡ true))

@@ -1,4 +1,4 @@
--- A piece on its way, as contracts see it: given to a thread, done, and the place where it stands.
+-- A piece on its way, as contracts see it: given to a thread, and done.
 use Rattle.std.specs.Prelude.{ℕ, List, [], Option, None, Some}
 
 -- a piece that was handed out: its number and its items
@@ -16,10 +16,3 @@ pub record Done (A B : Type 0) : Type 0 where
 abbrev pub inputs_of : {A : Type 0} → Option (List A) → List A
 inputs_of None = []
 inputs_of (Some inputs) = inputs
-
--- the place of a piece: its number,
--- the piece until a thread takes it, and what the thread brings back
-pub record PlaceView (A B : Type 0) : Type 0 where
-  pub number : ℕ
-  pub ready : Option (Given A)
-  pub finished : Option (Done A B)

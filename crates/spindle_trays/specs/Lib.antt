@@ -8,7 +8,6 @@ pub mod ChunkRounds
 pub mod Leaders
 pub mod Locks
 pub mod Rounds
-pub mod Ahead
 pub mod Stops
 -- Those of the crates below that its public clauses name.
 pub use Rattle.spindle_parts.specs.Pieces

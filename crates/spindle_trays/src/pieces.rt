@@ -8,5 +8,4 @@ pub mod list_runs;
 pub mod place;
 pub mod report;
 pub mod tally;
-pub mod tray;
 pub mod trays;

@@ -1,119 +1,104 @@
-//! The place of a piece in a tray: the piece, ready to be run, until a thread takes it, and then what the thread brings back.
-ghost use Rattle.std.specs.Prelude.{◌≡◌, ◌+◌, ◌≤◌, ◌↔◌, None, Some, OnOk, OnErr, IfErr, IfSome, IsSome, IsTrue, IsOk, true, length, vec_len, vec_capacity, [], IfOk};
+//! The places where pieces stand: each has the piece, ready to be run, until a thread takes it, and then what the thread brings back. A
+//! tray is the places of the pieces that one thread number was dealt.
+ghost use Rattle.std.specs.Prelude.{◌≡◌, ◌+◌, ◌^◌, ◌<◌, ◌≤◌, ◌↔◌, OnOk, OnErr, IfErr, IfSome, IsNone, IsSome, IsTrue, IsOk, true, length, vec_len, vec_capacity, [], IfOk};
 ghost use Rattle.std.specs.List.{AllZip};
+ghost use Rattle.spindle_trays.specs.PieceRuns.{HasAnswered};
 ghost use Rattle.spindle_trays.specs.Rounds.{AddsAnswers};
 ghost use Rattle.spindle_trays.specs.Outputs.{IsDoneOf};
-ghost use Rattle.spindle_trays.specs.Trays.{Awaits};
+ghost use Rattle.spindle_trays.specs.Trays.{brought_to, AwaitsHand, HoldsDone, IsFirstMissing};
+ghost use Rattle.spindle_trays.specs.declared.pieces.place.Place.TheVariants.{Away, Waits, Back};
 
 use crate::job::Job;
 use crate::pieces::finished::Finished;
+use crate::pieces::list_runs::{Address, ListRuns, hand_length};
 use spindle_parts::lists::shared::ListRun;
 use std::alloc::{AllocError, Global};
 use std::marker::Model;
+use std::mem;
 
-/// A place keeps its number, and holds no piece of another one.
+/// What stands at a place.
 #[derive(Drop)]
-pub(crate) struct Place<J: Job> {
-    number: usize,
-    ready: Option<Ready<J>>,
-    finished: Option<Finished<J>>,
+pub(crate) enum Place<P, A> {
+    /// Nothing: a thread that has the piece of this number may bring it back.
+    Away(usize),
+    /// A piece that no thread has taken.
+    Waits(P),
+    /// What a thread brought back.
+    Back(A),
 }
 
-impl<J: Job> Model for Place<J> {
-    ghost use Rattle.std.specs.Prelude.{◌≡◌, IfSome};
-    ghost use Rattle.spindle_trays.specs.Done.{PlaceView};
+/// The places of one thread number's pieces.
+pub(crate) type Tray<J> = Vec<Place<Ready<J>, Finished<J>>>;
 
-    ghost Value = { PlaceView J.In J.Out };
-
-    ghost view = { λ place. record {
-      number = place.number;
-      ready = place.ready;
-      finished = place.finished;
-    } };
-
-    ghost invariant = { λ place. IfSome place.ready (λ piece. piece.number ≡ place.number)
-        × IfSome place.finished (λ piece. piece.number ≡ place.number) };
-}
-
-impl<J: Job> Place<J> {
-    /// A place of no piece. Takes no memory.
-    pub(crate) fn new() -> Place<J> {
-        Place {
-            number: 0,
-            ready: None,
-            finished: None,
-        }
-    }
-
-    /// Puts a piece here, with the room of what stood here, or else a spare one.
-    pub(crate) fn refill(
+impl<J: Job> Place<Ready<J>, Finished<J>> {
+    // Puts a piece here, with the room of what stood here, or else a spare one.
+    fn refill(
         &mut self,
         alloc: Global,
         number: usize,
         inputs: ListRun<J::In>,
         spares: &mut SpareLists<J::Out>,
     ) -> Result<(), AllocError>
-        ensures { OnOk result (Awaits inputs number self.new) }
+        ensures { OnOk result (self.new ≡ Waits (record { number = number; inputs = inputs })) }
     {
-        let room = self.take_room(alloc, spares);
-        self.number = number;
-        self.ready = Some(Ready::new(number, inputs, room)?);
+        let room = match mem::replace(self, Place::Away(number)) {
+            Place::Away(_) => spares.take(alloc),
+            Place::Waits(ready) => ready.into_parts().1,
+            Place::Back(finished) => finished.into_outputs(),
+        };
+        *self = Place::Waits(Ready::new(number, inputs, room)?);
         Ok(())
     }
 
-    // The room of what stands here, or a spare one.
-    fn take_room(&mut self, alloc: Global, spares: &mut SpareLists<J::Out>) -> Vec<J::Out>
-        ensures { (self.new.ready ≡ None) × (self.new.finished ≡ None) }
+    /// Takes the piece of a number, if it waits here.
+    pub(crate) fn take(&mut self, number: usize) -> Option<Ready<J>>
+        ensures number { IfSome result (λ piece. piece.number ≡ number) }
+        ensures taken { IfSome result (λ piece. (self.old ≡ Waits piece)
+            × (self.new ≡ Away number)) }
+        ensures kept { IsNone result → self.new ≡ self.old }
     {
-        if let Some(finished) = self.finished.take() {
-            self.ready = None;
-            return finished.into_outputs();
+        match self {
+            Place::Waits(piece) if piece.number() == number => {}
+            _ => return None,
         }
-        match self.ready.take() {
-            Some(ready) => {
-                let (_, room) = ready.into_parts();
-                room
-            }
-            None => spares.take(alloc),
+        match mem::replace(self, Place::Away(number)) {
+            Place::Waits(piece) => Some(piece),
+            _other => None,
         }
     }
 
-    /// Takes the piece, if no thread has taken it.
-    pub(crate) fn take(&mut self) -> Option<Ready<J>>
-        ensures piece { result ≡ self.old.ready }
-        ensures taken { self.new.ready ≡ None }
-        ensures number { self.new.number ≡ self.old.number }
-        ensures finished { self.new.finished ≡ self.old.finished }
-    {
-        self.ready.take()
-    }
-
-    /// Brings the piece back, run. A place that holds one refuses another, and so does it one of another number.
+    /// Brings a piece back, run. Refused where this piece isn't away.
     pub(crate) fn put(&mut self, finished: Finished<J>) -> Result<(), Finished<J>>
-        ensures free { IsOk result
-            ↔ ((self.old.finished ≡ None) × (finished.number ≡ self.old.number)) }
-        ensures held { OnOk result (self.new.finished ≡ Some finished) }
+        ensures free { IsOk result ↔ (self.old ≡ Away finished.number) }
+        ensures held { OnOk result (self.new ≡ Back finished) }
         ensures returned { IfErr result (λ back. back ≡ finished) }
         ensures kept { OnErr result (self.new ≡ self.old) }
-        ensures number { self.new.number ≡ self.old.number }
-        ensures ready { self.new.ready ≡ self.old.ready }
     {
-        if self.finished.is_some() || finished.number() != self.number {
-            return Err(finished);
+        match self {
+            Place::Away(number) if *number == finished.number() => {
+                *self = Place::Back(finished);
+                Ok(())
+            }
+            _ => Err(finished),
         }
-        self.finished = Some(finished);
-        Ok(())
+    }
+
+    // Lets go of a piece that was run elsewhere. The room for its outputs stays.
+    fn let_go(&mut self) {
+        if let Place::Waits(piece) = mem::replace(self, Place::Away(0)) {
+            *self = Place::Back(Finished::run_elsewhere(piece));
+        }
     }
 
     /// Takes the outputs of what was brought back, if it is the piece of a number with these items. Nothing stands here then.
     pub(crate) fn take_outputs(&mut self, number: usize, items: &[J::In]) -> Option<Vec<J::Out>>
         ensures answers { IfSome result (λ outputs. AllZip J.meets items.now outputs.items) }
-        ensures held { IsSome result ↔ IsDoneOf number items.now self.old.finished }
-        ensures number { self.new.number ≡ self.old.number }
-        ensures emptied { (self.new.ready ≡ None) × (self.new.finished ≡ None) }
+        ensures held { IsSome result ↔ IsDoneOf number items.now (brought_to self.old) }
+        ensures emptied { self.new ≡ Away number }
     {
-        self.ready = None;
-        let finished = self.finished.take()?;
+        let Place::Back(finished) = mem::replace(self, Place::Away(number)) else {
+            return None;
+        };
         if finished.is_of(number, items) {
             Some(finished.into_outputs())
         } else {
@@ -121,26 +106,92 @@ impl<J: Job> Place<J> {
         }
     }
 
-    /// Moves the outputs of what was brought back to the end of the list, if it is the piece of a number with these items.
-    pub(crate) fn hand_over(
-        &mut self,
-        number: usize,
-        items: &[J::In],
-        outputs: &mut Vec<J::Out>,
-    ) -> bool
+    // Moves the outputs of what was brought back to the end of the list, if it is the piece of a number with these items.
+    fn hand_over(&mut self, number: usize, items: &[J::In], outputs: &mut Vec<J::Out>) -> bool
         requires room { vec_len outputs.old + length items.now ≤ vec_capacity outputs.old }
         ensures answers { result ≡ true
             → AddsAnswers J.meets items.now outputs.old.items outputs.new.items }
         ensures room { vec_capacity outputs.old ≤ vec_capacity outputs.new }
-        ensures number { self.new.number ≡ self.old.number }
-        ensures held { IsTrue result ↔ IsDoneOf number items.now self.old.finished }
+        ensures held { IsTrue result ↔ IsDoneOf number items.now (brought_to self.old) }
     {
-        match &mut self.finished {
-            Some(finished) if finished.is_of(number, items) => {
+        match self {
+            Place::Back(finished) if finished.is_of(number, items) => {
                 finished.move_outputs(outputs);
                 true
             }
             _ => false,
+        }
+    }
+}
+
+/// Puts what a thread number is dealt of the pieces into its tray.
+pub(crate) fn fill<J: Job>(
+    tray: &mut Tray<J>,
+    alloc: Global,
+    thread: usize,
+    threads: usize,
+    pieces: &ListRuns<J::In>,
+    spares: &mut SpareLists<J::Out>,
+) -> Result<(), AllocError>
+    requires { thread < threads }
+    ensures waits { OnOk result
+        (AwaitsHand pieces.now.items pieces.now.count threads thread tray.new.items) }
+{
+    let count = pieces.count();
+    let length = hand_length(thread, count, threads);
+    let missing = length.saturating_sub(tray.len());
+    tray.reserve(missing)?;
+    for _ in 0..missing {
+        tray.push_reserved(Place::Away(0));
+    }
+    for place in 0..length {
+        let number = Address { thread, place }.number(count, threads);
+        tray[place].refill(alloc, number, pieces.run(number)?, spares)?;
+    }
+    Ok(())
+}
+
+/// Moves the outputs of so many pieces, whose places begin at `from`, to the end of the list. Ok where each of these
+/// places holds its piece, run; else the first number whose place doesn't.
+pub(crate) fn gather<J: Job>(
+    tray: &mut Tray<J>,
+    from: usize,
+    pieces: &ListRuns<J::In>,
+    number: usize,
+    count: usize,
+    outputs: &mut Vec<J::Out>,
+) -> Result<(), usize>
+    requires numbers { number + count ≤ pieces.now.count }
+    requires places { from + count < 2 ^ 64 }
+    requires before { HasAnswered J.meets
+        pieces.now.items pieces.now.count number outputs.old }
+    ensures answers { OnOk result (HasAnswered J.meets
+        pieces.now.items pieces.now.count (number + count) outputs.new) }
+    ensures complete { OnOk result
+        (HoldsDone pieces.now.items pieces.now.count number from count tray.old.items) }
+    ensures lost { IfErr result (IsFirstMissing pieces.now.items pieces.now.count
+        number from count tray.old.items) }
+    ensures within { IfErr result (λ k. k < pieces.now.count) }
+{
+    for at in 0..count {
+        let items = pieces.piece(number + at);
+        if from + at >= tray.len() {
+            return Err(number + at);
+        }
+        if !tray[from + at].hand_over(number + at, items, outputs) {
+            return Err(number + at);
+        }
+    }
+    Ok(())
+}
+
+/// Lets go of so many pieces, whose places begin at `from` and which were run elsewhere.
+pub(crate) fn let_go<J: Job>(tray: &mut Tray<J>, from: usize, count: usize)
+    requires places { from + count < 2 ^ 64 }
+{
+    for at in from..from + count {
+        if let Some(place) = tray.get_mut(at) {
+            place.let_go();
         }
     }
 }

@@ -1,16 +1,15 @@
 //! The trays of a lock: one a thread number, each behind a lock of its own, so that threads which run the pieces that
 //! they were dealt never wait for one another.
-ghost use Rattle.std.specs.Prelude.{◌≡◌, ◌<◌, ◌≤◌, [], IfOk, IfErr, IfSome, OnOk, OnErr, IsErrOf, length, vec_len, vec_capacity};
+ghost use Rattle.std.specs.Prelude.{◌≡◌, ◌+◌, ◌<◌, ◌≤◌, [], IfOk, IfErr, IfSome, OnOk, OnErr, IsErrOf, length, vec_len, vec_capacity};
 ghost use Rattle.std.specs.List.{AllZip};
-ghost use Rattle.spindle_trays.specs.Ahead.{HasAnswered};
+ghost use Rattle.spindle_trays.specs.PieceRuns.{HasAnswered};
 ghost use Rattle.spindle_trays.specs.Reports.{IsNoted};
 
 use crate::job::Job;
 use crate::pieces::finished::Finished;
 use crate::pieces::list_runs::{Address, ListRuns};
-use crate::pieces::place::{Ready, SpareLists};
+use crate::pieces::place::{Ready, SpareLists, Tray, fill, gather, let_go};
 use crate::pieces::tally::Tally;
-use crate::pieces::tray::Tray;
 use crossbeam_utils::CachePadded;
 use spindle_parts::fault::Fault;
 use std::alloc::Global;
@@ -31,8 +30,8 @@ impl<J: Job> Trays<J> {
         ensures memory { OnErr result (IsErrOf result Fault.Memory) }
     {
         let mut trays = Vec::with_capacity(alloc, threads)?;
-        for thread in 0..threads {
-            let tray = Mutex::new(Tray::new(alloc, thread, threads));
+        for _ in 0..threads {
+            let tray = Mutex::new(Vec::new(alloc));
             trays.push_reserved(CachePadded::new(tray));
         }
         Ok(Trays { trays })
@@ -51,25 +50,15 @@ impl<J: Job> Trays<J> {
     ) -> Result<(), Fault>
         ensures { OnErr result (IsErrOf result Fault.Memory) }
     {
-        let handed_out = self.refill(rt, alloc, pieces, spares);
-        if handed_out.is_err() {
-            self.empty(rt);
-        }
-        handed_out
-    }
-
-    // Fills one tray after the other, up to the first that is refused memory.
-    fn refill<H: Wait>(
-        &self,
-        rt: &H,
-        alloc: Global,
-        pieces: &ListRuns<J::In>,
-        spares: &mut SpareLists<J::Out>,
-    ) -> Result<(), Fault>
-        ensures { OnErr result (IsErrOf result Fault.Memory) }
-    {
-        for tray in &self.trays {
-            tray.lock(rt).refill(alloc, pieces, spares)?;
+        let threads = self.trays.len();
+        for thread in 0..threads {
+            let mut tray = self.trays[thread].lock(rt);
+            let filled = fill(&mut tray, alloc, thread, threads, pieces, spares);
+            drop(tray);
+            if filled.is_err() {
+                self.empty(rt);
+                return Err(Fault::Memory);
+            }
         }
         Ok(())
     }
@@ -77,7 +66,7 @@ impl<J: Job> Trays<J> {
     // Lets go of all pieces.
     fn empty<H: Wait>(&self, rt: &H) {
         for tray in &self.trays {
-            tray.lock(rt).empty();
+            tray.lock(rt).clear();
         }
     }
 
@@ -87,10 +76,11 @@ impl<J: Job> Trays<J> {
         ensures { IfSome result (λ piece. piece.number ≡ number) }
     {
         let address = Address::new(number, pieces, self.trays.len());
-        of_number(
-            self.trays[address.thread].lock(rt).take(address.place),
-            number,
-        )
+        let mut tray = self.trays[address.thread].lock(rt);
+        if address.place >= tray.len() {
+            return None;
+        }
+        tray[address.place].take(number)
     }
 
     /// Brings a piece of a round of so many back, run, to the tray where it was dealt. A tray may refuse it.
@@ -104,9 +94,11 @@ impl<J: Job> Trays<J> {
         ensures { IfErr result (λ back. back ≡ finished) }
     {
         let address = Address::new(finished.number(), pieces, self.trays.len());
-        self.trays[address.thread]
-            .lock(rt)
-            .put(address.place, finished)
+        let mut tray = self.trays[address.thread].lock(rt);
+        if address.place >= tray.len() {
+            return Err(finished);
+        }
+        tray[address.place].put(finished)
     }
 
     /// Brings a piece of a round of so many back, run, and takes the piece of a number, if it waits in its tray: under one
@@ -125,11 +117,13 @@ impl<J: Job> Trays<J> {
         {
             let back = Address::new(finished.number(), pieces, self.trays.len());
             let mut tray = self.trays[back.thread].lock(rt);
-            drop(tray.put(back.place, finished));
+            if back.place < tray.len() {
+                drop(tray[back.place].put(finished));
+            }
             if number < pieces {
                 let next = Address::new(number, pieces, self.trays.len());
-                if next.thread == back.thread {
-                    return of_number(tray.take(next.place), number);
+                if next.thread == back.thread && next.place < tray.len() {
+                    return tray[next.place].take(number);
                 }
             }
         }
@@ -196,18 +190,18 @@ impl<J: Job> Trays<J> {
         for thread in 0..threads {
             let done = (next - each * thread).min(each);
             let mut tray = self.trays[thread].lock(rt);
-            tray.let_go(0, done);
+            let_go(&mut tray, 0, done);
             if done < each {
-                tray.gather(done, pieces, next, each - done, outputs)?;
+                gather(&mut tray, done, pieces, next, each - done, outputs)?;
                 next = each * (thread + 1);
             }
         }
         for thread in 0..pieces.count() % threads {
             let mut tray = self.trays[thread].lock(rt);
             if each * threads + thread < next {
-                tray.let_go(each, 1);
+                let_go(&mut tray, each, 1);
             } else {
-                tray.gather(each, pieces, next, 1, outputs)?;
+                gather(&mut tray, each, pieces, next, 1, outputs)?;
                 next += 1;
             }
         }
@@ -235,24 +229,37 @@ impl<J: Job> Trays<J> {
         for thread in 0..threads {
             let mut tray = self.trays[thread].lock(rt);
             for place in 0..each {
-                tray.tally(place, pieces, left, each * thread + place, tally);
+                let number = each * thread + place;
+                note(&mut tray, place, pieces, left, number, tally);
             }
         }
         for thread in 0..count % threads {
             let mut tray = self.trays[thread].lock(rt);
-            tray.tally(each, pieces, left, each * threads + thread, tally);
+            let number = each * threads + thread;
+            note(&mut tray, each, pieces, left, number, tally);
         }
     }
 }
 
-// The piece, if it is the one of that number.
-fn of_number<J: Job>(piece: Option<Ready<J>>, number: usize) -> Option<Ready<J>>
-    ensures { IfSome result (λ piece. piece.number ≡ number) }
+// Notes what came of the piece of a number, whose place is `at`. Nothing stands there then.
+fn note<J: Job>(
+    tray: &mut Tray<J>,
+    at: usize,
+    pieces: &ListRuns<J::In>,
+    left: &[bool],
+    number: usize,
+    tally: &mut Tally<J::Out>,
+)
+    requires next { number < pieces.now.count }
+    requires marks { length left.now ≡ pieces.now.count }
+    requires noted { IsNoted J.meets J.fails
+        pieces.now.items pieces.now.count left.now number tally.old }
+    ensures noted { IsNoted J.meets J.fails
+        pieces.now.items pieces.now.count left.now (number + 1) tally.new }
 {
-    let piece = piece?;
-    if piece.number() == number {
-        Some(piece)
-    } else {
-        None
-    }
+    let outputs = match tray.get_mut(at) {
+        Some(place) => place.take_outputs(number, pieces.piece(number)),
+        None => None,
+    };
+    tally.note::<J>(pieces, left, number, outputs, false);
 }

@@ -11,7 +11,7 @@ ghost use Rattle.spindle_rounds.specs.RoundViews.{StopsAsBefore, stops_of};
 ghost use Rattle.spindle_rounds.specs.Seating.{IsSameSeat};
 ghost use Rattle.std.specs.List.{AllZip};
 ghost use Rattle.std.proofs.Common.{refl, ◌∙◌};
-ghost use Rattle.spindle_trays.specs.Ahead.{HasAnswered};
+ghost use Rattle.spindle_trays.specs.PieceRuns.{HasAnswered};
 
 use crate::job::Job;
 use crate::job::gate::Gate;
@@ -71,7 +71,7 @@ impl<'t, 'r, 'a, J: Job, G: Gate> Work<Bare> for TrayWork<'t, 'r, 'a, J, G> {
 
     ghost keeps = { λ v x w y. Unit {0} };
 
-    // Its piece is held until the next is taken, and the one held before goes back.
+    // The piece held before goes back, and this one is held, once it has run. Where it isn't in its tray nothing runs.
     fn run<H: Threads + Wait + Sync>(
         &mut self,
         rt: &H,
@@ -82,9 +82,16 @@ impl<'t, 'r, 'a, J: Job, G: Gate> Work<Bare> for TrayWork<'t, 'r, 'a, J, G> {
         let number = claimed.number() as usize;
         let pieces = party.task.jobs as usize;
         let held = self.held.take();
-        let finished = self
-            .trays
-            .run_piece(rt, self.alloc, self.runner, pieces, held, number);
+        let finished = match self.trays.exchange(rt, pieces, held, number) {
+            Some(piece) => {
+                let (inputs, mut outputs) = piece.into_parts();
+                let (alloc, items) = (self.alloc, inputs.as_slice());
+                self.runner
+                    .run(rt, alloc, Some(number), items, &mut outputs);
+                Finished::new(number, inputs, outputs)
+            }
+            None => Finished::empty(self.alloc, number),
+        };
         let failed = party.task.may_stop && finished.has_failed();
         let before = finish(party, seat, claimed, &finished, failed);
         self.held = Some(finished);
@@ -97,27 +104,6 @@ impl<'t, 'r, 'a, J: Job, G: Gate> Work<Bare> for TrayWork<'t, 'r, 'a, J, G> {
 }
 
 impl<J: Job> Trays<J> {
-    /// Brings the piece back that was held, and runs the piece of a number. Where that isn't in its tray nothing runs.
-    pub(crate) fn run_piece<G: Gate, H: Threads + Wait + Sync>(
-        &self,
-        rt: &H,
-        alloc: Global,
-        runner: &mut Runner<'_, J, G>,
-        pieces: usize,
-        held: Option<Finished<J>>,
-        number: usize,
-    ) -> Finished<J>
-        ensures { result.number ≡ number }
-    {
-        if let Some(piece) = self.exchange(rt, pieces, held, number) {
-            let (inputs, mut outputs) = piece.into_parts();
-            runner.run(rt, alloc, Some(number), inputs.as_slice(), &mut outputs);
-            Finished::new(number, inputs, outputs)
-        } else {
-            Finished::empty(alloc, number)
-        }
-    }
-
     /// Brings the last piece back, if one is held.
     pub(crate) fn bring_back<H: Wait>(&self, rt: &H, pieces: usize, held: Option<Finished<J>>) {
         if let Some(finished) = held
@@ -152,17 +138,13 @@ pub(crate) fn finish<P: Numbered>(
     party.round.finish(seat, claimed, piece)
 }
 
-/// What runs the next piece where it lies, with the outputs of those before it, and others out of their trays. It holds the last one of
-/// these until it takes another.
+/// What runs the next piece where it lies, with the outputs of those before it, and others out of their trays.
 #[derive(Drop)]
 struct AheadWork<'t, 'p, 'r, 'a, J: Job, G: Gate> {
-    trays: &'t Trays<J>,
+    others: TrayWork<'t, 'r, 'a, J, G>,
     pieces: &'p ListRuns<J::In>,
-    runner: &'r mut Runner<'a, J, G>,
-    alloc: Global,
     next: usize,
     outputs: Vec<J::Out>,
-    held: Option<Finished<J>>,
 }
 
 /// Publishes the pieces, takes part, and waits until the round has ended. Answers how many pieces the outputs answer, from
@@ -179,24 +161,26 @@ pub(crate) fn play_ahead<'a, J: Job, G: Gate, H: Threads + Wait + Sync>(
     requires counted { (2 ≤ pieces.now.count) × (pieces.now.count ≤ 4294967295) }
     requires empty { outputs.old.items ≡ [] }
     requires room { length pieces.now.items ≤ vec_capacity outputs.old }
-    ensures answered { HasAnswered J.meets
-        pieces.now.items pieces.now.count result outputs.new }
+    ensures answered { HasAnswered J.meets pieces.now.items pieces.now.count result outputs.new }
     ensures played { PlayedRound pieces.now.count
         leader.old.post.barrier.seat.me.0 leader.new.post.barrier.seat.me.0 }
     ensures tables { leader.new.post.tables ≡ leader.old.post.tables }
 {
     let signals = runner.signals.another();
-    let work = AheadWork {
+    let others = TrayWork {
         trays,
-        pieces,
         runner,
         alloc,
-        next: 0,
-        outputs: mem::replace(outputs, Vec::new(alloc)),
         held: None,
     };
+    let work = AheadWork {
+        others,
+        pieces,
+        next: 0,
+        outputs: mem::replace(outputs, Vec::new(alloc)),
+    };
     let work = leader.lead(rt, signals, pieces.task(false), work);
-    trays.bring_back(rt, pieces.count(), work.held);
+    trays.bring_back(rt, pieces.count(), work.others.held);
     *outputs = work.outputs;
     work.next
 }
@@ -230,7 +214,7 @@ impl<'t, 'p, 'r, 'a, J: Job, G: Gate> Work<Bare> for AheadWork<'t, 'p, 'r, 'a, J
 
     ghost keeps = { λ v x w y. w.pieces ≡ v.pieces };
 
-    // The next piece runs where it lies. Another is held until one more is taken.
+    // The next piece runs where it lies.
     fn run<H: Threads + Wait + Sync>(
         &mut self,
         rt: &H,
@@ -239,21 +223,14 @@ impl<'t, 'p, 'r, 'a, J: Job, G: Gate> Work<Bare> for AheadWork<'t, 'p, 'r, 'a, J
         claimed: Claimed,
     ) -> u64 {
         let number = claimed.number() as usize;
-        let (alloc, pieces) = (self.alloc, self.pieces);
-        if number == self.next && number < pieces.count() {
-            run_next(rt, alloc, self.runner, pieces, number, &mut self.outputs);
-            self.next = number + 1;
-            let finished: Finished<J> = Finished::empty(alloc, number);
-            party.round.finish(seat, claimed, &finished)
-        } else {
-            let (count, held) = (pieces.count(), self.held.take());
-            let finished = self
-                .trays
-                .run_piece(rt, alloc, self.runner, count, held, number);
-            let before = party.round.finish(seat, claimed, &finished);
-            self.held = Some(finished);
-            before
+        if number != self.next || number >= self.pieces.count() {
+            return self.others.run(rt, party, seat, claimed);
         }
+        let (alloc, runner) = (self.others.alloc, &mut *self.others.runner);
+        run_next(rt, alloc, runner, self.pieces, number, &mut self.outputs);
+        self.next = number + 1;
+        let finished: Finished<J> = Finished::empty(alloc, number);
+        party.round.finish(seat, claimed, &finished)
     }
 
     ghost keeps_same = { λ w x y on same. refl };

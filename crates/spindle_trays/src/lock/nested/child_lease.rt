@@ -54,7 +54,9 @@ impl<'a, N: Drop> ChildLease<'a, N> {
     /// Closes the places that nobody took, once the lock's leader has told its helpers to end.
     pub(crate) fn close<T: Leads>(self, dismissed: Dismissed<T>) -> Closed<'a, T, N> {
         let ChildLease { offered, slot } = self;
-        dismissed.close(offered, slot)
+        let Dismissed { leader } = dismissed;
+        drop(offered.close());
+        Closed { leader, slot }
     }
 }
 
@@ -160,17 +162,6 @@ impl<T: Leads> Dismissed<T> {
     fn new<H: Wait>(rt: &H, mut leader: T) -> Dismissed<T> {
         leader.dismiss(rt);
         Dismissed { leader }
-    }
-
-    /// Closes the places at the slot in which the lock stands.
-    pub(crate) fn close<'a, N>(
-        self,
-        offered: OpenPlaces<'a>,
-        slot: &'a AtomicArc<Child<N>>,
-    ) -> Closed<'a, T, N> {
-        let Dismissed { leader } = self;
-        drop(offered.close());
-        Closed { leader, slot }
     }
 }
 

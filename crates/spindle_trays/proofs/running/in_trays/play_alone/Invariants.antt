@@ -1,5 +1,5 @@
 -- The pieces before this one are answered.
-use Rattle.spindle_trays.specs.Ahead.{HasAnswered}
+use Rattle.spindle_trays.specs.PieceRuns.{HasAnswered}
 use Rattle.spindle_trays.proofs.running.in_trays.play_alone.Given as goal
 
 abbrev pub invariant-loop-number : goal.invariant-loop-number

@@ -1,9 +1,8 @@
 use Rattle.std.proofs.lemmas.Grind.{common_steps}
 -- The rest of a tray's run ends where the next one begins.
 use Rattle.std.proofs.Common.{◌≡◌, ℕ, ◌+◌, ◌-◌, ◌/◌, ◌<◌, arith, subst}
-use Rattle.std.specs.List.{AllZip}
 use Rattle.spindle_trays.proofs.Addresses.{run_ends}
-use Rattle.spindle_trays.specs.PieceRuns.{items_before}
+use Rattle.spindle_trays.specs.PieceRuns.{HasAnswered}
 use Rattle.spindle_trays.proofs.pieces.trays.Trays.move_outputs.Goals as goal
 use Rattle.spindle_trays.proofs.pieces.trays.Trays.move_outputs.Goals.{then-done-each+in_ok-gather, else-done-each}
 
@@ -14,24 +13,15 @@ gather-requires-clause-numbers g c =
 
 pub loop-thread-preserved : goal.loop-thread-preserved
 loop-thread-preserved g c =
-    let p = c.args.pieces.now in let M = g.J.Job.meets in let i = c.loop-thread.invariant in
-    let there : c.loop-thread.thread < c.len-threads.result = omega (arith, c.loop-thread-test.true) in
-    let ends = run_ends c.count.result c.len-threads.result c.loop-thread.thread (omega (arith, there)) there in
+    let p = c.args.pieces.now in let i = c.loop-thread.invariant in
     elim c.if-done-each.branch [
-      | then-done-each+in_ok-gather w ↦ record {
-        begun = omega (arith, w.next-is);
-        within = omega (arith, w.next-is, ends);
-        before = let to : c.loop-thread.next + (c.count.result / c.len-threads.result - c.min-done.result) ≡ c.if-done-each.next =
-            omega (arith, w.next-is, w.if-done-each.true, i.begun) in
-            rw w.outputs-is (subst (λ (n : ℕ). AllZip M (items_before p.items p.count n) w.gather.new.outputs.items) to w.in_ok-gather.ensures.answers);
-        room = rw w.outputs-is w.gather.ensures.room;
-      }
-      | else-done-each w ↦ record {
-        begun = omega (arith, w.next-is, w.if-done-each.false, i.begun);
-        within = rw w.next-is i.within;
-        before = rw (w.next-is, w.outputs-is) i.before;
-        room = rw w.outputs-is i.room;
-      }
+      | then-done-each+in_ok-gather w ↦ (
+        omega (arith, w.next-is),
+        let to : c.loop-thread.next + (c.count.result / c.len-threads.result - c.min-done.result) ≡ c.if-done-each.next =
+            omega (arith, w.next-is, w.if-done-each.true, i.0) in
+            rw w.outputs-is (subst (λ (n : ℕ). HasAnswered g.J.Job.meets p.items p.count n w.gather.new.outputs) to w.in_ok-gather.ensures.answers),
+      )
+      | else-done-each w ↦ (omega (arith, w.next-is, w.if-done-each.false, i.0), rw (w.next-is, w.outputs-is) i.1)
     ]
 
 pub returns-clause-answers : goal.returns-clause-answers

@@ -11,7 +11,7 @@ pub loop-place-init : goal.loop-place-init
 loop-place-init g c = noted_at _ _ _ _ _ _ (omega arith) c.loop-thread.invariant
 
 pub loop-place-preserved : goal.loop-place-preserved
-loop-place-preserved g c = noted_at _ _ _ _ _ _ (omega arith) c.tally.ensures.noted
+loop-place-preserved g c = noted_at _ _ _ _ _ _ (omega arith) c.note.ensures.noted
 
 pub loop-thread-preserved : goal.loop-thread-preserved
 loop-thread-preserved g c = noted_at _ _ _ _ _ _ (next_run _ _ _ c.loop-place-test.false c.loop-place.auto.place-end) c.loop-place.invariant
@@ -20,16 +20,16 @@ pub loop-thread-2-init : goal.loop-thread-2-init
 loop-thread-2-init g c = noted_at _ _ _ _ _ _ (all_runs _ _ _ c.loop-thread-test.false c.loop-thread.auto.thread-end) c.loop-thread.invariant
 
 pub loop-thread-2-preserved : goal.loop-thread-2-preserved
-loop-thread-2-preserved g c = noted_at _ _ _ _ _ _ (omega arith) c.tally-in-loop-thread-2.ensures.noted
+loop-thread-2-preserved g c = noted_at _ _ _ _ _ _ (omega arith) c.note-in-loop-thread-2.ensures.noted
 
-pub tally-requires-clause-next : goal.tally-requires-clause-next
-tally-requires-clause-next g c =
+pub note-requires-clause-next : goal.note-requires-clause-next
+note-requires-clause-next g c =
     let there : c.loop-thread.thread < c.len-threads.result = c.loop-thread-test.true in
     let ends = run_ends c.count-count.result c.len-threads.result c.loop-thread.thread (omega (arith, there)) there in
     omega (arith, ends, c.loop-place-test.true, c.count-count.ensures.number)
 
-pub tally-requires-in-loop-thread-2-clause-next : goal.tally-requires-in-loop-thread-2-clause-next
-tally-requires-in-loop-thread-2-clause-next g c =
+pub note-requires-in-loop-thread-2-clause-next : goal.note-requires-in-loop-thread-2-clause-next
+note-requires-in-loop-thread-2-clause-next g c =
     omega (arith, rest_within c.count-count.result c.len-threads.result c.loop-thread-2.thread c.loop-thread-2-test.true, c.count-count.ensures.number)
 
 pub returns : goal.returns
