@@ -41,7 +41,7 @@ pub use Rattle.spindle_rounds.specs.RoundTrails
 pub use Rattle.spindle_rounds.specs.RoundViews
 pub use Rattle.spindle_rounds.specs.Seating
 pub use Rattle.spindle_rounds.specs.Seats
-pub use Rattle.spindle_rounds.specs.Stances
+pub use Rattle.spindle_rounds.specs.DetachedParties
 pub use Rattle.spindle_rounds.specs.Working
 pub use Rattle.spindle_rounds.specs.Words as TableWords
 pub use Rattle.spindle_rounds.specs.declared.round_table.view.View

@@ -1,4 +1,4 @@
--- What contracts see of the leader of a lock with slots, or in place. Its post is hidden behind a type P:
+-- What contracts see of the leader of a lock with slots, or in place. Its state is hidden behind a type P:
 -- what is known of the seat in it is told by a function of P.
 --
 -- Its rounds promise the same four things as those of a lock with trays, which Leaders of the crate spindle_trays names.
@@ -30,7 +30,7 @@ threads_of leader = leader.counts.most
 abbrev pub IsLeaderOf : {J G P I O N S : Type 0} → (P → ℕ) → (threads slots : ℕ)
     → SlotLeader J G P I O N S → Type 0
 IsLeaderOf slot_count threads slots leader = (threads_of leader ≡ threads)
-    × (slot_count leader.post ≡ slots)
+    × (slot_count leader.state ≡ slots)
 
 -- what its seat at the ledger knows, with the trail of its own steps
 abbrev pub account_of : {J G P I O N S : Type 0} → SlotLeader J G P I O N S → Account
@@ -47,7 +47,7 @@ AnnouncedRest old new = signals.AnnouncedRest (account_of old) (account_of new)
 -- what its state tells of it is as before
 abbrev pub IsAsBefore : {J G P I O N S V : Type 0} → (P → V) → (old new : SlotLeader J G P I O N S)
     → Type 0
-IsAsBefore told old new = told new.post ≡ told old.post
+IsAsBefore told old new = told new.state ≡ told old.state
 
 -- it did nothing: its seat at the round table is as before, and it made no step at the ledger
 abbrev pub DidNothing : {J G P I O N S V : Type 0} → (P → V) → (old new : SlotLeader J G P I O N S)
@@ -56,11 +56,11 @@ DidNothing view old new = IsAsBefore view old new × (account_of new ≡ account
 
 -- the slots of its lock, where this tells them of its state
 abbrev pub slots_of : {J G P I O N S : Type 0} → (P → ℕ) → SlotLeader J G P I O N S → ℕ
-slots_of slot_count leader = slot_count leader.post
+slots_of slot_count leader = slot_count leader.state
 
--- the slots of a lock whose leader has its kind of job's own post, as every caller's has
+-- the slots of a lock whose leader has its kind of job's own state, as every caller's has
 abbrev pub lock_slots : {J G K A B C I O N S : Type 0} → SlotLeader J G (LeaderState K A B C) I O N S → ℕ
-lock_slots leader = leader.post.post.share.slots
+lock_slots leader = leader.state.member.share.slots
 
 -- it leads the same lock
 abbrev pub IsSameLock : {J G P I O N S : Type 0} → (P → ℕ) → (old new : SlotLeader J G P I O N S)
@@ -84,17 +84,17 @@ WasLed {J} {G} {P} {I} {O} {N} {S} slot_count threads slots g f r =
 -- the jobs of its round over so many items, asked for in so many jobs
 abbrev pub slot_jobs : {J G P I O N S : Type 0} → (P → ℕ) → SlotLeader J G P I O N S
     → (items n_jobs : ℕ) → ℕ
-slot_jobs slot_count leader items n_jobs = min items (min n_jobs (slot_count leader.post))
+slot_jobs slot_count leader items n_jobs = min items (min n_jobs (slot_count leader.state))
 
 -- where this tells what its seat at the round table knows: it is in, and nothing is published
 abbrev pub IsBetweenRounds : {J G P I O N S V : Type 0} → (P → View V) → SlotLeader J G P I O N S
     → Type 0
-IsBetweenRounds view leader = MayFill (view leader.post)
+IsBetweenRounds view leader = MayFill (view leader.state)
 
 -- it published once, so many jobs, and that round has ended
 abbrev pub PlayedOnce : {J G P I O N S V : Type 0} → (P → View V) → (jobs : ℕ)
     → (old new : SlotLeader J G P I O N S) → Type 0
-PlayedOnce view jobs old new = PlayedRound jobs (view old.post) (view new.post)
+PlayedOnce view jobs old new = PlayedRound jobs (view old.state) (view new.state)
 
 -- the lock goes on: it leads the same lock, and may run the next round
 abbrev pub GoesOn : {J G P I O N S V : Type 0} → (P → View V) → (P → ℕ)

@@ -30,4 +30,4 @@ pub mod PieceRounds
 pub mod SlotLoops
 pub mod Leftovers
 pub mod SlotHands
-pub mod Stances
+pub mod DetachedParties

@@ -15,7 +15,7 @@ HaveRoom items (room ∷ rooms) = (items ≤ room) × HaveRoom items rooms
 
 -- room is ready for so many items in so many chunks, and no chunk waits
 pub record IsReady {T : Type 0} (items jobs : ℕ) (ready : List ℕ) (waiting : List (List T)) (most : ℕ) : Type 0 where
-  pub rooms : HaveRoom (items / jobs + 1) ready
+  pub buffers : HaveRoom (items / jobs + 1) ready
   pub many : length ready ≡ jobs
   pub none : waiting ≡ []
   pub places : jobs ≤ most

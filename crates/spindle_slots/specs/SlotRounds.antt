@@ -15,7 +15,7 @@ use Rattle.spindle_rounds.specs.SlotLoops.{HoldsEach, IsEmpty}
 use Rattle.spindle_rounds.specs.SlotSteps.{TakenOut}
 use Rattle.spindle_rounds.specs.Working.{IsIdle}
 use Rattle.spindle_threads.specs.declared.tables.Tables.{Tables}
-use Rattle.spindle_threads.specs.Posts.{IsAt, party_view}
+use Rattle.spindle_threads.specs.Members.{IsAt, party_view}
 
 -- the leader of these tables between two rounds, by what its seat knows: all their slots are out
 pub record LeadsAt {T P A : Type 0} (tables : Tables T (SlotState P A) P)

@@ -1,5 +1,5 @@
 //! Rounds whose pieces stand in the slots of the round table: how items become pieces in slots and their answers outputs, what a
-//! thread does with a piece, and the posts from which a leader plays such rounds, over lists and in place. It opens no lock.
+//! thread does with a piece, and the states by which a leader plays such rounds, over lists and in place. It opens no lock.
 //!
 //! Users stand on `spindle`, which opens locks with slots over this, and gives out what they name of it.
 #![tactic(auto)]

@@ -2,7 +2,7 @@
 use Rattle.std.proofs.Common.{◌≡◌, ◌+◌, ap, sym, subst, refl, ◌∙◌, false}
 use Rattle.atomic_table.specs.declared.shared.Seat.{Seat}
 use Rattle.spindle_threads.specs.declared.tables.Tables.{Tables}
-use Rattle.spindle_threads.specs.Posts.{IsAt, IsOut}
+use Rattle.spindle_threads.specs.Members.{IsAt, IsOut}
 use Rattle.spindle_threads.specs.declared.member.Member.{Member}
 use Rattle.spindle_rounds.specs.Working.{IsIdle}
 use Rattle.atomic_table.specs.Table.{Me}
@@ -90,7 +90,7 @@ module _ {T S N : Type 0} where
   next_unpublished a c next = ap (λ (k : Known). k.unpublished)
       (moved_known (Inside (round_of a.seat.me.0.standing + 1)) (unknown a.seat.me.0.leader false) a.seat.me c.seat.me next)
 
-  -- a post stands at the barrier of its tables
+  -- a member stands at the barrier of its tables
   pub post_at : (p : Member T S N) → IsAt p.tables.now p.barrier
   post_at p = (
     (

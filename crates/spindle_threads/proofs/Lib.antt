@@ -1,5 +1,5 @@
 -- The lemmas of this crate.
-mod Benches
+mod SpareSeats
 mod Helpers
 pub mod Leaving
 mod Waits

@@ -10,5 +10,5 @@ account_of signals = signals.seat.me.0
 
 -- the same seat at the same ledger
 abbrev pub IsSameThread : (old new : Signals) → Type 0
-IsSameThread old new = (new.ledger ≡ old.ledger) × (new.slots ≡ old.slots)
+IsSameThread old new = (new.ledger ≡ old.ledger) × (new.child_slots ≡ old.child_slots)
     × IsSameSeat old.seat new.seat

@@ -1,12 +1,12 @@
 -- What a helper that waits is told, and where it is after a round.
 use Rattle.std.specs.Prelude.{◌≡◌, ℕ, false}
 use Rattle.atomic_table.specs.declared.shared.Seat.{Seat}
-use Rattle.spindle_threads.specs.declared.member.Whereabouts.{Whereabouts}
-use Rattle.spindle_threads.specs.declared.member.Whereabouts.TheVariants.{In, Out}
+use Rattle.spindle_threads.specs.declared.member.HelperStatus.{HelperStatus}
+use Rattle.spindle_threads.specs.declared.member.HelperStatus.TheVariants.{In, Out}
 use Rattle.spindle_threads.specs.declared.tables.Tables.{Tables}
 use Rattle.spindle_threads.specs.declared.helper_waits.News.{News}
 use Rattle.spindle_threads.specs.declared.helper_waits.News.TheVariants.{Exit, Round, Requests}
-use Rattle.spindle_threads.specs.Posts.{IsOut, party_view}
+use Rattle.spindle_threads.specs.Members.{IsOut, party_view}
 use Rattle.spindle_rounds.specs.declared.round_table.view.View.{View}
 use Rattle.spindle_rounds.specs.declared.barrier.Barrier.{Barrier}
 use Rattle.spindle_rounds.specs.declared.barrier.waiting.ExitStatus.{ExitStatus}
@@ -23,14 +23,14 @@ IsNews v (Round task) = OnTask task.jobs task.may_stop v
 IsNews v Requests = Unit {0}
 
 -- a helper after a round: a member, under its number, or out of the barrier
-abbrev pub IsHelperAt : {T S N : Type 0} → Tables T S N → (thread : ℕ) → Whereabouts T S N → Type 0
-IsHelperAt tables thread (In post) = (post.tables.now ≡ tables) × (post.thread ≡ thread)
-    × ((party_view post.barrier).leader ≡ false)
+abbrev pub IsHelperAt : {T S N : Type 0} → Tables T S N → (thread : ℕ) → HelperStatus T S N → Type 0
+IsHelperAt tables thread (In member) = (member.tables.now ≡ tables) × (member.thread ≡ thread)
+    × ((party_view member.barrier).leader ≡ false)
 IsHelperAt tables thread (Out seat) = IsOut tables seat × (seat.me.0.leader ≡ false)
 
 -- its seat
-abbrev pub seat_of : {T S N : Type 0} → Whereabouts T S N → Seat S (View N)
-seat_of (In post) = post.barrier.seat
+abbrev pub seat_of : {T S N : Type 0} → HelperStatus T S N → Seat S (View N)
+seat_of (In member) = member.barrier.seat
 seat_of (Out seat) = seat
 
 -- a member that has waited for its round's end:

@@ -1,13 +1,13 @@
 -- The definitions that contracts of this crate cite.
 pub mod ThreadCounts
 pub mod Opening
-pub mod Posts
+pub mod Members
 pub mod Signals
 pub mod Accounts
 pub mod Helpers
 pub mod Waits
 pub mod SlotMembers
-pub mod Benches
+pub mod SpareSeats
 -- Those of the crates below that its public clauses name.
 pub use Rattle.spindle_parts.specs.Ledger
 pub use Rattle.spindle_parts.specs.LedgerSeats

@@ -6,15 +6,15 @@ use Rattle.spindle_parts.specs.declared.words.TheConstants.{EXIT, REST}
 use Rattle.spindle_parts.specs.Ledger.{place_word}
 use Rattle.spindle_parts.specs.LedgerSteps.{loading, announcing, subtracting, TookBy}
 
--- one load of a notice, which found this
+-- one load of a word of the ledger, which found this
 abbrev pub Read : (word found : ℕ) → (old new : Account) → Type 0
 Read word found old new = new ≡ loading word found old
 
--- one load of the notice that the helpers end, with this answer
+-- one load of the flag that the helpers end, with this answer
 abbrev pub ReadExit : (announced : Bool) → (old new : Account) → Type 0
 ReadExit announced old new = Read EXIT (if announced then 1 else 0) old new
 
--- one load of the notice that idle threads rest, with this answer
+-- one load of the flag that idle threads rest, with this answer
 abbrev pub ReadRest : (announced : Bool) → (old new : Account) → Type 0
 ReadRest announced old new = Read REST (if announced then 1 else 0) old new
 
@@ -27,7 +27,7 @@ abbrev pub AnnouncedRest : (old new : Account) → Type 0
 AnnouncedRest old new = new ≡ announcing REST 1 old
 
 -- idle threads are to make their turns again:
--- the notice was read as 0, or it was read and then 0 stored
+-- the flag was read as 0, or it was read and then 0 stored
 abbrev pub EndedRest : (old new : Account) → Type 0
 EndedRest old new =
     Read REST 0 old new ⊎ (new ≡ announcing REST 0 (loading REST 1 old))

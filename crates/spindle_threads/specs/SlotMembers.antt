@@ -11,7 +11,7 @@ use Rattle.spindle_rounds.specs.SlotHands.{AllOut}
 use Rattle.spindle_rounds.specs.SlotSteps.{numbered}
 use Rattle.spindle_rounds.specs.Working.{IsIdle}
 use Rattle.spindle_threads.specs.declared.tables.Tables.{Tables}
-use Rattle.spindle_threads.specs.Posts.{IsSized}
+use Rattle.spindle_threads.specs.Members.{IsSized}
 
 -- so many empty slots, in their order
 abbrev pub empty_slots : {P A : Type 0} → ℕ → List (ℕ × SlotState P A)

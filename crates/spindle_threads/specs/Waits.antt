@@ -7,7 +7,7 @@ use Rattle.spindle_threads.specs.declared.helper_waits.News.{News}
 use Rattle.spindle_threads.specs.declared.helper_waits.News.TheVariants.{Exit, Round, Requests}
 use Rattle.spindle_threads.specs.declared.tables.Tables.{Tables}
 use Rattle.spindle_threads.specs.Signals.{Read, ReadExit, ReadRest}
-use Rattle.spindle_threads.specs.Posts.{LookedForTask}
+use Rattle.spindle_threads.specs.Members.{LookedForTask}
 use Rattle.spindle_rounds.specs.declared.barrier.Barrier.{Barrier}
 use Rattle.spindle_rounds.specs.declared.barrier.steps.Arrival.TheVariants as arrival
 use Rattle.spindle_rounds.specs.declared.barrier.waiting.ExitStatus.{ExitStatus}
@@ -45,7 +45,7 @@ module _ {T S N : Type 0} where
       × (new ≡ old))
 
 module _ {N : Type 0} where
-  -- turns without news, the newest first, by what each read of the notice of rest:
+  -- turns without news, the newest first, by what each read of the flag of rest:
   -- no exit, nothing published, no requests
   abbrev pub FoundNoNews : (patience : ℕ) → List Bool → (old new : Account)
       → (v w : View N) → Type 0

@@ -3,14 +3,14 @@
 ghost use Rattle.std.specs.Prelude.{◌≡◌, ◌<◌, false};
 ghost use Rattle.spindle_parts.specs.ThreadNumbers.{IsSeatOf, IsSameSeat as IsSameNumberSeat};
 ghost use Rattle.spindle_parts.specs.declared.numbers.plays.Holding.TheVariants.{Nothing, Has};
-ghost use Rattle.spindle_threads.specs.Posts.{party_view};
+ghost use Rattle.spindle_threads.specs.Members.{party_view};
 ghost use Rattle.spindle_threads.specs.Accounts.{account_of};
 ghost use Rattle.spindle_threads.specs.Helpers.{IsHelperAt, IsNews, seat_of};
 ghost use Rattle.spindle_threads.specs.Waits.{WaitedForNews, patience_of};
 ghost use Rattle.spindle_rounds.specs.RoundConditions.{IsDone};
 ghost use Rattle.spindle_rounds.specs.Seating.{IsSameSeat};
 
-use crate::member::{Member, Whereabouts};
+use crate::member::{Member, HelperStatus};
 use crate::publish_and_end::end_or_leave;
 use crate::signals::Signals;
 use spindle_parts::numbers;
@@ -53,23 +53,25 @@ pub enum News {
 /// Waits for a round, for requests, or for the announcement of exit.
 pub fn await_news<'a, D: SlotContents, H: Wait>(
     rt: &H,
-    post: &mut Member<'a, D>,
+    member: &mut Member<'a, D>,
     signals: &mut Signals<'a>,
 ) -> News
-    ensures news { IsNews (party_view post.new.barrier) result }
-    ensures turns { WaitedForNews (patience_of post.old.tables.now) result
+    ensures news { IsNews (party_view member.new.barrier) result }
+    ensures turns { WaitedForNews (patience_of member.old.tables.now) result
         (account_of signals.old) (account_of signals.new)
-        (party_view post.old.barrier) (party_view post.new.barrier) }
-    ensures post { (post.new.tables ≡ post.old.tables) × (post.new.thread ≡ post.old.thread) }
-    ensures leader { (party_view post.new.barrier).leader ≡ (party_view post.old.barrier).leader }
-    ensures seat { IsSameSeat post.old.barrier.seat post.new.barrier.seat }
+        (party_view member.old.barrier) (party_view member.new.barrier) }
+    ensures member { (member.new.tables ≡ member.old.tables)
+        × (member.new.thread ≡ member.old.thread) }
+    ensures leader { (party_view member.new.barrier).leader
+        ≡ (party_view member.old.barrier).leader }
+    ensures seat { IsSameSeat member.old.barrier.seat member.new.barrier.seat }
 {
-    let mut idle = post.tables.sleep.idle_until_news();
+    let mut idle = member.tables.sleep.idle_until_news();
     for _ in rt.forever() {
         if signals.is_exit_announced() {
             return News::Exit;
         }
-        if let Some(task) = post.task() {
+        if let Some(task) = member.task() {
             return News::Round(task);
         }
         if signals.requests_if(idle.looks_at_requests()) > 0 {
@@ -83,24 +85,24 @@ pub fn await_news<'a, D: SlotContents, H: Wait>(
 /// Waits until the round has ended, or leaves where nested locks ask for helpers.
 pub fn end_part<'a, D: SlotContents, H: Wait>(
     rt: &H,
-    post: Member<'a, D>,
+    member: Member<'a, D>,
     signals: &mut Signals<'_>,
-) -> Whereabouts<'a, D>
-    requires helper { (party_view post.barrier).leader ≡ false }
-    requires done { IsDone (party_view post.barrier) }
-    ensures at { IsHelperAt post.entry.tables.now post.entry.thread result }
-    ensures seat { IsSameSeat post.entry.barrier.seat (seat_of result) }
+) -> HelperStatus<'a, D>
+    requires helper { (party_view member.barrier).leader ≡ false }
+    requires done { IsDone (party_view member.barrier) }
+    ensures at { IsHelperAt member.entry.tables.now member.entry.thread result }
+    ensures seat { IsSameSeat member.entry.barrier.seat (seat_of result) }
 {
     let Member {
         tables,
         barrier,
         thread,
-    } = post;
+    } = member;
     match end_or_leave(rt, tables, barrier, signals) {
         ExitStatus::Exit(seat) => {
             tables.present.go();
-            Whereabouts::Out(seat)
+            HelperStatus::Out(seat)
         }
-        ExitStatus::Remain(barrier) => Whereabouts::In(Member::new(tables, barrier, thread)),
+        ExitStatus::Remain(barrier) => HelperStatus::In(Member::new(tables, barrier, thread)),
     }
 }

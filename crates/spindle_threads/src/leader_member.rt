@@ -1,6 +1,6 @@
-//! The leader's post: it publishes rounds, and works in them.
+//! The leader as a member of its lock's barrier: it publishes rounds, and works in them.
 ghost use Rattle.std.specs.Prelude.{◌≡◌, ◌↔◌, ◌≤◌, ℕ, Bool, true, length};
-ghost use Rattle.spindle_threads.specs.Posts.{LastPublished, party_view};
+ghost use Rattle.spindle_threads.specs.Members.{LastPublished, party_view};
 ghost use Rattle.spindle_threads.specs.SlotMembers.{StandsAt};
 ghost use Rattle.spindle_rounds.specs.Leftovers.{AreUnbegun, HasMoment, IsMarked, IsFoundLeft};
 ghost use Rattle.spindle_rounds.specs.RoundSlots.{bare};
@@ -18,36 +18,36 @@ use spindle_rounds::round_table::slots::{Bare, SlotContents};
 use std::sync::Wait;
 use std::thread::Threads;
 
-/// The post of a lock's leader, whose thread number is 0.
+/// The membership of a lock's leader, whose thread number is 0.
 #[derive(Drop)]
 pub struct LeaderMember<'a, D: SlotContents> {
-    /// Its post as a thread of the lock.
-    pub post: Member<'a, D>,
-    ghost leads: { (party_view post.barrier).leader ≡ true },
-    ghost first: { post.thread ≡ 0 },
+    /// Its membership as a thread of the lock.
+    pub member: Member<'a, D>,
+    ghost leads: { (party_view member.barrier).leader ≡ true },
+    ghost first: { member.thread ≡ 0 },
 }
 
 impl<'a, D: SlotContents> LeaderMember<'a, D> {
-    /// The post of a party whose seat is the leader's.
-    pub fn new(post: Member<'a, D>) -> LeaderMember<'a, D>
-        requires leader { (party_view post.barrier).leader ≡ true }
-        requires thread { post.thread ≡ 0 }
-        ensures { result.post ≡ post.entry }
+    /// The membership of a party whose seat is the leader's.
+    pub fn new(member: Member<'a, D>) -> LeaderMember<'a, D>
+        requires leader { (party_view member.barrier).leader ≡ true }
+        requires thread { member.thread ≡ 0 }
+        ensures { result.member ≡ member.entry }
     {
-        LeaderMember { post }
+        LeaderMember { member }
     }
 
     /// What the leader keeps of its own, to come back to its barrier with.
     pub fn part(self) -> DetachedParty<D>
-        ensures stands { StandsAt self.entry.post.tables.now result }
-        ensures seat { result.seat ≡ self.entry.post.barrier.seat }
+        ensures stands { StandsAt self.entry.member.tables.now result }
+        ensures seat { result.seat ≡ self.entry.member.barrier.seat }
     {
-        let LeaderMember { post } = self;
+        let LeaderMember { member } = self;
         let Member {
             tables: _,
             barrier,
             thread: _,
-        } = post;
+        } = member;
         barrier.part()
     }
 }
@@ -65,23 +65,23 @@ impl<'a> LeaderMember<'a, Bare> {
         requires holds { (hands : _) → W.holds work hands }
         ensures holds { (hands : _) × W.holds result hands }
         ensures keeps { HasKept (λ v w. W.keeps work v result w)
-            (party_view self.old.post.barrier) (party_view self.new.post.barrier) }
+            (party_view self.old.member.barrier) (party_view self.new.member.barrier) }
         ensures played { PlayedRoundOf task.jobs task.may_stop
-            (party_view self.old.post.barrier) (party_view self.new.post.barrier) }
-        ensures last { LastPublished (round_of (party_view self.old.post.barrier).standing)
-            task.jobs task.may_stop (party_view self.new.post.barrier) }
-        ensures tables { self.new.post.tables ≡ self.old.post.tables }
+            (party_view self.old.member.barrier) (party_view self.new.member.barrier) }
+        ensures last { LastPublished (round_of (party_view self.old.member.barrier).standing)
+            task.jobs task.may_stop (party_view self.new.member.barrier) }
+        ensures tables { self.new.member.tables ≡ self.old.member.tables }
     {
-        let post = &mut self.post;
-        let tables = post.tables;
-        publish(rt, tables, &mut post.barrier, &mut signals, task);
+        let member = &mut self.member;
+        let tables = member.tables;
+        publish(rt, tables, &mut member.barrier, &mut signals, task);
         let claimer = Claimer {
             round: &tables.round,
             thread: 0,
             task,
         };
-        let work = claimer.work(rt, post.barrier.seat(), work);
-        end_round(rt, tables, &mut post.barrier);
+        let work = claimer.work(rt, member.barrier.seat(), work);
+        end_round(rt, tables, &mut member.barrier);
         work
     }
 
@@ -90,20 +90,21 @@ impl<'a> LeaderMember<'a, Bare> {
     pub fn mark_left(&mut self, marks: &mut Vec<bool>)
         requires unmarked { (k : ℕ) → IsMarked marks.old.items k → ⊥ }
         ensures count { length marks.new.items ≡ length marks.old.items }
-        ensures left { let tables = self.old.post.tables.now in (k : ℕ) → IsMarked marks.new.items k
-            ↔ IsFoundLeft (party_view self.new.post.barrier) tables.counts.threads
+        ensures left { let tables = self.old.member.tables.now in (k : ℕ)
+            → IsMarked marks.new.items k
+            ↔ IsFoundLeft (party_view self.new.member.barrier) tables.counts.threads
             (length marks.old.items) k }
         ensures unbegun { let n = length marks.old.items in (q : ℕ) (may_stop : Bool)
-            → LastPublished q n may_stop (party_view self.old.post.barrier)
-            → AreUnbegun bare q n (party_view self.new.post.barrier) (IsMarked marks.new.items) }
-        ensures standing { (party_view self.new.post.barrier).standing
-            ≡ (party_view self.old.post.barrier).standing }
-        ensures deeds { deeds_of (party_view self.new.post.barrier).trail
-            ≡ deeds_of (party_view self.old.post.barrier).trail }
-        ensures moment { HasMoment bare (party_view self.new.post.barrier) }
-        ensures tables { self.new.post.tables ≡ self.old.post.tables }
+            → LastPublished q n may_stop (party_view self.old.member.barrier)
+            → AreUnbegun bare q n (party_view self.new.member.barrier) (IsMarked marks.new.items) }
+        ensures standing { (party_view self.new.member.barrier).standing
+            ≡ (party_view self.old.member.barrier).standing }
+        ensures deeds { deeds_of (party_view self.new.member.barrier).trail
+            ≡ deeds_of (party_view self.old.member.barrier).trail }
+        ensures moment { HasMoment bare (party_view self.new.member.barrier) }
+        ensures tables { self.new.member.tables ≡ self.old.member.tables }
     {
-        let post = &mut self.post;
-        post.tables.round.mark_left(post.barrier.seat(), marks);
+        let member = &mut self.member;
+        member.tables.round.mark_left(member.barrier.seat(), marks);
     }
 }

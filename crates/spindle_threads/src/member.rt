@@ -1,10 +1,10 @@
-//! A thread's post at the barrier of its lock: between rounds it stands inside, with no job claimed.
+//! A thread's membership at the barrier of its lock: between rounds it stands inside, with no job claimed.
 ghost use Rattle.std.specs.Prelude.{◌≡◌, ℕ, ◌<◌, ◌%◌, false, true, IfSome};
 ghost use Rattle.spindle_rounds.specs.declared.round_table.view.Standing.TheVariants.{Inside};
 ghost use Rattle.spindle_rounds.specs.RoundConditions.{IsDone};
 ghost use Rattle.spindle_rounds.specs.RoundSteps.{round_of};
 ghost use Rattle.spindle_rounds.specs.Working.{OnTask, IsIdle};
-ghost use Rattle.spindle_threads.specs.Posts.{IsAt, IsOut, IsSized, LookedForTask, party_view};
+ghost use Rattle.spindle_threads.specs.Members.{IsAt, IsOut, IsSized, LookedForTask, party_view};
 ghost use Rattle.spindle_rounds.specs.Seating.{IsSeatAt, IsSameSeat, IsSameTable};
 
 use crate::tables::Tables;
@@ -39,7 +39,7 @@ pub struct Member<'a, D: SlotContents> {
 
 /// Where a helper is after a round.
 #[derive(Drop)]
-pub enum Whereabouts<'a, D: SlotContents> {
+pub enum HelperStatus<'a, D: SlotContents> {
     /// In the barrier.
     In(Member<'a, D>),
     /// Out of the barrier, since nested locks ask for helpers.
@@ -47,7 +47,7 @@ pub enum Whereabouts<'a, D: SlotContents> {
 }
 
 impl<'a, D: SlotContents> Member<'a, D> {
-    /// The post of a party that is inside its round.
+    /// The membership of a party that is inside its round.
     pub fn new(tables: &'a Tables<D>, barrier: Barrier<'a, D>, thread: usize) -> Member<'a, D>
         requires at { IsAt tables.now barrier }
         requires inside { (q : ℕ) × ((party_view barrier).standing ≡ Inside q) }
@@ -100,7 +100,7 @@ impl<'a, D: SlotContents> Member<'a, D> {
         ensures task { IfSome result (λ task.
             OnTask task.jobs task.may_stop (party_view self.new.barrier)) }
         ensures looked { LookedForTask result (party_view self.old.barrier) (party_view self.new.barrier) }
-        ensures post { (self.new.tables ≡ self.old.tables) × (self.new.thread ≡ self.old.thread) }
+        ensures member { (self.new.tables ≡ self.old.tables) × (self.new.thread ≡ self.old.thread) }
         ensures leader { (party_view self.new.barrier).leader ≡ (party_view self.old.barrier).leader }
         ensures seat { IsSameSeat self.old.barrier.seat self.new.barrier.seat }
     {
@@ -122,7 +122,7 @@ impl<'a, D: SlotContents> Member<'a, D> {
         requires task { OnTask task.jobs task.may_stop (party_view self.old.barrier) }
         requires helper { (party_view self.old.barrier).leader ≡ false }
         requires holds { (hands : _) → W.holds work hands }
-        ensures post { (self.new.tables ≡ self.old.tables) × (self.new.thread ≡ self.old.thread) }
+        ensures member { (self.new.tables ≡ self.old.tables) × (self.new.thread ≡ self.old.thread) }
         ensures leader { (party_view self.new.barrier).leader ≡ false }
         ensures done { IsDone (party_view self.new.barrier) }
         ensures seat { IsSameSeat self.old.barrier.seat self.new.barrier.seat }

@@ -17,7 +17,7 @@ ghost use Rattle.spindle_threads.specs.Accounts.{account_of, IsSameThread};
 ghost use Rattle.spindle_threads.specs.Helpers.{EndedOrLeft};
 ghost use Rattle.spindle_threads.specs.Waits.{ArrivedAndWaited, WaitedForEnd, patience_of};
 ghost use Rattle.spindle_threads.specs.Signals.{EndedRest};
-ghost use Rattle.spindle_threads.specs.Posts.{IsAt, LastPublished, party_view};
+ghost use Rattle.spindle_threads.specs.Members.{IsAt, LastPublished, party_view};
 
 use crate::signals::Signals;
 use crate::tables::Tables;

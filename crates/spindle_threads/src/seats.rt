@@ -2,10 +2,10 @@
 //! helpers to come.
 ghost use Rattle.std.specs.Prelude.{◌≡◌, [], true, IfOk, OnErr, IsErrOf, ◌+◌, IfSome, All, vec_len};
 ghost use Rattle.spindle_threads.specs.Opening.{AreSeatsAt};
-ghost use Rattle.spindle_threads.specs.Posts.{AreOut};
+ghost use Rattle.spindle_threads.specs.Members.{AreOut};
 ghost use Rattle.spindle_rounds.specs.RoundSteps.{outsider};
 ghost use Rattle.spindle_rounds.specs.Seating.{IsSeatAt};
-ghost use Rattle.spindle_threads.specs.Benches.{IsBenchAt};
+ghost use Rattle.spindle_threads.specs.SpareSeats.{AreSpareSeatsAt};
 
 use crate::limits::Idling;
 use crate::sleep::Sleep;
@@ -97,7 +97,7 @@ impl<D: SlotContents> Tables<D> {
         Ok((tables, seats))
     }
 
-    /// A bench for each helper, with seats that are split from the leader's.
+    /// Spare seats for each helper, split from the leader's.
     pub fn spare_seats(
         &self,
         alloc: Global,
@@ -105,7 +105,8 @@ impl<D: SlotContents> Tables<D> {
     ) -> Result<Vec<SpareSeats<D>>, AllocError>
         requires { AreSeatsAt self.now seats.old }
         ensures seats { AreSeatsAt self.now seats.new }
-        ensures spare_seats { IfOk result (λ spare_seats. All (IsBenchAt self.now) spare_seats.items) }
+        ensures spare_seats { IfOk result (λ spare_seats.
+            All (AreSpareSeatsAt self.now) spare_seats.items) }
         ensures helpers { IfOk result (λ spare_seats. vec_len spare_seats + 1 ≡ self.now.counts.threads) }
     {
         let mut spare_seats = Vec::with_capacity(alloc, self.counts.threads())?;
@@ -131,11 +132,11 @@ pub struct SpareSeats<D: SlotContents> {
 }
 
 impl<D: SlotContents> SpareSeats<D> {
-    // A bench with the seats of one helper, split from the leader's.
+    // The spare seats of one helper, split from the leader's.
     fn new(tables: &Tables<D>, seats: &mut Seats<D>) -> SpareSeats<D>
         requires { AreSeatsAt tables.now seats.old }
         ensures seats { AreSeatsAt tables.now seats.new }
-        ensures spare { IsBenchAt tables.now result }
+        ensures spare { AreSpareSeatsAt tables.now result }
     {
         let round = tables.round.init().new_seat(&mut seats.round);
         let numbers = tables.numbers.new_seat(&mut seats.numbers);
@@ -162,7 +163,7 @@ impl<D: SlotContents> SpareSeats<D> {
 
     /// A helper with the seats, if they rest here.
     pub fn take<'a>(&self, tables: &'a Tables<D>) -> Option<HelperSeats<'a, D>>
-        requires { IsBenchAt tables.now self.now }
+        requires { AreSpareSeatsAt tables.now self.now }
         ensures { IfSome result (λ helper_seats. helper_seats.tables.now ≡ tables.now) }
     {
         let (_, round) = self.round.take(EMPTY);
@@ -181,7 +182,7 @@ impl<D: SlotContents> SpareSeats<D> {
 
     /// Fresh seats, split from those that a helper used, rest here for another.
     pub fn give(&self, tables: &Tables<D>, mut seats: Seats<D>)
-        requires spare { IsBenchAt tables.now self.now }
+        requires spare { AreSpareSeatsAt tables.now self.now }
         requires seats { AreOut tables.now seats }
     {
         let round = tables.round.init().new_seat(&mut seats.round);

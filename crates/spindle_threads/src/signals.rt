@@ -19,9 +19,9 @@ use spindle_rounds::round_table::slots::SlotContents;
 pub struct Signals<'a> {
     ledger: &'a Requests,
     seat: Seat,
-    slots: usize,
+    child_slots: usize,
     ghost seated: { IsSeatOf ledger.now seat },
-    ghost counted: { slot_count ledger.now ≡ slots },
+    ghost counted: { slot_count ledger.now ≡ child_slots },
     ghost no_credit: { seat.me.0.credit ≡ 0 },
 }
 
@@ -29,16 +29,16 @@ impl<'a> Signals<'a> {
     ghost use Rattle.spindle_threads.specs.Accounts.{account_of, IsSameThread};
 
     /// The signals, by a seat of their ledger, which has so many child slots.
-    pub fn new(ledger: &'a Requests, seat: Seat, slots: usize) -> Signals<'a>
+    pub fn new(ledger: &'a Requests, seat: Seat, child_slots: usize) -> Signals<'a>
         requires seated { IsSeatOf ledger.now seat }
-        requires counted { slot_count ledger.now ≡ slots }
+        requires counted { slot_count ledger.now ≡ child_slots }
         requires no_credit { seat.me.0.credit ≡ 0 }
         ensures { result.seat ≡ seat }
     {
         Signals {
             ledger,
             seat,
-            slots,
+            child_slots,
         }
     }
 
@@ -51,15 +51,15 @@ impl<'a> Signals<'a> {
         Signals {
             ledger: self.ledger,
             seat,
-            slots: self.slots,
+            child_slots: self.child_slots,
         }
     }
 
     /// How many child slots there are.
-    pub fn slots(&self) -> usize
-        ensures { result ≡ self.now.slots }
+    pub fn child_slots(&self) -> usize
+        ensures { result ≡ self.now.child_slots }
     {
-        self.slots
+        self.child_slots
     }
 
     /// How many helpers nested locks ask for.
@@ -81,7 +81,7 @@ impl<'a> Signals<'a> {
 
     /// Tries once to take a place of the slot, and lowers requests by it.
     pub fn takes_place(&mut self, slot: usize) -> bool
-        requires slot { slot < self.old.slots }
+        requires slot { slot < self.old.child_slots }
         ensures took { TookPlace slot result (account_of self.old) (account_of self.new) }
         ensures same { IsSameThread self.old self.new }
     {
@@ -98,11 +98,11 @@ impl<'a> Signals<'a> {
     pub fn ask<D: SlotContents>(&mut self, tables: &Tables<D>) -> HelperRequest<'a>
         ensures old { self.new.seat.me ≡ self.old.seat.me }
         ensures same { IsSameThread self.old self.new }
-        ensures slots { result.slots ≡ self.old.slots }
+        ensures child_slots { result.child_slots ≡ self.old.child_slots }
         ensures helpers { 1 + result.helpers ≡ tables.now.counts.threads }
     {
         let seat = self.ledger.new_seat(&mut self.seat);
-        HelperRequest::new(self.ledger, seat, self.slots, tables.counts.threads() - 1)
+        HelperRequest::new(self.ledger, seat, self.child_slots, tables.counts.threads() - 1)
     }
 
     /// Whether the helpers are to end.
@@ -148,10 +148,10 @@ impl<'a> Signals<'a> {
 pub struct HelperRequest<'a> {
     ledger: &'a Requests,
     seat: Seat,
-    slots: usize,
+    child_slots: usize,
     helpers: usize,
     ghost seated: { IsSeatOf ledger.now seat },
-    ghost counted: { slot_count ledger.now ≡ slots },
+    ghost counted: { slot_count ledger.now ≡ child_slots },
     ghost credit: { seat.me.0.credit ≡ helpers },
 }
 
@@ -170,34 +170,34 @@ impl<'a> HelperRequest<'a> {
     pub fn new(
         ledger: &'a Requests,
         mut seat: Seat,
-        slots: usize,
+        child_slots: usize,
         helpers: usize,
     ) -> HelperRequest<'a>
         requires seated { IsSeatOf ledger.now seat }
-        requires counted { slot_count ledger.now ≡ slots }
+        requires counted { slot_count ledger.now ≡ child_slots }
         requires no_credit { seat.me.0.credit ≡ 0 }
-        ensures slots { result.slots ≡ slots }
+        ensures child_slots { result.child_slots ≡ child_slots }
         ensures helpers { result.helpers ≡ helpers }
     {
         ledger.ask(&mut seat, helpers);
         HelperRequest {
             ledger,
             seat,
-            slots,
+            child_slots,
             helpers,
         }
     }
 
     /// How many child slots there are.
-    pub fn slots(&self) -> usize
-        ensures { result ≡ self.now.slots }
+    pub fn child_slots(&self) -> usize
+        ensures { result ≡ self.now.child_slots }
     {
-        self.slots
+        self.child_slots
     }
 
     /// Opens the places at the slot.
     pub fn install(self, slot: usize) -> OpenPlaces<'a>
-        requires slot { slot < self.slots }
+        requires slot { slot < self.child_slots }
         ensures slot { result.slot ≡ slot }
         ensures same { IsSameSeat self.entry.seat result.seat }
         ensures step { (found : ℕ) × (result.seat.me.0
@@ -206,7 +206,7 @@ impl<'a> HelperRequest<'a> {
         let HelperRequest {
             ledger,
             mut seat,
-            slots: _,
+            child_slots: _,
             helpers,
         } = self;
         ledger.install(&mut seat, slot, helpers);
@@ -223,7 +223,7 @@ impl<'a> HelperRequest<'a> {
         let HelperRequest {
             ledger,
             mut seat,
-            slots: _,
+            child_slots: _,
             helpers,
         } = self;
         ledger.subtract(&mut seat, helpers);

@@ -8,9 +8,9 @@ use Rattle.spindle_rounds.specs.Leftovers.{IsMarked}
 use Rattle.spindle_parts.specs.Words.{most_jobs}
 use Rattle.spindle_trays.specs.Rounds.{job_count}
 use Rattle.spindle_rounds.specs.RoundConditions.{MayFill}
-use Rattle.spindle_threads.specs.Posts.{party_view}
+use Rattle.spindle_threads.specs.Members.{party_view}
 use Rattle.spindle_threads.specs.declared.leader_member.LeaderMember.{LeaderMember}
-use Rattle.spindle_trays.specs.Leaders.{hands_of, AreLeft, IsTryRefusal, MadeNoStep, PlayedAs, PlayedOnce, StoppedNothing, TriedOnce}
+use Rattle.spindle_trays.specs.Leaders.{workers_of, AreLeft, IsTryRefusal, MadeNoStep, PlayedAs, PlayedOnce, StoppedNothing, TriedOnce}
 use Rattle.spindle_trays.specs.Reports.{first_astray, is_marked, least_lost, IsNoted}
 use Rattle.spindle_trays.proofs.Reports.{least_first, least_within}
 use Rattle.spindle_trays.specs.declared.lock.leader.Leader.{Leader}
@@ -70,9 +70,9 @@ played_alone {T = T} jobs old new (Err x) some played direct memory =
 pub played_two : {P Q R : Type 0} (jobs : ℕ) → 2 ≤ jobs → P → (2 ≤ jobs → P) × (jobs ≤ 1 → Q) × (jobs ≡ 0 → R)
 played_two jobs two played = ((λ _. played), (λ one. absurd (omega (arith, two, one))), λ none. absurd (omega (arith, two, none)))
 
--- a leader at its post is between two rounds
-pub between : {T S N : Type 0} (p : LeaderMember T S N) → MayFill (party_view p.post.barrier)
-between p = ((_, p.post.inside), p.post.role ∙ p.leads)
+-- a leader, as a member, is between two rounds
+pub between : {T S N : Type 0} (p : LeaderMember T S N) → MayFill (party_view p.member.barrier)
+between p = ((_, p.member.inside), p.member.role ∙ p.leads)
 
 -- marks that are all false mark nothing
 pub none_marked : (n k : ℕ) → is_marked (replicate n false) k ≡ true → ⊥
@@ -97,17 +97,18 @@ module _ {J G L I O N S A B : Type 0} (Meets : A → B → Type 0) (Fails : B �
   lost_of_two : 2 ≤ n
   lost_of_two = two_or_more n left tally k whole (λ one. bare one k) (least_within Meets Fails items n left tally k noted is).1
 
-  pub lost_refusal : (hands_of old ≤ 1 → (tally.lost ≡ None) × (2 ≤ n → tally.failed ≡ false → StoppedNothing old new)) → (2 ≤ n → AreLeft n (IsMarked left) old new)
+  pub lost_refusal : (workers_of old ≤ 1 → (tally.lost ≡ None) × (2 ≤ n → tally.failed ≡ false → StoppedNothing old new))
+      → (2 ≤ n → AreLeft n (IsMarked left) old new)
       → IsTryRefusal Meets Fails items n old new (Lost k)
   lost_refusal alone tried = let within = least_within Meets Fails items n left tally k noted is in let two = lost_of_two in (
     within.0,
     two,
     left,
     tried two,
-    (λ hands. (within.1 (alone hands).0, (alone hands).1 two (none_failed tally.failed tally.lost (first_astray tally) k (alone hands).0 is))),
+    (λ workers. (within.1 (alone workers).0, (alone workers).1 two (none_failed tally.failed tally.lost (first_astray tally) k (alone workers).0 is))),
     ⊎_elim inl (λ z. inr (
-      ⊎_elim (λ (many : 1 < hands_of old). many)
-          (λ (few : hands_of old ≤ 1). absurd (let e = sym (alone few).0 ∙ z.0 in cc)) (cases_lt 1 (hands_of old)),
+      ⊎_elim (λ (many : 1 < workers_of old). many)
+          (λ (few : workers_of old ≤ 1). absurd (let e = sym (alone few).0 ∙ z.0 in cc)) (cases_lt 1 (workers_of old)),
       tally.ran.items,
       noted.answers,
       z.1,

@@ -7,4 +7,4 @@ pub mod PieceRuns
 pub mod Reports
 pub mod ChunkRounds
 mod LeaderRounds
-pub mod Rooms
+pub mod Buffers

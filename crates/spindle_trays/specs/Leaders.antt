@@ -6,9 +6,9 @@
 -- answer, report  AllZip, IsReport         an Ok answers the items: an output for each, in their order; or a report of what ran and what was skipped
 -- refused         IsRefusal, IsTryRefusal  a refusal is Memory or Lost(k), and never of a round of no jobs
 -- trail           PlayedAs, TriedAs        the leader did nothing, or published once, that many jobs, in a round that has ended: by what came of it
--- goes_on         GoesOn                   it leads the same lock, with as many threads and hands, and may run the next round
+-- goes_on         GoesOn                   it leads the same lock, with as many threads and workers, and may run the next round
 --
--- Leaders of locks with slots and in place have the same words, said of their posts in SlotLeaders of the crate spindle. The calls of a job's
+-- Leaders of locks with slots and in place have the same words, said of their states in SlotLeaders of the crate spindle. The calls of a job's
 -- context have answer and refused: the locks that they open are closed when they return, and the context is the same.
 use denote.Ref.{MutBor}
 use Rattle.std.specs.Fn.{Once, FnOnceReturnsAtMut}
@@ -34,33 +34,33 @@ use Rattle.spindle_rounds.specs.Working.{PlayedRound, PlayedRoundOf}
 use Rattle.spindle_rounds.specs.RoundViews.{StopsAsBefore}
 
 -- the threads of the lock in whose barrier a leader stands
-abbrev pub crew_of : {T S N : Type 0} → LeaderMember T S N → ThreadCounts
-crew_of post = post.post.tables.now.counts
+abbrev pub counts_of : {T S N : Type 0} → LeaderMember T S N → ThreadCounts
+counts_of leader_member = leader_member.member.tables.now.counts
 
 -- the threads of its lock
 abbrev pub threads_of : {J G L I O N S : Type 0} → Leader J G L I O N S → ℕ
-threads_of leader = (crew_of leader.post).most
+threads_of leader = (counts_of leader.leader_member).most
 
 -- how many of them may take part in its rounds: 1 where it works alone
-abbrev pub hands_of : {J G L I O N S : Type 0} → Leader J G L I O N S → ℕ
-hands_of leader = (crew_of leader.post).threads
+abbrev pub workers_of : {J G L I O N S : Type 0} → Leader J G L I O N S → ℕ
+workers_of leader = (counts_of leader.leader_member).threads
 
 -- it leads the same lock
 abbrev pub IsSameLock : {J G L I O N S : Type 0} → (old new : Leader J G L I O N S) → Type 0
-IsSameLock old new = (threads_of new ≡ threads_of old) × (hands_of new ≡ hands_of old)
+IsSameLock old new = (threads_of new ≡ threads_of old) × (workers_of new ≡ workers_of old)
 
 -- f was called with a leader of a lock of so many threads,
 -- of which so many may take part, and returned r
-unfoldable pub WasLed : {J G L I O N S F R : Type 0} → (threads hands : ℕ)
+unfoldable pub WasLed : {J G L I O N S F R : Type 0} → (threads workers : ℕ)
     → Once F (MutBor (Leader J G L I O N S) × Unit {0}) (R × (MutBor (Leader J G L I O N S) × Unit {0}))
     → F → R → Type 0
-WasLed {J} {G} {L} {I} {O} {N} {S} threads hands g f r =
+WasLed {J} {G} {L} {I} {O} {N} {S} threads workers g f r =
     (old : Leader J G L I O N S) × (new : Leader J G L I O N S)
-    × (threads_of old ≡ threads) × (hands_of old ≡ hands) × FnOnceReturnsAtMut g f old r new
+    × (threads_of old ≡ threads) × (workers_of old ≡ workers) × FnOnceReturnsAtMut g f old r new
 
 -- what its seat at the round table knows, with the trail of its own steps
 abbrev pub view_of : {J G L I O N S : Type 0} → Leader J G L I O N S → View (Unit {0})
-view_of leader = leader.post.post.barrier.seat.me.0
+view_of leader = leader.leader_member.member.barrier.seat.me.0
 
 -- what its seat at the ledger knows, with the trail of its own steps
 abbrev pub account_of : {J G L I O N S : Type 0} → Leader J G L I O N S → Account
@@ -113,7 +113,7 @@ TriedOnce jobs old new = PlayedRoundOf jobs true (view_of old) (view_of new)
 -- and at every moment until its next step nobody has begun them, and all others have begun
 abbrev pub AreLeft : {J G L I O N S : Type 0}
     → (jobs : ℕ) → (ℕ → Type 0) → (old new : Leader J G L I O N S) → Type 0
-AreLeft jobs P old new = ((k : ℕ) → P k ↔ IsFoundLeft (view_of new) (hands_of old) jobs k)
+AreLeft jobs P old new = ((k : ℕ) → P k ↔ IsFoundLeft (view_of new) (workers_of old) jobs k)
     × AreUnbegun bare (round_of (view_of old).standing) jobs (view_of new) P
 
 -- and what that round has left is marked
@@ -138,7 +138,7 @@ pub record IsTallied {J G L I O N S A B : Type 0} (Meets : A → B → Type 0) (
   pub direct : n ≤ 1 → MadeNoStep old new × ((k : ℕ) → IsMarked marks k → ⊥)
   pub noted : IsNoted Meets Fails items n marks n tally
   pub one : n ≤ 1 → tally.lost ≡ None
-  pub alone : hands_of old ≤ 1 → (tally.lost ≡ None) × (2 ≤ n → tally.failed ≡ false → StoppedNothing old new)
+  pub alone : workers_of old ≤ 1 → (tally.lost ≡ None) × (2 ≤ n → tally.failed ≡ false → StoppedNothing old new)
 
 -- why a round over these items that may stop may be refused, but never one of no jobs: for want of memory, or since k is the least
 -- number of a piece that is lost. Of what the round has left none is less, unless another thread takes part and a piece that ran has failed;
@@ -148,9 +148,9 @@ abbrev pub IsTryRefusal : {J G L I O N S A B : Type 0} → (A → B → Type 0) 
 IsTryRefusal Meets Fails items jobs old new Memory = 0 < jobs
 IsTryRefusal {B = B} Meets Fails items jobs old new (Lost k) = (k < jobs) × (2 ≤ jobs)
     × (left : List Bool) × AreLeft jobs (IsMarked left) old new
-    × (hands_of old ≤ 1 → IsMarked left k × StoppedNothing old new)
+    × (workers_of old ≤ 1 → IsMarked left k × StoppedNothing old new)
     × (((j : ℕ) → j < k → IsMarked left j → ⊥)
-    ⊎ ((2 ≤ hands_of old) × (ran : List (ℕ × Vec B Global))
+    ⊎ ((2 ≤ workers_of old) × (ran : List (ℕ × Vec B Global))
     × All (IsAnswered Meets items jobs) ran × Any (HasFailed Fails) ran))
 
 -- the same of a round that may stop

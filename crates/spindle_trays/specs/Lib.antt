@@ -17,9 +17,9 @@ pub use Rattle.spindle_rounds.specs.RoundConditions
 pub use Rattle.spindle_rounds.specs.Seating
 pub use Rattle.spindle_rounds.specs.Working
 pub use Rattle.spindle_threads.specs.Accounts
-pub use Rattle.spindle_threads.specs.Benches
+pub use Rattle.spindle_threads.specs.SpareSeats
 pub use Rattle.spindle_threads.specs.ThreadCounts
 pub use Rattle.spindle_threads.specs.Helpers
 pub use Rattle.spindle_threads.specs.Signals
 pub use Rattle.spindle_threads.specs.Opening
-pub use Rattle.spindle_threads.specs.Posts
+pub use Rattle.spindle_threads.specs.Members

@@ -45,9 +45,9 @@ RunsDirectly site job = let most = site.counts.most in (now : ℕ) × (0 < now) 
 
 -- how many threads may take part in the rounds of a lock of so many that a job opens, at most:
 -- where there are no child slots, its leader alone
-abbrev pub nested_hands : (has_slots : Bool) → (threads : ℕ) → ℕ
-nested_hands has_slots threads = if has_slots then threads else 1
+abbrev pub nested_workers : (has_slots : Bool) → (threads : ℕ) → ℕ
+nested_workers has_slots threads = if has_slots then threads else 1
 
 -- the same where the job opens it for a round of so many jobs
-abbrev pub hands_in : ContextView → (jobs : ℕ) → ℕ
-hands_in cx jobs = nested_hands cx.has_slots (lock_threads cx.pool jobs)
+abbrev pub workers_in : ContextView → (jobs : ℕ) → ℕ
+workers_in cx jobs = nested_workers cx.has_slots (lock_threads cx.pool jobs)

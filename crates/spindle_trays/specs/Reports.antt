@@ -101,11 +101,11 @@ pub record IsNoted {A B : Type 0} (Meets : A → B → Type 0) (Fails : B → Ty
 abbrev pub IsOfNone : {B : Type 0} → Report B → Type 0
 IsOfNone report = (report.ran.items ≡ []) × (report.skipped.items ≡ [])
 
--- the room of a piece with these items is empty and large enough, or holds their answers
-abbrev pub IsRoomFor : {A B Z : Type 0} → (A → B → Type 0) → List A → Vec B Z → Type 0
-IsRoomFor Meets items room = ((room.items ≡ []) × (length items ≤ vec_capacity room)) ⊎ AllZip Meets items room.items
+-- the buffer of a piece with these items is empty and large enough, or holds their answers
+abbrev pub IsBufferFor : {A B Z : Type 0} → (A → B → Type 0) → List A → Vec B Z → Type 0
+IsBufferFor Meets items buffer = ((buffer.items ≡ []) × (length items ≤ vec_capacity buffer)) ⊎ AllZip Meets items buffer.items
 
--- a room for each of n pieces, of which those from a number on are as they have to be
-abbrev pub AreRooms : {A B Z : Type 0} → (A → B → Type 0) → List A → (n from : ℕ) → List (Vec B Z) → Type 0
-AreRooms {B = B} {Z = Z} Meets items n from rooms = (length rooms ≡ n)
-    × ((k : ℕ) (d : Vec B Z) → from ≤ k → k < n → IsRoomFor Meets (piece_at items n k) (slice_index_or rooms k d))
+-- a buffer for each of n pieces, of which those from a number on are as they have to be
+abbrev pub AreBuffers : {A B Z : Type 0} → (A → B → Type 0) → List A → (n from : ℕ) → List (Vec B Z) → Type 0
+AreBuffers {B = B} {Z = Z} Meets items n from buffers = (length buffers ≡ n)
+    × ((k : ℕ) (d : Vec B Z) → from ≤ k → k < n → IsBufferFor Meets (piece_at items n k) (slice_index_or buffers k d))

@@ -7,10 +7,10 @@ use Rattle.spindle_rounds.specs.RoundShown.{Deed, Stopped}
 use Rattle.spindle_rounds.specs.RoundSteps.{round_of}
 use Rattle.spindle_rounds.specs.RoundViews.{StopsAsBefore, stops_of}
 
--- the room of the number f has a failure, if f is the number of one of the rooms from a number on
+-- the buffer of the number f has a failure, if f is the number of one of the buffers from a number on
 abbrev pub HasFailedIn : {B Z : Type 0} → (B → Type 0) → (from f : ℕ) → List (Vec B Z) → Type 0
-HasFailedIn {B = B} {Z = Z} Fails from f rooms = from ≤ f → f < length rooms
-    → (d : Vec B Z) → Any Fails (slice_index_or rooms f d).items
+HasFailedIn {B = B} {Z = Z} Fails from f buffers = from ≤ f → f < length buffers
+    → (d : Vec B Z) → Any Fails (slice_index_or buffers f d).items
 
 module _ {N : Type 0} where
   -- the last stop was by the number f, in the round of the first view

@@ -2,7 +2,7 @@
 ghost use Rattle.std.specs.Prelude.{◌≡◌, ◌<◌, ◌≤◌, IfOk, OnErr, IsErrOf};
 ghost use Rattle.std.specs.Fn.{FnOnceReturnsAtMut};
 ghost use Rattle.spindle_threads.specs.ThreadCounts.{lock_threads};
-ghost use Rattle.spindle_trays.specs.Leaders.{hands_of, threads_of as tray_threads};
+ghost use Rattle.spindle_trays.specs.Leaders.{workers_of, threads_of as tray_threads};
 ghost use Rattle.spindle.specs.SlotLeaders.{TakesLeaders, IsLeaderOf};
 
 use crate::lock::nested::UnderPieces;
@@ -52,7 +52,7 @@ impl<J> LockOf<J> {
         requires callable { F.IsAlwaysCallable f }
         ensures promise { IfOk result (λ r. (old : _) × (new : _)
             × (tray_threads old ≡ lock_threads pool.now.threads max_threads)
-            × (hands_of old ≡ tray_threads old)
+            × (workers_of old ≡ tray_threads old)
             × FnOnceReturnsAtMut F.FnOnce f old r new) }
         ensures memory { OnErr result (IsErrOf result Fault.Memory) }
     {

@@ -3,7 +3,7 @@
 ghost use Rattle.std.specs.Prelude.{◌≡◌, ◌<◌, ◌≤◌, IfOk, OnErr, IsErrOf, All};
 ghost use Rattle.std.specs.Arc.{arc_value};
 ghost use Rattle.std.specs.Fn.{FnOnceReturnsAtMut};
-ghost use Rattle.spindle_threads.specs.Benches.{IsBenchAt};
+ghost use Rattle.spindle_threads.specs.SpareSeats.{AreSpareSeatsAt};
 ghost use Rattle.spindle_threads.specs.Opening.{AreSeatsAt};
 ghost use Rattle.spindle_threads.specs.ThreadCounts.{lock_threads};
 ghost use Rattle.spindle.specs.SlotLeaders.{TakesLeaders, IsLeaderOf, WasLed};
@@ -61,15 +61,15 @@ pub(crate) fn open<
 {
     let site = site_of(cx);
     let counts = site.counts.nested(max_threads);
-    if let Some(places) = child_slots_for(cx, counts) {
-        let (child, entry) = NestedSlots::open(alloc, counts, site.sleep.idling(), slots)?;
-        let asked = cx.asks.ask(&*child.shared.tables);
-        if let Some(lease) = ChildLease::take(rt, places, &child, asked, site.sleep) {
-            return Ok(lead(rt, child, entry, Some(lease), f));
+    if let Some(child_slots) = child_slots_for(cx, counts) {
+        let (child, leader_start) = NestedSlots::open(alloc, counts, site.sleep.idling(), slots)?;
+        let request = cx.asks.ask(&*child.shared.tables);
+        if let Some(lease) = ChildLease::take(rt, child_slots, &child, request, site.sleep) {
+            return Ok(lead(rt, child, leader_start, Some(lease), f));
         }
     }
-    let (child, entry) = NestedSlots::open(alloc, counts.alone(), site.sleep.idling(), slots)?;
-    Ok(lead(rt, child, entry, None::<ChildLease<'_, ()>>, f))
+    let (child, leader_start) = NestedSlots::open(alloc, counts.alone(), site.sleep.idling(), slots)?;
+    Ok(lead(rt, child, leader_start, None::<ChildLease<'_, ()>>, f))
 }
 
 // Runs f with the leader of a lock that nobody leads yet, and closes the lock, if it stands in a child slot.
@@ -84,19 +84,20 @@ fn lead<
 >(
     rt: &H,
     child: Child<NestedSlots<SlotWorkspace<J>, A>>,
-    entry: NestedLeaderStart<A>,
+    leader_start: NestedLeaderStart<A>,
     lease: Option<ChildLease<'_, N>>,
     f: F,
 ) -> R
-    requires share { arc_value entry.share.tables ≡ arc_value (arc_value child.shared).tables }
-    requires callable { TakesLeaders J.OpensSlots.slot_count entry.share.slots F.FnOnce f }
-    ensures { let counts = (arc_value entry.share.tables).counts in
-        WasLed J.OpensSlots.slot_count counts.most entry.share.slots F.FnOnce f result }
+    requires share { arc_value leader_start.share.tables
+        ≡ arc_value (arc_value child.shared).tables }
+    requires callable { TakesLeaders J.OpensSlots.slot_count leader_start.share.slots F.FnOnce f }
+    ensures { let counts = (arc_value leader_start.share.tables).counts in
+        WasLed J.OpensSlots.slot_count counts.most leader_start.share.slots F.FnOnce f result }
 {
-    let NestedLeaderStart { share, seats } = entry;
+    let NestedLeaderStart { share, seats } = leader_start;
     let (tables, workspace, gate) = (&*child.shared.tables, &child.shared.workspace, NoGate);
-    let (post, runner) = join_as_leader::<_, J, _, _, H>(rt, tables, workspace, &gate, seats);
-    let mut leader_seats = Some(LeaderSeats::new(share, post));
+    let (member, runner) = join_as_leader::<_, J, _, _, H>(rt, tables, workspace, &gate, seats);
+    let mut leader_seats = Some(LeaderSeats::new(share, member));
     let mut leader = SlotLeader::new(runner, J::settle(&mut leader_seats));
     let answer = f(&mut leader);
     if let Some(lease) = lease {
@@ -123,7 +124,7 @@ pub struct NestedSlots<W, A: PieceKind> {
     tables: Arc<Tables<PieceSlots<A>>>,
     workspace: W,
     spare_seats: Vec<SpareSeats<PieceSlots<A>>>,
-    ghost seated: { All (IsBenchAt (arc_value tables)) spare_seats.items },
+    ghost seated: { All (AreSpareSeatsAt (arc_value tables)) spare_seats.items },
 }
 
 /// What the leader of a nested lock with slots comes with: a share of the lock's tables, and its seats there.
@@ -150,7 +151,7 @@ impl<J: Job, A: RunsPieces<J>> NestedSlots<SlotWorkspace<J>, A> {
         ensures idling { IfOk result (λ t. (arc_value t.1.share.tables).sleep.idling ≡ idling) }
         ensures memory { OnErr result (IsErrOf result Fault.Memory) }
     {
-        let children = <J::Inner as Nest>::make(alloc, counts.threads())?;
+        let child_slots = <J::Inner as Nest>::make(alloc, counts.threads())?;
         let (tables, mut seats) = make::<J, A>(alloc, counts, idling, slots)?;
         let spare_seats = tables.spare_seats(alloc, &mut seats)?;
         let tables = Arc::new(alloc, tables)?;
@@ -161,12 +162,12 @@ impl<J: Job, A: RunsPieces<J>> NestedSlots<SlotWorkspace<J>, A> {
         };
         let nested = NestedSlots {
             tables,
-            workspace: SlotWorkspace::new(children),
+            workspace: SlotWorkspace::new(child_slots),
             spare_seats,
         };
         let shared = Arc::new(alloc, nested)?;
-        let entry = NestedLeaderStart { share, seats };
-        Ok((Child { shared }, entry))
+        let leader_start = NestedLeaderStart { share, seats };
+        Ok((Child { shared }, leader_start))
     }
 }
 
@@ -197,9 +198,9 @@ impl<J: Job, A: RunsPieces<J>> Nest for UnderPieces<J, A> {
     fn serve<H: Threads + Wait + Sync>(
         rt: &H,
         alloc: Global,
-        slots: &Vec<ChildSlot<NestedSlots<SlotWorkspace<J>, A>>>,
+        child_slots: &Vec<ChildSlot<NestedSlots<SlotWorkspace<J>, A>>>,
         signals: &mut Signals<'_>,
     ) {
-        serve_slots(rt, alloc, slots, signals);
+        serve_slots(rt, alloc, child_slots, signals);
     }
 }

@@ -1,7 +1,7 @@
 //! One round in a lock of its own, with trays or in place: for callers who run one list, and no other in the same lock.
 ghost use Rattle.std.specs.Prelude.{◌≡◌, ◌<◌, ◌≤◌, IfOk, IfErr, OnErr, IsErrOf, vec_len};
 ghost use Rattle.std.specs.List.{AllZip};
-ghost use Rattle.spindle_trays.specs.Leaders.{hands_of};
+ghost use Rattle.spindle_trays.specs.Leaders.{workers_of};
 ghost use Rattle.spindle_threads.specs.ThreadCounts.{lock_threads};
 ghost use Rattle.spindle.specs.OneRound.{asked_jobs};
 ghost use Rattle.spindle.specs.SlotLeaders.{IsForMemory};
@@ -56,7 +56,7 @@ where
             requires { 0 < jobs }
             ensures answer { IfOk result (λ outputs. AllZip J.meets items.items outputs.items) }
             ensures refused { IfErr result
-                (IsRefusal (hands_of leader.old) (job_count (vec_len items) jobs)) }
+                (IsRefusal (workers_of leader.old) (job_count (vec_len items) jobs)) }
         { leader.for_each(rt, alloc, jobs, items) },
     )?
 }

@@ -39,16 +39,16 @@ impl<'a, J: PlaysInPlace<P>, G: Gate, P> SlotLeader<'a, J, G, P> {
             self.old self.new result }
         ensures goes_on { GoesOn J.OpensSlots.view J.OpensSlots.slot_count self.old self.new }
     {
-        let slots = J::slots(&self.post);
+        let slots = J::slots(&self.state);
         if items.is_empty() {
             return Ok(());
         }
         let jobs = items.len().min(n_jobs.min(slots));
-        let (runner, post) = (&mut self.runner, &mut self.post);
+        let (runner, state) = (&mut self.runner, &mut self.state);
         if jobs == 1 {
-            return J::play_alone(rt, alloc, post, runner, items);
+            return J::play_alone(rt, alloc, state, runner, items);
         }
-        J::play_in_place(rt, alloc, post, runner, jobs, items)
+        J::play_in_place(rt, alloc, state, runner, jobs, items)
     }
 }
 

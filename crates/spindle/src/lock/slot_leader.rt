@@ -20,21 +20,21 @@ use std::sync::Wait;
 pub struct SlotLeader<'a, J: Job, G: Gate, P = SlotLeaderState<J>> {
     pub(crate) counts: ThreadCounts,
     pub(crate) runner: Runner<'a, J, G>,
-    pub(crate) post: P,
+    pub(crate) state: P,
     // What P names outlives the borrow, as a call needs by a leader whose kind of job is a parameter.
     outlives: PhantomData<&'a P>,
 }
 
 impl<'a, J: OpensSlots<P>, G: Gate, P> SlotLeader<'a, J, G, P> {
-    /// The leader of a lock, which runs jobs with this, and has this post.
-    pub(crate) fn new(runner: Runner<'a, J, G>, post: P) -> SlotLeader<'a, J, G, P>
+    /// The leader of a lock, which runs jobs with this, and has this state.
+    pub(crate) fn new(runner: Runner<'a, J, G>, state: P) -> SlotLeader<'a, J, G, P>
         ensures threads { threads_of result ≡ runner.entry.site.counts.most }
-        ensures post { result.post ≡ post }
+        ensures state { result.state ≡ state }
     {
         SlotLeader {
             counts: runner.site.counts,
             runner,
-            post,
+            state,
             outlives: PhantomData,
         }
     }
@@ -79,10 +79,10 @@ impl<'a, J: OpensSlots<P>, G: Gate, P> Leads for SlotLeader<'a, J, G, P> {
 
     fn dismiss<H: Wait>(&mut self, rt: &H) {
         self.runner.signals.announce_exit();
-        J::wake(rt, &self.post);
+        J::wake(rt, &self.state);
     }
 
     fn leave<H: Wait>(self, rt: &H) {
-        J::leave(rt, self.post);
+        J::leave(rt, self.state);
     }
 }

@@ -172,8 +172,8 @@ fn scoped<
             ensures { let counts = start.entry.tables.now.counts in
                 WasLed J.OpensSlots.slot_count counts.most share.slots F.FnOnce f result }
         {
-            let (post, runner, helpers) = start.muster::<_, J, H>(scope, rt, alloc);
-            let mut leader_seats = Some(LeaderSeats::new(share, post));
+            let (member, runner, helpers) = start.start_helpers::<_, J, H>(scope, rt, alloc);
+            let mut leader_seats = Some(LeaderSeats::new(share, member));
             let mut leader = SlotLeader::new(runner, J::settle(&mut leader_seats));
             let answer = f(&mut leader);
             leader.dismiss(rt);

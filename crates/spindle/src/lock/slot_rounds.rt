@@ -65,7 +65,7 @@ impl<'a, J: PlaysPieces<P>, G: Gate, P> SlotLeader<'a, J, G, P> {
         ensures goes_on { GoesOn J.OpensSlots.view J.OpensSlots.slot_count self.old self.new }
     {
         outputs.clear();
-        let slots = J::slots(&self.post);
+        let slots = J::slots(&self.state);
         if items.is_empty() {
             return Ok(());
         }
@@ -101,8 +101,8 @@ impl<'a, J: PlaysPieces<P>, G: Gate, P> SlotLeader<'a, J, G, P> {
         ensures left { OnErr result (IsAsBefore J.OpensSlots.view self.old self.new) }
         ensures goes_on { GoesOn J.OpensSlots.view J.OpensSlots.slot_count self.old self.new }
     {
-        let (runner, post) = (&mut self.runner, &mut self.post);
-        let played = J::play(rt, alloc, post, runner, items, outputs);
+        let (runner, state) = (&mut self.runner, &mut self.state);
+        let played = J::play(rt, alloc, state, runner, items, outputs);
         if played.is_err() {
             outputs.clear();
         }
@@ -118,7 +118,7 @@ impl<'a, J: PlaysPieces<P>, G: Gate, P> RunsRounds<J> for SlotLeader<'a, J, G, P
     ghost rests = { λ leader. IsBetweenRounds J.OpensSlots.view leader };
 
     fn max_num_threads(&self) -> usize {
-        let _slots = J::slots(&self.post);
+        let _slots = J::slots(&self.state);
         self.counts.most()
     }
 
@@ -154,7 +154,7 @@ impl<'a, J: PlaysPieces<P, In = usize>, G: Gate, P> SlotLeader<'a, J, G, P> {
         ensures trail { PlayedAs J.OpensSlots.view n_jobs self.old self.new result }
         ensures goes_on { GoesOn J.OpensSlots.view J.OpensSlots.slot_count self.old self.new }
     {
-        let _slots = J::slots(&self.post);
+        let _slots = J::slots(&self.state);
         if n_jobs == 0 {
             return Ok(Vec::new(alloc));
         }

@@ -2,7 +2,7 @@
 ghost use Rattle.std.specs.Prelude.{◌≡◌};
 ghost use Rattle.std.specs.Borrow.{sem};
 ghost use Rattle.spindle_rounds.specs.Seats.{LendsDetachedSeat};
-ghost use Rattle.spindle_rounds.specs.Stances.{IsStanceOf};
+ghost use Rattle.spindle_rounds.specs.DetachedParties.{IsSameParty};
 
 use crate::barrier::Barrier;
 use crate::round::Round;
@@ -21,7 +21,7 @@ pub struct DetachedParty<D: SlotContents> {
 impl<'a, D: SlotContents> Barrier<'a, D> {
     /// The party without its barrier.
     pub fn part(self) -> DetachedParty<D>
-        ensures { IsStanceOf self.entry result }
+        ensures { IsSameParty self.entry result }
     {
         let Barrier {
             init: _,
@@ -52,8 +52,8 @@ impl<D: SlotContents> DetachedParty<D> {
 
 impl<D: SlotContents> Round<D> {
     /// The party at the barrier of this table.
-    pub fn resume(&self, stance: DetachedParty<D>) -> Barrier<'_, D>
-        ensures party { IsStanceOf result stance }
+    pub fn resume(&self, party: DetachedParty<D>) -> Barrier<'_, D>
+        ensures party { IsSameParty result party }
         ensures barrier { result.init.now ≡ self.now.init }
     {
         let DetachedParty {
@@ -61,7 +61,7 @@ impl<D: SlotContents> Round<D> {
             sense,
             is_member,
             thread_id,
-        } = stance;
+        } = party;
         Barrier {
             init: &self.init,
             seat,

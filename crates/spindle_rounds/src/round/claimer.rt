@@ -57,12 +57,12 @@ pub trait Work<D: SlotContents> {
     fn run<H: Threads + Wait + Sync>(
         &mut self,
         rt: &H,
-        party: &Claimer<'_, D>,
+        claimer: &Claimer<'_, D>,
         seat: &mut Seat<D>,
         claimed: Claimed,
     ) -> u64
         requires sync { IsSync H.row }
-        requires at { IsAtTask party.now.round.now party.now.task seat.old }
+        requires at { IsAtTask claimer.now.round.now claimer.now.task seat.old }
         requires own { MayFinish claimed seat.old.me.0 }
         requires taken { HasTaken D.discipline (holds self.old) claimed seat.old.me }
         ensures seat { IsSameSeat seat.old seat.new }

@@ -22,10 +22,10 @@ use spindle_trays::job::nest::Nest;
 use std::alloc::Global;
 use std::sync::{Arc, Wait};
 
-/// The post of a leader whose rounds have such pieces, with what it keeps from one round to the next.
+/// The state of a leader whose rounds have such pieces, with what it keeps from one round to the next.
 #[derive(Drop)]
 pub struct LeaderState<A: Reuses> {
-    pub(crate) post: SlotMember<A>,
+    pub(crate) member: SlotMember<A>,
     pub(crate) kept: Option<A::Kept>,
 }
 
@@ -34,27 +34,27 @@ impl<J: Job, A: RunsPieces<J>> HasLeaderState<LeaderState<A>> for J {}
 impl<J: Job, A: RunsPieces<J>> OpensSlots<LeaderState<A>> for J {
     type Note = A::Piece;
 
-    ghost view = { λ post. view_in post.post.stance };
+    ghost view = { λ state. view_in state.member.party };
 
-    ghost slot_count = { λ post. post.post.share.slots };
+    ghost slot_count = { λ state. state.member.share.slots };
 
-    fn slots(post: &LeaderState<A>) -> usize {
-        post.post.slots()
+    fn slots(state: &LeaderState<A>) -> usize {
+        state.member.slots()
     }
 
-    fn wake<H: Wait>(rt: &H, post: &LeaderState<A>) {
-        post.post.share.tables.sleep.wake_for_news(rt);
+    fn wake<H: Wait>(rt: &H, state: &LeaderState<A>) {
+        state.member.share.tables.sleep.wake_for_news(rt);
     }
 
-    fn leave<H: Wait>(rt: &H, post: LeaderState<A>) {
-        post.post.leave(rt);
+    fn leave<H: Wait>(rt: &H, state: LeaderState<A>) {
+        state.member.leave(rt);
     }
 }
 
 impl<J: Job, A: RunsPieces<J>> MakesSlots<LeaderState<A>, PieceSlots<A>, SlotWorkspace<J>> for J {
     fn workspace(alloc: Global, threads: usize) -> Result<SlotWorkspace<J>, Fault> {
-        let children = <J::Inner as Nest>::make(alloc, threads)?;
-        Ok(SlotWorkspace::new(children))
+        let child_slots = <J::Inner as Nest>::make(alloc, threads)?;
+        Ok(SlotWorkspace::new(child_slots))
     }
 
     fn settle(leader_seats: &mut Option<LeaderSeats<PieceSlots<A>>>) -> LeaderState<A> {
@@ -62,7 +62,7 @@ impl<J: Job, A: RunsPieces<J>> MakesSlots<LeaderState<A>, PieceSlots<A>, SlotWor
             unreachable!()
         };
         LeaderState {
-            post: SlotMember::new(leader_seats),
+            member: SlotMember::new(leader_seats),
             kept: None,
         }
     }
@@ -81,45 +81,45 @@ pub struct SlotShare<D: SlotContents> {
 #[derive(Drop)]
 pub struct LeaderSeats<D: SlotContents> {
     pub(crate) share: SlotShare<D>,
-    pub(crate) stance: DetachedParty<D>,
-    ghost stands: { StandsAt (arc_value share.tables) stance },
-    ghost hand: { stance.seat.me.1 ≡ [] },
-    ghost board: { stance.seat.me.0.board ≡ [] },
+    pub(crate) party: DetachedParty<D>,
+    ghost stands: { StandsAt (arc_value share.tables) party },
+    ghost hand: { party.seat.me.1 ≡ [] },
+    ghost board: { party.seat.me.0.board ≡ [] },
 }
 
 impl<D: SlotContents> LeaderSeats<D> {
-    /// The leader of this post.
-    pub fn new(share: SlotShare<D>, post: LeaderMember<'_, D>) -> LeaderSeats<D>
-        requires tables { arc_value share.tables ≡ post.post.tables.now }
-        requires fresh { let seat = post.post.barrier.seat in
+    /// The leader with this membership.
+    pub fn new(share: SlotShare<D>, leader_member: LeaderMember<'_, D>) -> LeaderSeats<D>
+        requires tables { arc_value share.tables ≡ leader_member.member.tables.now }
+        requires fresh { let seat = leader_member.member.barrier.seat in
             (seat.me.1 ≡ []) × (seat.me.0.board ≡ []) }
         ensures { result.share.slots ≡ share.slots }
     {
-        let stance = post.part();
-        LeaderSeats { share, stance }
+        let party = leader_member.part();
+        LeaderSeats { share, party }
     }
 }
 
-/// The post of a leader that holds all slots between its rounds.
+/// The membership of a leader that holds all slots between its rounds.
 #[derive(Drop)]
 pub struct SlotMember<A: PieceKind> {
     pub(crate) share: SlotShare<PieceSlots<A>>,
-    pub(crate) stance: Option<DetachedParty<PieceSlots<A>>>,
-    ghost there: { IsSome stance },
-    ghost stands: { ForSome stance (λ s. StandsAt (arc_value share.tables) s) },
-    ghost holds: { ForSome stance (λ s. HoldsEmpty share.slots s) },
+    pub(crate) party: Option<DetachedParty<PieceSlots<A>>>,
+    ghost there: { IsSome party },
+    ghost stands: { ForSome party (λ s. StandsAt (arc_value share.tables) s) },
+    ghost holds: { ForSome party (λ s. HoldsEmpty share.slots s) },
 }
 
 impl<A: PieceKind> SlotMember<A> {
-    /// The post of a leader that comes: it takes the slots.
+    /// The membership of a leader that comes: it takes the slots.
     pub(crate) fn new(leader_seats: LeaderSeats<PieceSlots<A>>) -> SlotMember<A>
         ensures { result.share.slots ≡ leader_seats.share.slots }
     {
-        let LeaderSeats { share, mut stance } = leader_seats;
-        share.tables.round.hold_slots(stance.seat(), share.slots);
+        let LeaderSeats { share, mut party } = leader_seats;
+        share.tables.round.hold_slots(party.seat(), share.slots);
         SlotMember {
             share,
-            stance: Some(stance),
+            party: Some(party),
         }
     }
 
@@ -127,17 +127,17 @@ impl<A: PieceKind> SlotMember<A> {
     pub(crate) fn slots(&self) -> usize
         ensures number { result ≡ self.now.share.slots }
         ensures range { (1 ≤ result) × (result ≤ 4294967295) }
-        ensures between { MayFill (view_in self.now.stance) }
+        ensures between { MayFill (view_in self.now.party) }
     {
         self.share.slots
     }
 
-    /// Leaves the barrier. The slots go with the post.
+    /// Leaves the barrier. The slots go with the membership.
     pub(crate) fn leave<H: Wait>(self, rt: &H) {
-        let SlotMember { share, stance } = self;
-        let Some(stance) = stance else { unreachable!() };
+        let SlotMember { share, party } = self;
+        let Some(party) = party else { unreachable!() };
         let tables: &Tables<PieceSlots<A>> = &*share.tables;
-        let barrier = tables.round.resume(stance);
+        let barrier = tables.round.resume(party);
         drop(Member::new(tables, barrier, 0).leave(rt));
     }
 }

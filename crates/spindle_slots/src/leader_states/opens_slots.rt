@@ -31,16 +31,16 @@ pub trait OpensSlots<P>: Job + HasLeaderState<P> {
     ghost slot_count: { P → ℕ };
 
     /// How many slots there are.
-    fn slots(post: &P) -> usize
-        ensures number { result ≡ Self.OpensSlots.slot_count post.now }
+    fn slots(state: &P) -> usize
+        ensures number { result ≡ Self.OpensSlots.slot_count state.now }
         ensures range { (1 ≤ result) × (result ≤ 4294967295) }
-        ensures between { MayFill (Self.OpensSlots.view post.now) };
+        ensures between { MayFill (Self.OpensSlots.view state.now) };
 
     /// Wakes those who sleep until news comes: exit is announced.
-    fn wake<H: Wait>(rt: &H, post: &P);
+    fn wake<H: Wait>(rt: &H, state: &P);
 
     /// Leaves the lock's barrier.
-    fn leave<H: Wait>(rt: &H, post: P);
+    fn leave<H: Wait>(rt: &H, state: P);
 }
 
 /// How such a lock is made, where its round table has D's slots. Each kind of job has one D, `PieceSlots<PieceOf<J>>`.
@@ -49,7 +49,7 @@ pub trait MakesSlots<P, D: SlotContents, L>: OpensSlots<P> {
     fn workspace(alloc: Global, threads: usize) -> Result<L, Fault>
         ensures { OnErr result (IsErrOf result Fault.Memory) };
 
-    /// The post of a leader that has joined its barrier, and has done nothing with the slots.
+    /// The state of a leader that has joined its barrier, and has done nothing with the slots.
     fn settle(leader_seats: &mut Option<LeaderSeats<D>>) -> P
         requires { IsSome leader_seats.old }
         ensures { ForSome leader_seats.old (λ n. Self.OpensSlots.slot_count result ≡ n.share.slots) };

@@ -31,9 +31,11 @@ impl<T> Model for ChunkBuffer<T> {
 
     ghost Value = { ℕ };
 
-    ghost view = { λ room. let lists = room.lists.value in min (vec_capacity lists.todo) (vec_capacity lists.done) };
+    ghost view = { λ buffer. let lists = buffer.lists.value in
+        min (vec_capacity lists.todo) (vec_capacity lists.done) };
 
-    ghost invariant = { λ room. (room.lists.value.todo.items ≡ []) × (room.lists.value.done.items ≡ []) };
+    ghost invariant = { λ buffer. (buffer.lists.value.todo.items ≡ [])
+        × (buffer.lists.value.done.items ≡ []) };
 }
 
 /// Items that wait, with room for what becomes of them.

@@ -44,9 +44,9 @@ impl<T: Drop> ChunkBuffers<T> {
         self.put_aside();
         self.ready.reserve(jobs)?;
         for _ in 0..jobs {
-            let mut room = self.take(alloc)?;
-            room.reserve(most)?;
-            self.ready.push_reserved(room);
+            let mut buffer = self.take(alloc)?;
+            buffer.reserve(most)?;
+            self.ready.push_reserved(buffer);
         }
         Ok(())
     }
@@ -57,8 +57,8 @@ impl<T: Drop> ChunkBuffers<T> {
         ensures chunks { self.new.chunks ≡ self.old.chunks }
     {
         for _ in 0..self.ready.len() {
-            let room = self.ready.take_last();
-            self.keep(room);
+            let buffer = self.ready.take_last();
+            self.keep(buffer);
         }
     }
 
@@ -74,9 +74,9 @@ impl<T: Drop> ChunkBuffers<T> {
         let len = items.len();
         for done in 0..jobs {
             let number = jobs - 1 - done;
-            let room = self.ready.take_last();
+            let buffer = self.ready.take_last();
             let from = start(len, jobs, number);
-            self.chunks.push_reserved(room.load(items, from));
+            self.chunks.push_reserved(buffer.load(items, from));
         }
     }
 
@@ -87,34 +87,34 @@ impl<T: Drop> ChunkBuffers<T> {
         ensures chunks { self.new.chunks ≡ self.old.chunks }
     {
         match self.spare.pop() {
-            Some(room) => Ok(room),
+            Some(buffer) => Ok(buffer),
             None => ChunkBuffer::new(alloc),
         }
     }
 
-    /// Keeps the room of a chunk that was run. Where there is no memory to keep it in, it goes.
-    pub(crate) fn keep(&mut self, room: ChunkBuffer<T>)
+    /// Keeps the buffer of a chunk that was run. Where there is no memory to keep it in, it goes.
+    pub(crate) fn keep(&mut self, buffer: ChunkBuffer<T>)
         ensures ready { self.new.ready ≡ self.old.ready }
         ensures chunks { self.new.chunks ≡ self.old.chunks }
     {
-        let _ = self.spare.push(room);
+        let _ = self.spare.push(buffer);
     }
 
-    /// Keeps the room of the next chunk of a round, if there is any, ready for the chunk of that number in the next round. Where
+    /// Keeps the buffer of the next chunk of a round, if there is any, ready for the chunk of that number in the next round. Where
     /// there is no memory to keep it in, it goes.
-    pub(crate) fn keep_ready(&mut self, room: Option<ChunkBuffer<T>>) {
-        if let Some(room) = room {
-            let _ = self.ready.push(room);
+    pub(crate) fn keep_ready(&mut self, buffer: Option<ChunkBuffer<T>>) {
+        if let Some(buffer) = buffer {
+            let _ = self.ready.push(buffer);
         }
     }
 }
 
 // Whether each is room for so many items.
-fn are_enough<T>(rooms: &[ChunkBuffer<T>], items: usize) -> bool
-    ensures { result ≡ true → HaveRoom items rooms.now }
+fn are_enough<T>(buffers: &[ChunkBuffer<T>], items: usize) -> bool
+    ensures { result ≡ true → HaveRoom items buffers.now }
 {
-    for room in rooms {
-        if !room.has(items) {
+    for buffer in buffers {
+        if !buffer.has(items) {
             return false;
         }
     }

@@ -23,12 +23,12 @@ use std::alloc::{AllocError, Global};
 fn batch<T: Drop, U: Drop>(
     pieces: &list_runs::ListRuns<T>,
     number: usize,
-    room: Result<Box<Parts<T, U>>, AllocError>,
+    buffer: Result<Box<Parts<T, U>>, AllocError>,
 ) -> Result<OneOr<T, Batch<T, U>>, AllocError>
     requires { number < pieces.now.count }
     ensures { IfOk result (IsPieceOf pieces.now.items pieces.now.count number) }
 {
-    Ok(OneOr::Many(Batch::new(pieces.run(number)?, room?)?))
+    Ok(OneOr::Many(Batch::new(pieces.run(number)?, buffer?)?))
 }
 
 impl<'t, T: Drop, M: Drop, A: PieceKind<Piece = OneOr<T, M>>> SlotTables<'t, PieceSlots<A>> {
@@ -74,7 +74,7 @@ impl<'t, J: Job> SlotTables<'t, PieceSlots<PieceOf<J>>> {
         alloc: Global,
         seat: &mut Seat<PieceSlots<PieceOf<J>>>,
         pieces: &list_runs::ListRuns<J::In>,
-        rooms: &mut OutputBuffers<J::In, J::Out>,
+        buffers: &mut OutputBuffers<J::In, J::Out>,
     ) -> Result<(), Fault>
         requires seated { IsSeatAt self.now.tables.now.round.init seat.old }
         requires held { HoldsEach IsEmpty self.now.slots seat.old.me.1 }
@@ -86,11 +86,11 @@ impl<'t, J: Job> SlotTables<'t, PieceSlots<PieceOf<J>>> {
         ensures empty { OnErr result (HoldsEach IsEmpty self.now.slots seat.new.me.1) }
         ensures memory { OnErr result (IsErrOf result Fault.Memory) }
     {
-        rooms.furnish(pieces.count())?;
+        buffers.reserve(pieces.count())?;
         let round = &self.tables.round;
         for slot in 0..pieces.count() {
-            let room = rooms.take(alloc, slot);
-            let Ok(piece) = batch(pieces, slot, room) else {
+            let buffer = buffers.take(alloc, slot);
+            let Ok(piece) = batch(pieces, slot, buffer) else {
                 round.turn_slots(seat, slot, self.slots);
                 round.empty_slots(seat, self.slots);
                 return Err(Fault::Memory);
@@ -107,7 +107,7 @@ impl<'t, J: Updates> SlotTables<'t, PieceSlots<ChunkOf<J>>> {
     pub(crate) fn fill_in_place(
         &self,
         seat: &mut Seat<PieceSlots<ChunkOf<J>>>,
-        store: &mut ChunkBuffers<J::Item>,
+        buffers: &mut ChunkBuffers<J::Item>,
         jobs: usize,
         items: &mut Vec<J::Item>,
     )
@@ -115,7 +115,7 @@ impl<'t, J: Updates> SlotTables<'t, PieceSlots<ChunkOf<J>>> {
         requires held { HoldsEach IsEmpty self.now.slots seat.old.me.1 }
         requires few { (1 ≤ jobs) × (jobs ≤ self.now.slots) × (jobs ≤ vec_len items.old) }
         requires ready { jobs < vec_len items.old → IsReady (vec_len items.old) jobs
-            store.old.ready.items store.old.chunks.items (vec_capacity store.old.chunks) }
+            buffers.old.ready.items buffers.old.chunks.items (vec_capacity buffers.old.chunks) }
         ensures seat { IsSameSeat seat.old seat.new × (seat.new.me.0 ≡ seat.old.me.0) }
         ensures put { Turning IsEmpty (WaitsAs (IsPieceOf items.old.items jobs))
             self.now.slots jobs seat.new.me.1 }
@@ -126,9 +126,9 @@ impl<'t, J: Updates> SlotTables<'t, PieceSlots<ChunkOf<J>>> {
             self.fill_each(seat, items);
             return;
         }
-        store.load(items, jobs);
+        buffers.load(items, jobs);
         for slot in 0..jobs {
-            let chunk = store.chunks.take_last();
+            let chunk = buffers.chunks.take_last();
             self.tables.round.put_piece(seat, slot, OneOr::Many(chunk));
         }
     }

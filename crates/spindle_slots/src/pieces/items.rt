@@ -36,7 +36,7 @@ pub trait FillsSlots<J: Job> {
         alloc: Global,
         tables: &SlotTables<'_, pieces::PieceSlots<PieceOf<J>>>,
         seat: &mut Seat<pieces::PieceSlots<PieceOf<J>>>,
-        rooms: &mut OutputBuffers<J::In, J::Out>,
+        buffers: &mut OutputBuffers<J::In, J::Out>,
     ) -> Result<(), Fault>
         requires seated { IsSeatAt tables.now.tables.now.round.init seat.old }
         requires held { HoldsEach IsEmpty tables.now.slots seat.old.me.1 }
@@ -90,14 +90,14 @@ impl<J: Job> FillsSlots<J> for Items<J::In> {
         alloc: Global,
         tables: &SlotTables<'_, pieces::PieceSlots<PieceOf<J>>>,
         seat: &mut Seat<pieces::PieceSlots<PieceOf<J>>>,
-        rooms: &mut OutputBuffers<J::In, J::Out>,
+        buffers: &mut OutputBuffers<J::In, J::Out>,
     ) -> Result<(), Fault> {
         match self {
             Items::Each(items) => {
                 tables.fill_each(seat, items);
                 Ok(())
             }
-            Items::Runs(pieces) => tables.fill_runs(alloc, seat, pieces, rooms),
+            Items::Runs(pieces) => tables.fill_runs(alloc, seat, pieces, buffers),
         }
     }
 }
@@ -131,7 +131,7 @@ impl<J: Job<In = usize>> FillsSlots<J> for Numbers {
         _alloc: Global,
         tables: &SlotTables<'_, pieces::PieceSlots<PieceOf<J>>>,
         seat: &mut Seat<pieces::PieceSlots<PieceOf<J>>>,
-        _rooms: &mut OutputBuffers<J::In, J::Out>,
+        _buffers: &mut OutputBuffers<J::In, J::Out>,
     ) -> Result<(), Fault> {
         tables.fill_counted(seat, self.count);
         Ok(())

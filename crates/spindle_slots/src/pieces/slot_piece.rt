@@ -136,41 +136,41 @@ pub struct OutputBuffers<T, U> {
 }
 
 impl<T: Drop, U: Drop> OutputBuffers<T, U> {
-    /// The rooms of no slot. Takes no memory.
+    /// The buffers of no slot. Takes no memory.
     pub(crate) fn new(alloc: Global) -> OutputBuffers<T, U> {
         OutputBuffers {
             blocks: Vec::new(alloc),
         }
     }
 
-    /// Sees that so many slots have a place for their rooms.
-    pub(crate) fn furnish(&mut self, slots: usize) -> Result<(), AllocError> {
+    /// Sees that so many slots have a place for their buffers.
+    pub(crate) fn reserve(&mut self, slots: usize) -> Result<(), AllocError> {
         for _ in self.blocks.len()..slots {
             self.blocks.push(None)?;
         }
         Ok(())
     }
 
-    /// Takes the room of a slot, or a new one where it has none.
+    /// Takes the buffer of a slot, or a new one where it has none.
     pub(crate) fn take(
         &mut self,
         alloc: Global,
         slot: usize,
     ) -> Result<Box<Parts<T, U>>, AllocError> {
         if let Some(place) = self.blocks.get_mut(slot)
-            && let Some(room) = place.take()
+            && let Some(buffer) = place.take()
         {
-            return Ok(room);
+            return Ok(buffer);
         }
         Ok(Box::new(alloc, Parts::new(alloc))?)
     }
 
-    /// Keeps the room of a slot, where its piece had any.
-    pub(crate) fn keep(&mut self, slot: usize, room: Option<Box<Parts<T, U>>>) {
-        if room.is_some()
+    /// Keeps the buffer of a slot, where its piece had one.
+    pub(crate) fn keep(&mut self, slot: usize, buffer: Option<Box<Parts<T, U>>>) {
+        if buffer.is_some()
             && let Some(place) = self.blocks.get_mut(slot)
         {
-            *place = room;
+            *place = buffer;
         }
     }
 }

@@ -37,7 +37,7 @@ impl<'t, J: Updates> SlotTables<'t, PieceSlots<ChunkOf<J>>> {
         alloc: Global,
         barrier: &mut Barrier<'_, PieceSlots<ChunkOf<J>>>,
         runner: &mut Runner<'_, J, G>,
-        store: &mut ChunkBuffers<J::Item>,
+        buffers: &mut ChunkBuffers<J::Item>,
         jobs: usize,
         items: &mut Vec<J::Item>,
     )
@@ -45,18 +45,18 @@ impl<'t, J: Updates> SlotTables<'t, PieceSlots<ChunkOf<J>>> {
         requires counted { (2 ≤ jobs) × (jobs ≤ 4294967295) × (jobs ≤ self.now.slots)
             × (jobs ≤ vec_len items.old) }
         requires ready { jobs < vec_len items.old → IsReady (vec_len items.old) jobs
-            store.old.ready.items store.old.chunks.items (vec_capacity store.old.chunks) }
+            buffers.old.ready.items buffers.old.chunks.items (vec_capacity buffers.old.chunks) }
         ensures leads { LeadsIn self.now.tables.now barrier.new }
         ensures same { Keeps barrier.old barrier.new }
         ensures updated { AllZip J.updated items.old.items items.new.items }
         ensures played { PlayedRound jobs barrier.old.seat.me.0 barrier.new.seat.me.0 }
     {
         let round = &self.tables.round;
-        self.fill_in_place(barrier.seat(), store, jobs, items);
+        self.fill_in_place(barrier.seat(), buffers, jobs, items);
         play_held(rt, alloc, self, barrier, runner, jobs as u64);
         for slot in 0..jobs {
             let answer = round.take_answer(barrier.seat(), slot);
-            store.keep_ready(answer.unload(items));
+            buffers.keep_ready(answer.unload(items));
         }
         round.turn_slots(barrier.seat(), jobs, self.slots);
     }
@@ -135,7 +135,7 @@ fn update_each<J: Updates, H: Threads + Wait + Sync>(
     }
 }
 
-/// The post of a leader that plays rounds in place. It keeps room for chunks.
+/// The state of a leader that plays rounds in place. It keeps room for chunks.
 pub type PlaceLeaderState<J> = LeaderState<ChunkOf<J>>;
 
 /// The kinds of jobs whose leader with a state of type P plays rounds in place.
@@ -145,30 +145,30 @@ pub trait PlaysInPlace<P>: OpensSlots<P> + Updates {
     fn play_in_place<'a, G: Gate, H: Threads + Wait + Sync>(
         rt: &H,
         alloc: Global,
-        post: &mut P,
+        state: &mut P,
         runner: &mut Runner<'a, Self, G>,
         jobs: usize,
         items: &mut Vec<Self::Item>,
     ) -> Result<(), Fault>
         requires sync { IsSync H.row }
         requires jobs { (2 ≤ jobs) × (jobs ≤ vec_len items.old)
-            × (jobs ≤ Self.OpensSlots.slot_count post.old) }
+            × (jobs ≤ Self.OpensSlots.slot_count state.old) }
         ensures updated { OnOk result (AllZip Self.Updates.updated items.old.items items.new.items) }
         ensures kept { OnErr result (items.new.items ≡ items.old.items) }
         ensures memory { OnErr result (IsErrOf result Fault.Memory) }
         ensures played { OnOk result (PlayedRound jobs
-            (Self.OpensSlots.view post.old) (Self.OpensSlots.view post.new)) }
+            (Self.OpensSlots.view state.old) (Self.OpensSlots.view state.new)) }
         ensures left { OnErr result
-            (Self.OpensSlots.view post.new ≡ Self.OpensSlots.view post.old) }
-        ensures between { MayFill (Self.OpensSlots.view post.new) }
-        ensures slots { Self.OpensSlots.slot_count post.new
-            ≡ Self.OpensSlots.slot_count post.old };
+            (Self.OpensSlots.view state.new ≡ Self.OpensSlots.view state.old) }
+        ensures between { MayFill (Self.OpensSlots.view state.new) }
+        ensures slots { Self.OpensSlots.slot_count state.new
+            ≡ Self.OpensSlots.slot_count state.old };
 
     /// The same in one job, which the leader runs directly.
     fn play_alone<'a, G: Gate, H: Threads + Wait + Sync>(
         rt: &H,
         alloc: Global,
-        post: &mut P,
+        state: &mut P,
         runner: &mut Runner<'a, Self, G>,
         items: &mut Vec<Self::Item>,
     ) -> Result<(), Fault>
@@ -176,41 +176,41 @@ pub trait PlaysInPlace<P>: OpensSlots<P> + Updates {
         ensures updated { OnOk result (AllZip Self.Updates.updated items.old.items items.new.items) }
         ensures kept { OnErr result (items.new.items ≡ items.old.items) }
         ensures memory { OnErr result (IsErrOf result Fault.Memory) }
-        ensures view { Self.OpensSlots.view post.new ≡ Self.OpensSlots.view post.old }
-        ensures slots { Self.OpensSlots.slot_count post.new
-            ≡ Self.OpensSlots.slot_count post.old };
+        ensures view { Self.OpensSlots.view state.new ≡ Self.OpensSlots.view state.old }
+        ensures slots { Self.OpensSlots.slot_count state.new
+            ≡ Self.OpensSlots.slot_count state.old };
 }
 
 impl<J: Updates> PlaysInPlace<LeaderState<ChunkOf<J>>> for J {
     fn play_in_place<'a, G: Gate, H: Threads + Wait + Sync>(
         rt: &H,
         alloc: Global,
-        post: &mut LeaderState<ChunkOf<J>>,
+        state: &mut LeaderState<ChunkOf<J>>,
         runner: &mut Runner<'a, J, G>,
         jobs: usize,
         items: &mut Vec<J::Item>,
     ) -> Result<(), Fault> {
-        let store = post.kept.get_or_insert_with(|| ChunkBuffers::new(alloc));
+        let buffers = state.kept.get_or_insert_with(|| ChunkBuffers::new(alloc));
         if jobs < items.len() {
-            store.prepare(alloc, items.len(), jobs)?;
+            buffers.prepare(alloc, items.len(), jobs)?;
         }
-        post.post.update(rt, alloc, runner, store, jobs, items);
+        state.member.update(rt, alloc, runner, buffers, jobs, items);
         Ok(())
     }
 
     fn play_alone<'a, G: Gate, H: Threads + Wait + Sync>(
         rt: &H,
         alloc: Global,
-        post: &mut LeaderState<ChunkOf<J>>,
+        state: &mut LeaderState<ChunkOf<J>>,
         runner: &mut Runner<'a, J, G>,
         items: &mut Vec<J::Item>,
     ) -> Result<(), Fault> {
-        let store = post.kept.get_or_insert_with(|| ChunkBuffers::new(alloc));
-        let mut room = store.take(alloc)?;
-        room.reserve(items.len())?;
-        let chunk = room.load(items, 0);
+        let buffers = state.kept.get_or_insert_with(|| ChunkBuffers::new(alloc));
+        let mut buffer = buffers.take(alloc)?;
+        buffer.reserve(items.len())?;
+        let chunk = buffer.load(items, 0);
         let updated = update_chunk(rt, alloc, runner, None, chunk);
-        store.keep(updated.unload(items));
+        buffers.keep(updated.unload(items));
         Ok(())
     }
 }
@@ -222,27 +222,27 @@ impl<J: Updates> SlotMember<ChunkOf<J>> {
         rt: &H,
         alloc: Global,
         runner: &mut Runner<'_, J, G>,
-        store: &mut ChunkBuffers<J::Item>,
+        buffers: &mut ChunkBuffers<J::Item>,
         jobs: usize,
         items: &mut Vec<J::Item>,
     )
         requires jobs { (2 ≤ jobs) × (jobs ≤ vec_len items.old) × (jobs ≤ self.old.share.slots) }
         requires ready { jobs < vec_len items.old → IsReady (vec_len items.old) jobs
-            store.old.ready.items store.old.chunks.items (vec_capacity store.old.chunks) }
+            buffers.old.ready.items buffers.old.chunks.items (vec_capacity buffers.old.chunks) }
         ensures updated { AllZip J.updated items.old.items items.new.items }
-        ensures played { PlayedRound jobs (view_in self.old.stance) (view_in self.new.stance) }
+        ensures played { PlayedRound jobs (view_in self.old.party) (view_in self.new.party) }
         ensures slots { self.new.share.slots ≡ self.old.share.slots }
     {
-        let Some(stance) = self.stance.take() else {
+        let Some(party) = self.party.take() else {
             unreachable!()
         };
         let tables: &Tables<PieceSlots<ChunkOf<J>>> = &*self.share.tables;
-        let mut barrier = tables.round.resume(stance);
+        let mut barrier = tables.round.resume(party);
         let table = SlotTables {
             tables,
             slots: self.share.slots,
         };
-        table.update(rt, alloc, &mut barrier, runner, store, jobs, items);
-        self.stance = Some(barrier.part());
+        table.update(rt, alloc, &mut barrier, runner, buffers, jobs, items);
+        self.party = Some(barrier.part());
     }
 }

@@ -99,14 +99,14 @@ impl<'r, 'a, J: Job, G: Gate, A: RunsPieces<J>> Work<PieceSlots<A>> for SlotWork
     fn run<H: Threads + Wait + Sync>(
         &mut self,
         rt: &H,
-        party: &Claimer<'_, PieceSlots<A>>,
+        claimer: &Claimer<'_, PieceSlots<A>>,
         seat: &mut Seat<PieceSlots<A>>,
         claimed: Claimed,
     ) -> u64 {
         let number = claimed.number() as usize;
-        let mut piece = Some(party.round.take_piece(seat, &claimed));
+        let mut piece = Some(claimer.round.take_piece(seat, &claimed));
         let answer = A::run_piece(rt, self.alloc, self.runner, number, &mut piece);
-        party.round.finish(seat, claimed, answer)
+        claimer.round.finish(seat, claimed, answer)
     }
 
     ghost keeps_same = { λ work x y on same. refl };
@@ -117,19 +117,19 @@ impl<'r, 'a, J: Job, G: Gate, A: RunsPieces<J>> Work<PieceSlots<A>> for SlotWork
 /// What the threads of a lock with slots over jobs of kind J share beside its tables.
 #[derive(Drop)]
 pub struct SlotWorkspace<J: Job> {
-    children: <J::Inner as Nest>::ChildSlots,
+    child_slots: <J::Inner as Nest>::ChildSlots,
 }
 
 impl<J: Job> SlotWorkspace<J> {
     /// These child slots.
-    pub fn new(children: <J::Inner as Nest>::ChildSlots) -> SlotWorkspace<J> {
-        SlotWorkspace { children }
+    pub fn new(child_slots: <J::Inner as Nest>::ChildSlots) -> SlotWorkspace<J> {
+        SlotWorkspace { child_slots }
     }
 }
 
 impl<J: Job, A: RunsPieces<J>> TakesPart<J, PieceSlots<A>> for SlotWorkspace<J> {
-    fn children(&self) -> &<J::Inner as Nest>::ChildSlots {
-        &self.children
+    fn child_slots(&self) -> &<J::Inner as Nest>::ChildSlots {
+        &self.child_slots
     }
 
     fn members<'a>(tables: &'a Tables<PieceSlots<A>>) -> Members<'a> {
@@ -140,7 +140,7 @@ impl<J: Job, A: RunsPieces<J>> TakesPart<J, PieceSlots<A>> for SlotWorkspace<J> 
         &self,
         rt: &H,
         alloc: Global,
-        post: &mut Member<'a, PieceSlots<A>>,
+        member: &mut Member<'a, PieceSlots<A>>,
         runner: &mut Runner<'_, J, G>,
         task: PublishedRound,
     ) {
@@ -149,6 +149,6 @@ impl<J: Job, A: RunsPieces<J>> TakesPart<J, PieceSlots<A>> for SlotWorkspace<J> 
             alloc,
             leads: false,
         };
-        drop(post.join_in(rt, task, work));
+        drop(member.join_in(rt, task, work));
     }
 }

@@ -36,7 +36,7 @@ impl<'t, J: Job> SlotTables<'t, PieceSlots<PieceOf<J>>> {
         barrier: &mut Barrier<'_, PieceSlots<PieceOf<J>>>,
         runner: &mut Runner<'_, J, G>,
         items: &mut S,
-        rooms: &mut OutputBuffers<J::In, J::Out>,
+        buffers: &mut OutputBuffers<J::In, J::Out>,
         outputs: &mut Vec<J::Out>,
     ) -> Result<(), Fault>
         requires leads { LeadsIn self.now.tables.now barrier.old }
@@ -53,12 +53,12 @@ impl<'t, J: Job> SlotTables<'t, PieceSlots<PieceOf<J>>> {
         ensures memory { OnErr result (IsErrOf result Fault.Memory) }
     {
         let pieces = items.pieces();
-        items.fill(alloc, self, barrier.seat(), rooms)?;
+        items.fill(alloc, self, barrier.seat(), buffers)?;
         play_held(rt, alloc, self, barrier, runner, pieces as u64);
         let round = &self.tables.round;
         for slot in 0..pieces {
             let answer = round.take_answer(barrier.seat(), slot);
-            rooms.keep(slot, answer.unload(outputs));
+            buffers.keep(slot, answer.unload(outputs));
         }
         round.turn_slots(barrier.seat(), pieces, self.slots);
         Ok(())
@@ -88,7 +88,7 @@ impl<J: Job> RunsPieces<J> for PieceOf<J> {
     }
 }
 
-/// The post of a leader that plays rounds over lists. It keeps rooms for their outputs.
+/// The state of a leader that plays rounds over lists. It keeps buffers for their outputs.
 pub type SlotLeaderState<J> = LeaderState<PieceOf<J>>;
 
 /// The kinds of jobs whose leader with a state of type P plays rounds over lists of items.
@@ -97,39 +97,39 @@ pub trait PlaysPieces<P>: OpensSlots<P> {
     fn play<'a, S: FillsSlots<Self>, G: Gate, H: Threads + Wait + Sync>(
         rt: &H,
         alloc: Global,
-        post: &mut P,
+        state: &mut P,
         runner: &mut Runner<'a, Self, G>,
         items: &mut S,
         outputs: &mut Vec<Self::Out>,
     ) -> Result<(), Fault>
         requires sync { IsSync H.row }
         requires jobs { (2 ≤ S.pieces items.old)
-            × (S.pieces items.old ≤ Self.OpensSlots.slot_count post.old) }
+            × (S.pieces items.old ≤ Self.OpensSlots.slot_count state.old) }
         requires empty { outputs.old.items ≡ [] }
         requires room { length (S.items items.old) ≤ vec_capacity outputs.old }
         ensures answered { OnOk result
             (AllZip Self.Job.meets (S.items items.old) outputs.new.items) }
         ensures memory { OnErr result (IsErrOf result Fault.Memory) }
         ensures played { OnOk result (PlayedRound (S.pieces items.old)
-            (Self.OpensSlots.view post.old) (Self.OpensSlots.view post.new)) }
+            (Self.OpensSlots.view state.old) (Self.OpensSlots.view state.new)) }
         ensures left { OnErr result
-            (Self.OpensSlots.view post.new ≡ Self.OpensSlots.view post.old) }
-        ensures between { MayFill (Self.OpensSlots.view post.new) }
-        ensures slots { Self.OpensSlots.slot_count post.new
-            ≡ Self.OpensSlots.slot_count post.old };
+            (Self.OpensSlots.view state.new ≡ Self.OpensSlots.view state.old) }
+        ensures between { MayFill (Self.OpensSlots.view state.new) }
+        ensures slots { Self.OpensSlots.slot_count state.new
+            ≡ Self.OpensSlots.slot_count state.old };
 }
 
 impl<J: Job> PlaysPieces<LeaderState<PieceOf<J>>> for J {
     fn play<'a, S: FillsSlots<J>, G: Gate, H: Threads + Wait + Sync>(
         rt: &H,
         alloc: Global,
-        post: &mut LeaderState<PieceOf<J>>,
+        state: &mut LeaderState<PieceOf<J>>,
         runner: &mut Runner<'a, J, G>,
         items: &mut S,
         outputs: &mut Vec<J::Out>,
     ) -> Result<(), Fault> {
-        let rooms = post.kept.get_or_insert_with(|| OutputBuffers::new(alloc));
-        post.post.play(rt, alloc, runner, items, rooms, outputs)
+        let buffers = state.kept.get_or_insert_with(|| OutputBuffers::new(alloc));
+        state.member.play(rt, alloc, runner, items, buffers, outputs)
     }
 }
 
@@ -141,7 +141,7 @@ impl<J: Job> SlotMember<PieceOf<J>> {
         alloc: Global,
         runner: &mut Runner<'_, J, G>,
         items: &mut S,
-        rooms: &mut OutputBuffers<J::In, J::Out>,
+        buffers: &mut OutputBuffers<J::In, J::Out>,
         outputs: &mut Vec<J::Out>,
     ) -> Result<(), Fault>
         requires jobs { (2 ≤ S.pieces items.old) × (S.pieces items.old ≤ self.old.share.slots) }
@@ -150,21 +150,21 @@ impl<J: Job> SlotMember<PieceOf<J>> {
         ensures answered { OnOk result (AllZip J.meets (S.items items.old) outputs.new.items) }
         ensures memory { OnErr result (IsErrOf result Fault.Memory) }
         ensures played { OnOk result (PlayedRound (S.pieces items.old)
-            (view_in self.old.stance) (view_in self.new.stance)) }
-        ensures left { OnErr result (view_in self.new.stance ≡ view_in self.old.stance) }
+            (view_in self.old.party) (view_in self.new.party)) }
+        ensures left { OnErr result (view_in self.new.party ≡ view_in self.old.party) }
         ensures slots { self.new.share.slots ≡ self.old.share.slots }
     {
-        let Some(stance) = self.stance.take() else {
+        let Some(party) = self.party.take() else {
             unreachable!()
         };
         let tables: &Tables<PieceSlots<PieceOf<J>>> = &*self.share.tables;
-        let mut barrier = tables.round.resume(stance);
+        let mut barrier = tables.round.resume(party);
         let table = SlotTables {
             tables,
             slots: self.share.slots,
         };
-        let played = table.play(rt, alloc, &mut barrier, runner, items, rooms, outputs);
-        self.stance = Some(barrier.part());
+        let played = table.play(rt, alloc, &mut barrier, runner, items, buffers, outputs);
+        self.party = Some(barrier.part());
         played
     }
 }

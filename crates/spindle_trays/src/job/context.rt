@@ -15,7 +15,7 @@ use std::marker::Model;
 #[derive(Drop)]
 pub struct JobCx<'a, N: Nest> {
     // The lock's child slots; none in a job that another job runs directly.
-    pub(crate) slots: Option<&'a N::ChildSlots>,
+    pub(crate) child_slots: Option<&'a N::ChildSlots>,
     /// By this the library asks for the helpers of a lock that the job opens.
     pub asks: Asks<'a>,
     // What it sees of its lock.
@@ -47,21 +47,21 @@ impl<'a, N: Nest> Model for JobCx<'a, N> {
 
     ghost Value = { ContextView };
 
-    ghost view = { λ c. context_at (is_some c.slots) c.site (account_of c.asks.signals) };
+    ghost view = { λ c. context_at (is_some c.child_slots) c.site (account_of c.asks.signals) };
 }
 
 impl<'a, N: Nest> JobCx<'a, N> {
     ghost use Rattle.spindle_threads.specs.Accounts.{account_of};
     ghost use Rattle.spindle_threads.specs.Signals.{AnnouncedRest};
     ghost use Rattle.spindle_threads.specs.ThreadCounts.{lock_threads};
-    ghost use Rattle.spindle_trays.specs.Locks.{RunsDirectly, context_at, knowing, nested_hands};
+    ghost use Rattle.spindle_trays.specs.Locks.{RunsDirectly, context_at, knowing, nested_workers};
 
     /// The context of a job that one at this site runs directly.
     pub(crate) fn within(signals: Signals<'a>, site: &JobSite<'a>) -> JobCx<'a, N>
         ensures { RunsDirectly site.now result }
     {
         JobCx {
-            slots: None,
+            child_slots: None,
             asks: Asks { signals },
             site: site.within(),
         }
@@ -71,10 +71,10 @@ impl<'a, N: Nest> JobCx<'a, N> {
     pub(crate) fn counts_for(&self, max_threads: usize) -> ThreadCounts
         requires some { 0 < max_threads }
         ensures most { result.most ≡ lock_threads self.now.pool max_threads }
-        ensures hands { result.threads ≡ nested_hands self.now.has_slots result.most }
+        ensures workers { result.threads ≡ nested_workers self.now.has_slots result.most }
     {
         let counts = self.site.counts.nested(max_threads);
-        match self.slots {
+        match self.child_slots {
             Some(_) => counts,
             None => counts.alone(),
         }
@@ -128,5 +128,5 @@ pub fn child_slots_for<'a, N: Nest>(
     cx: &JobCx<'a, N>,
     counts: ThreadCounts,
 ) -> Option<&'a N::ChildSlots> {
-    if counts.threads() > 1 { cx.slots } else { None }
+    if counts.threads() > 1 { cx.child_slots } else { None }
 }

@@ -33,7 +33,7 @@ pub trait Nest: IsNest {
     fn serve<H: Threads + Wait + Sync>(
         rt: &H,
         alloc: Global,
-        slots: &Self::ChildSlots,
+        child_slots: &Self::ChildSlots,
         signals: &mut Signals<'_>,
     )
         requires { IsSync H.row }
@@ -60,6 +60,6 @@ impl Nest for End {
         _rt: &H,
         _alloc: Global,
         _slots: &(),
-        _notices: &mut Signals<'_>,
+        _signals: &mut Signals<'_>,
     ) {}
 }

@@ -1,7 +1,7 @@
 //! Who comes to a lock: its leader, who becomes a member with number 0, and helpers. A helper takes a number, joins the barrier, works in
 //! each round, and ends once exit is announced.
 ghost use Rattle.std.specs.Prelude.{◌≡◌, ◌<◌, false, []};
-ghost use Rattle.spindle_threads.specs.Posts.{IsOut, AreOut, AreSameSeats, party_view};
+ghost use Rattle.spindle_threads.specs.Members.{IsOut, AreOut, AreSameSeats, party_view};
 ghost use Rattle.spindle_threads.specs.Helpers.{IsHelperAt, IsNews, seat_of};
 ghost use Rattle.spindle_rounds.specs.Seating.{IsSameSeat};
 ghost use Rattle.spindle_threads.specs.Opening.{AreSeatsAt};
@@ -15,7 +15,7 @@ use spindle_rounds::round_table;
 use spindle_rounds::round_table::slots::SlotContents;
 use spindle_threads::helper_waits::{News, await_news, end_part, take_number};
 use spindle_threads::leader_member::LeaderMember;
-use spindle_threads::member::{Member, Whereabouts};
+use spindle_threads::member::{Member, HelperStatus};
 use spindle_threads::seats::{HelperSeats, Seats};
 use spindle_threads::signals::Signals;
 use spindle_threads::tables::Tables;
@@ -41,12 +41,12 @@ pub(crate) fn help<'a, D: SlotContents, J: Job + 'a, L: TakesPart<J, D>, G: Gate
         mut ledger,
     } = seats;
     let thread = take_number(rt, &tables.numbers, &mut numbers);
-    let post = Member::join(rt, tables, round, thread);
+    let member = Member::join(rt, tables, round, thread);
     let seat = tables.ledger.new_seat(&mut ledger);
     let signals = Signals::new(&tables.ledger, seat, tables.child_slots);
     let site = tables.site(L::members(tables), thread);
-    let runner = Runner::<'a, J, G>::new(workspace.children(), gate, site, signals);
-    let round = live::<D, J, L, G, _>(rt, alloc, post, runner, workspace);
+    let runner = Runner::<'a, J, G>::new(workspace.child_slots(), gate, site, signals);
+    let round = live::<D, J, L, G, _>(rt, alloc, member, runner, workspace);
     tables.numbers.give(&mut numbers, thread);
     Seats {
         round,
@@ -59,24 +59,24 @@ pub(crate) fn help<'a, D: SlotContents, J: Job + 'a, L: TakesPart<J, D>, G: Gate
 fn live<'a, D: SlotContents, J: Job, L: TakesPart<J, D>, G: Gate, H: Threads + Wait + Sync>(
     rt: &H,
     alloc: Global,
-    mut post: Member<'a, D>,
+    mut member: Member<'a, D>,
     mut runner: Runner<'a, J, G>,
     workspace: &L,
 ) -> round_table::Seat<D>
-    requires { (party_view post.barrier).leader ≡ false }
-    ensures out { IsOut post.entry.tables.now result }
+    requires { (party_view member.barrier).leader ≡ false }
+    ensures out { IsOut member.entry.tables.now result }
     ensures leader { result.me.0.leader ≡ false }
-    ensures seat { IsSameSeat post.entry.barrier.seat result }
+    ensures seat { IsSameSeat member.entry.barrier.seat result }
 {
-    let tables = post.tables;
-    let thread = post.thread;
+    let tables = member.tables;
+    let thread = member.thread;
     for _ in rt.forever() {
-        let news = await_news(rt, &mut post, &mut runner.signals);
+        let news = await_news(rt, &mut member, &mut runner.signals);
         if let News::Exit = news {
-            return post.leave(rt);
+            return member.leave(rt);
         }
-        let now = follow::<D, J, L, G, H>(rt, alloc, workspace, post, &mut runner, news);
-        post = return_to_post(rt, alloc, tables, thread, &mut runner, now);
+        let now = follow::<D, J, L, G, H>(rt, alloc, workspace, member, &mut runner, news);
+        member = rejoin(rt, alloc, tables, thread, &mut runner, now);
     }
     unreachable!()
 }
@@ -86,32 +86,32 @@ fn follow<'a, D: SlotContents, J: Job, L: TakesPart<J, D>, G: Gate, H: Threads +
     rt: &H,
     alloc: Global,
     workspace: &L,
-    mut post: Member<'a, D>,
+    mut member: Member<'a, D>,
     runner: &mut Runner<'_, J, G>,
     news: News,
-) -> Whereabouts<'a, D>
-    requires helper { (party_view post.barrier).leader ≡ false }
-    requires news { IsNews (party_view post.barrier) news }
-    ensures at { IsHelperAt post.entry.tables.now post.entry.thread result }
-    ensures seat { IsSameSeat post.entry.barrier.seat (seat_of result) }
+) -> HelperStatus<'a, D>
+    requires helper { (party_view member.barrier).leader ≡ false }
+    requires news { IsNews (party_view member.barrier) news }
+    ensures at { IsHelperAt member.entry.tables.now member.entry.thread result }
+    ensures seat { IsSameSeat member.entry.barrier.seat (seat_of result) }
 {
     match news {
         News::Round(task) => {
-            workspace.take_part(rt, alloc, &mut post, runner, task);
-            end_part(rt, post, &mut runner.signals)
+            workspace.take_part(rt, alloc, &mut member, runner, task);
+            end_part(rt, member, &mut runner.signals)
         }
-        _ => Whereabouts::Out(post.leave(rt)),
+        _ => HelperStatus::Out(member.leave(rt)),
     }
 }
 
 // A helper that is out of the barrier goes to the nested locks that ask for helpers, and joins again.
-fn return_to_post<'a, D: SlotContents, J: Job, G: Gate, H: Threads + Wait + Sync>(
+fn rejoin<'a, D: SlotContents, J: Job, G: Gate, H: Threads + Wait + Sync>(
     rt: &H,
     alloc: Global,
     tables: &'a Tables<D>,
     thread: usize,
     runner: &mut Runner<'_, J, G>,
-    now: Whereabouts<'a, D>,
+    now: HelperStatus<'a, D>,
 ) -> Member<'a, D>
     requires at { IsHelperAt tables.now thread now }
     requires thread { thread < tables.now.counts.threads }
@@ -121,9 +121,9 @@ fn return_to_post<'a, D: SlotContents, J: Job, G: Gate, H: Threads + Wait + Sync
     ensures seat { IsSameSeat (seat_of now.entry) result.barrier.seat }
 {
     match now {
-        Whereabouts::In(post) => post,
-        Whereabouts::Out(seat) => {
-            <J::Inner as Nest>::serve(rt, alloc, runner.slots, &mut runner.signals);
+        HelperStatus::In(member) => member,
+        HelperStatus::Out(seat) => {
+            <J::Inner as Nest>::serve(rt, alloc, runner.child_slots, &mut runner.signals);
             Member::join(rt, tables, seat, thread)
         }
     }
@@ -138,14 +138,14 @@ pub fn join_as_leader<'s, D: SlotContents, J: Job, G: Gate, L: TakesPart<J, D>, 
     seats: Seats<D>,
 ) -> (LeaderMember<'s, D>, Runner<'s, J, G>)
     requires seats { AreSeatsAt tables.now seats }
-    ensures tables { result.0.post.tables.now ≡ tables.now }
+    ensures tables { result.0.member.tables.now ≡ tables.now }
     ensures counts { result.1.site.counts ≡ tables.now.counts }
-    ensures slots { let seat = result.0.post.barrier.seat in
+    ensures slots { let seat = result.0.member.barrier.seat in
         (seat.me.1 ≡ []) × (seat.me.0.board ≡ []) }
 {
     let signals = Signals::new(&tables.ledger, seats.ledger, tables.child_slots);
-    let post = LeaderMember::new(Member::join(rt, tables, seats.round, 0));
+    let member = LeaderMember::new(Member::join(rt, tables, seats.round, 0));
     let site = tables.site(L::members(tables), 0);
-    let runner = Runner::new(workspace.children(), gate, site, signals);
-    (post, runner)
+    let runner = Runner::new(workspace.child_slots(), gate, site, signals);
+    (member, runner)
 }

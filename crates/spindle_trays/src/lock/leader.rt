@@ -5,7 +5,7 @@ ghost use Rattle.std.specs.Prelude.{◌≡◌, ◌<◌, ◌≤◌, [], IfOk, IfE
 ghost use Rattle.std.specs.List.{AllZip};
 ghost use Rattle.std.specs.Fn.{FnOnceReturnsAtMut};
 ghost use Rattle.spindle_parts.specs.Pieces.{counted};
-ghost use Rattle.spindle_trays.specs.Leaders.{crew_of, threads_of, hands_of, AnnouncedRest, GoesOn, IsSameLock, MadeNoStep, PlayedAs, PlayedOnce};
+ghost use Rattle.spindle_trays.specs.Leaders.{counts_of, threads_of, workers_of, AnnouncedRest, GoesOn, IsSameLock, MadeNoStep, PlayedAs, PlayedOnce};
 ghost use Rattle.spindle_trays.specs.Rounds.{job_count, IsRefusal};
 
 use crate::job::Job;
@@ -33,7 +33,7 @@ pub const MOST_JOBS: usize = 4294967295;
 pub struct Leader<'a, J: Job, G: Gate, L = Workspace<J>> {
     pub(crate) workspace: &'a L,
     pub(crate) runner: Runner<'a, J, G>,
-    pub(crate) post: LeaderMember<'a, Bare>,
+    pub(crate) leader_member: LeaderMember<'a, Bare>,
 }
 
 impl<'a, J: Opens<L>, G: Gate, L> Leader<'a, J, G, L> {
@@ -41,15 +41,15 @@ impl<'a, J: Opens<L>, G: Gate, L> Leader<'a, J, G, L> {
     pub(crate) fn new(
         workspace: &'a L,
         runner: Runner<'a, J, G>,
-        post: LeaderMember<'a, Bare>,
+        leader_member: LeaderMember<'a, Bare>,
     ) -> Leader<'a, J, G, L>
-        ensures threads { threads_of result ≡ (crew_of post.entry).most }
-        ensures hands { hands_of result ≡ (crew_of post.entry).threads }
+        ensures threads { threads_of result ≡ (counts_of leader_member.entry).most }
+        ensures workers { workers_of result ≡ (counts_of leader_member.entry).threads }
     {
         Leader {
             workspace,
             runner,
-            post,
+            leader_member,
         }
     }
 
@@ -68,7 +68,7 @@ impl<'a, J: Opens<L>, G: Gate, L> Leader<'a, J, G, L> {
         requires jobs { 0 < vec_len items → 0 < n_jobs }
         ensures answer { IfOk result (λ outputs. AllZip J.meets items.items outputs.items) }
         ensures refused { let jobs = job_count (vec_len items) n_jobs in
-            IfErr result (IsRefusal (hands_of self.old) jobs) }
+            IfErr result (IsRefusal (workers_of self.old) jobs) }
         ensures trail { let jobs = job_count (vec_len items) n_jobs in
             PlayedAs jobs self.old self.new result }
         ensures goes_on { GoesOn self.old self.new }
@@ -91,7 +91,7 @@ impl<'a, J: Opens<L>, G: Gate, L> Leader<'a, J, G, L> {
         ensures answer { OnOk result (AllZip J.meets items.items outputs.new.items) }
         ensures given_up { OnErr result (outputs.new.items ≡ []) }
         ensures refused { let jobs = job_count (vec_len items) n_jobs in
-            IfErr result (IsRefusal (hands_of self.old) jobs) }
+            IfErr result (IsRefusal (workers_of self.old) jobs) }
         ensures trail { let jobs = job_count (vec_len items) n_jobs in
             PlayedAs jobs self.old self.new result }
         ensures goes_on { GoesOn self.old self.new }
@@ -102,7 +102,7 @@ impl<'a, J: Opens<L>, G: Gate, L> Leader<'a, J, G, L> {
         }
         let jobs = items.len().min(n_jobs.min(MOST_JOBS));
         outputs.reserve(items.len())?;
-        if jobs > 1 && self.post.post.tables.counts.threads() > 1 {
+        if jobs > 1 && self.leader_member.member.tables.counts.threads() > 1 {
             return self.play(rt, alloc, jobs, items, outputs);
         }
         self.play_here(rt, alloc, jobs, items, outputs)
@@ -132,9 +132,9 @@ impl<'a, J: Opens<L>, G: Gate, L> Leader<'a, J, G, L> {
             self.runner.run(rt, alloc, None, inputs, outputs);
         } else {
             let pieces = ListRuns::new(SharedList::from_vec(alloc, items)?, jobs);
-            let (post, runner) = (&mut self.post, &mut self.runner);
+            let (leader_member, runner) = (&mut self.leader_member, &mut self.runner);
             let trays = J::trays(self.workspace);
-            play_alone(rt, alloc, post, trays, runner, &pieces, outputs);
+            play_alone(rt, alloc, leader_member, trays, runner, &pieces, outputs);
         }
         Ok(())
     }
@@ -148,21 +148,21 @@ impl<'a, J: Opens<L>, G: Gate, L> Leader<'a, J, G, L> {
         items: Vec<J::In>,
         outputs: &mut Vec<J::Out>,
     ) -> Result<(), Fault>
-        requires threads { 2 ≤ hands_of self.old }
+        requires threads { 2 ≤ workers_of self.old }
         requires jobs { (2 ≤ jobs) × (jobs ≤ 4294967295) × (jobs ≤ vec_len items) }
         requires empty { outputs.old.items ≡ [] }
         requires room { vec_len items ≤ vec_capacity outputs.old }
         ensures answer { OnOk result (AllZip J.meets items.items outputs.new.items) }
         ensures given_up { OnErr result (outputs.new.items ≡ []) }
-        ensures refused { IfErr result (IsRefusal (hands_of self.old) jobs) }
+        ensures refused { IfErr result (IsRefusal (workers_of self.old) jobs) }
         ensures trail { PlayedAs jobs self.old self.new result }
         ensures lock { IsSameLock self.old self.new }
     {
         let pieces = ListRuns::new(SharedList::from_vec(alloc, items)?, jobs);
         let trays = J::trays(self.workspace);
         trays.hand_out(rt, alloc, &pieces, &mut SpareLists::none(alloc))?;
-        let (post, runner) = (&mut self.post, &mut self.runner);
-        let first = play_ahead(rt, alloc, post, trays, runner, &pieces, outputs);
+        let (leader_member, runner) = (&mut self.leader_member, &mut self.runner);
+        let first = play_ahead(rt, alloc, leader_member, trays, runner, &pieces, outputs);
         match trays.gather_rest(rt, &pieces, first, outputs) {
             Ok(()) => Ok(()),
             Err(number) => {
@@ -190,7 +190,7 @@ impl<'a, J: Opens<L>, G: Gate, L> Leader<'a, J, G, L> {
         ensures leader { 0 < result }
         ensures most { result ≤ threads_of self.now }
     {
-        let tables = self.post.post.tables;
+        let tables = self.leader_member.member.tables;
         Members::Barrier(tables.round.init()).current(tables.counts.most())
     }
 
@@ -198,7 +198,7 @@ impl<'a, J: Opens<L>, G: Gate, L> Leader<'a, J, G, L> {
     pub fn max_num_threads(&self) -> usize
         ensures { result ≡ threads_of self.now }
     {
-        self.post.post.tables.counts.most()
+        self.leader_member.member.tables.counts.most()
     }
 
     /// None: a leader has no number between rounds.
@@ -211,7 +211,7 @@ impl<'a, J: Opens<L>, G: Gate, L> Leader<'a, J, G, L> {
     /// Tells idle helpers to sleep at once until the next round.
     pub fn relieve_workers(&mut self)
         ensures lock { threads_of self.new ≡ threads_of self.old }
-        ensures hands { hands_of self.new ≡ hands_of self.old }
+        ensures workers { workers_of self.new ≡ workers_of self.old }
         ensures quiet { MadeNoStep self.old self.new }
         ensures rest { AnnouncedRest self.old self.new }
     {
@@ -229,7 +229,7 @@ impl<'a, J: Opens<L, In = usize>, G: Gate, L> Leader<'a, J, G, L> {
     ) -> Result<Vec<J::Out>, Fault>
         ensures answer { IfOk result (λ outputs. AllZip J.meets (counted 0 n_jobs) outputs.items) }
         ensures refused { let jobs = job_count n_jobs n_jobs in
-            IfErr result (IsRefusal (hands_of self.old) jobs) }
+            IfErr result (IsRefusal (workers_of self.old) jobs) }
         ensures trail { let jobs = job_count n_jobs n_jobs in
             PlayedAs jobs self.old self.new result }
         ensures goes_on { GoesOn self.old self.new }
@@ -248,12 +248,12 @@ impl<'a, J: Opens<L>, G: Gate, L> Leads for Leader<'a, J, G, L> {
 
     fn dismiss<H: Wait>(&mut self, rt: &H) {
         self.runner.signals.announce_exit();
-        self.post.post.tables.sleep.wake_for_news(rt);
+        self.leader_member.member.tables.sleep.wake_for_news(rt);
     }
 
     fn leave<H: Wait>(self, rt: &H) {
-        let LeaderMember { post } = self.post;
-        drop(post.leave(rt));
+        let LeaderMember { member } = self.leader_member;
+        drop(member.leave(rt));
     }
 }
 

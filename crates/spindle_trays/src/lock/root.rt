@@ -1,7 +1,7 @@
 //! Opening a root lock: its tables are made, its helpers start, and at its end they are dismissed and joined.
 ghost use Rattle.std.specs.Prelude.{◌≡◌, ◌<◌, [], IfOk, OnErr, IsErrOf, vec_len};
 ghost use Rattle.std.specs.Fn.{FnOnceReturnsAtMut};
-ghost use Rattle.spindle_trays.specs.Leaders.{threads_of, hands_of, WasLed};
+ghost use Rattle.spindle_trays.specs.Leaders.{threads_of, workers_of, WasLed};
 ghost use Rattle.spindle_threads.specs.Opening.{AreSeatsAt};
 ghost use Rattle.spindle_threads.specs.ThreadCounts.{lock_threads};
 
@@ -47,7 +47,7 @@ where
     requires callable { F.IsAlwaysCallable f }
     ensures promise { IfOk result (λ r. (old : _) × (new : _)
         × (threads_of old ≡ lock_threads pool.now.threads max_threads)
-        × (hands_of old ≡ threads_of old)
+        × (workers_of old ≡ threads_of old)
         × FnOnceReturnsAtMut F.FnOnce f old r new) }
     ensures memory { OnErr result (IsErrOf result Fault.Memory) }
 {
@@ -82,8 +82,8 @@ fn scoped<
                 WasLed counts.most counts.threads F.FnOnce f result }
         {
             let workspace = leader_start.workspace;
-            let (post, runner, helpers) = leader_start.muster::<_, J, H>(scope, rt, alloc);
-            let mut leader = Leader::new(workspace, runner, post);
+            let (member, runner, helpers) = leader_start.start_helpers::<_, J, H>(scope, rt, alloc);
+            let mut leader = Leader::new(workspace, runner, member);
             let answer = f(&mut leader);
             leader.dismiss(rt);
             helpers.join(rt);
@@ -150,7 +150,7 @@ impl<
 
     /// Starts as many helpers as there is room for, and makes the leader a member, which runs jobs with what comes beside. A helper that
     /// can't be started is left out.
-    pub fn muster<E, J: CrossesThreads + 's, H: Threads + Wait + Sync + 's>(
+    pub fn start_helpers<E, J: CrossesThreads + 's, H: Threads + Wait + Sync + 's>(
         self,
         scope: &Scope<'s, E>,
         rt: &'s H,
@@ -158,9 +158,9 @@ impl<
     ) -> (LeaderMember<'s, D>, Runner<'s, J, G>, Helpers)
     where
         L: TakesPart<J, D>,
-        ensures tables { result.0.post.tables.now ≡ self.entry.tables.now }
+        ensures tables { result.0.member.tables.now ≡ self.entry.tables.now }
         ensures counts { result.1.site.counts ≡ self.entry.tables.now.counts }
-        ensures slots { let seat = result.0.post.barrier.seat in
+        ensures slots { let seat = result.0.member.barrier.seat in
             (seat.me.1 ≡ []) × (seat.me.0.board ≡ []) }
     {
         let LeaderStart {
@@ -178,8 +178,8 @@ impl<
                 threads.push_reserved(thread);
             }
         }
-        let (post, runner) = join_as_leader::<D, J, G, L, H>(rt, tables, workspace, gate, seats);
-        (post, runner, Helpers { threads })
+        let (member, runner) = join_as_leader::<D, J, G, L, H>(rt, tables, workspace, gate, seats);
+        (member, runner, Helpers { threads })
     }
 }
 

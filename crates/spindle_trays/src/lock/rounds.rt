@@ -7,7 +7,7 @@ ghost use Rattle.std.specs.List.{AllZip};
 ghost use Rattle.spindle_parts.specs.declared.fault.Fault.{Fault};
 ghost use Rattle.spindle_parts.specs.declared.fault.Fault.TheVariants.{Memory};
 ghost use Rattle.spindle_trays.specs.ChunkRounds.{IsMapped};
-ghost use Rattle.spindle_trays.specs.Leaders.{threads_of, hands_of, IsBetweenRounds};
+ghost use Rattle.spindle_trays.specs.Leaders.{threads_of, workers_of, IsBetweenRounds};
 ghost use Rattle.spindle_trays.specs.Rounds.{job_count, never_of_none, GoesOnAs, IsRefusal};
 
 use crate::job::Job;
@@ -65,12 +65,12 @@ pub trait RunsRounds<J: Job> {
 impl<'a, J: Opens<L>, G: Gate, L> RunsRounds<J> for Leader<'a, J, G, L> {
     ghost threads = { λ leader. threads_of leader };
 
-    ghost refuses = { λ leader jobs. IsRefusal (hands_of leader) jobs };
+    ghost refuses = { λ leader jobs. IsRefusal (workers_of leader) jobs };
 
     ghost rests = { λ leader. IsBetweenRounds leader };
 
     fn max_num_threads(&self) -> usize {
-        self.post.post.tables.counts.most()
+        self.leader_member.member.tables.counts.most()
     }
 
     fn for_each_into<H: Threads + Wait + Sync>(
@@ -87,7 +87,7 @@ impl<'a, J: Opens<L>, G: Gate, L> RunsRounds<J> for Leader<'a, J, G, L> {
 
     ghost may_want_memory = { λ _ _ some. some };
 
-    ghost never_of_none = { λ leader. never_of_none (hands_of leader) };
+    ghost never_of_none = { λ leader. never_of_none (workers_of leader) };
 }
 
 /// Rounds over the chunks of one list, by jobs that answer a list or a failure each. Whatever runs rounds over such jobs has them.

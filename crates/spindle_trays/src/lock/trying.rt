@@ -13,7 +13,7 @@ use crate::pieces::place::SpareLists;
 use crate::pieces::report::Report;
 use crate::pieces::tally::Tally;
 use crate::running::in_trays::play_in_trays;
-use crate::running::sequential::{make_rooms, play_rooms};
+use crate::running::sequential::{make_buffers, play_sequential};
 use spindle_parts::fault::Fault;
 use spindle_parts::lists::shared::SharedList;
 use std::alloc::Global;
@@ -131,20 +131,20 @@ impl<'a, J: Opens<L>, G: Gate, L> Leader<'a, J, G, L> {
         ensures memory { OnErr result (IsErrOf result Fault.Memory × MadeNoStep self.old self.new) }
         ensures lock { IsSameLock self.old self.new }
     {
-        if pieces.count() > 1 && self.post.post.tables.counts.threads() > 1 {
+        if pieces.count() > 1 && self.leader_member.member.tables.counts.threads() > 1 {
             let trays = J::trays(self.workspace);
             trays.hand_out(rt, alloc, pieces, spares)?;
             let task = pieces.task(true);
-            play_in_trays(rt, alloc, &mut self.post, trays, &mut self.runner, task);
-            self.post.mark_left(left);
+            play_in_trays(rt, alloc, &mut self.leader_member, trays, &mut self.runner, task);
+            self.leader_member.mark_left(left);
             trays.tally(rt, pieces, left.as_slice(), tally);
             return Ok(());
         }
-        self.try_in_rooms(rt, alloc, pieces, spares, left, tally)
+        self.try_alone(rt, alloc, pieces, spares, left, tally)
     }
 
     // The leader alone: one piece directly, more by a round of its own. No piece is lost here.
-    fn try_in_rooms<H: Threads + Wait + Sync>(
+    fn try_alone<H: Threads + Wait + Sync>(
         &mut self,
         rt: &H,
         alloc: Global,
@@ -161,18 +161,18 @@ impl<'a, J: Opens<L>, G: Gate, L> Leader<'a, J, G, L> {
         ensures memory { OnErr result (IsErrOf result Fault.Memory × MadeNoStep self.old self.new) }
         ensures lock { IsSameLock self.old self.new }
     {
-        let mut rooms = make_rooms::<J>(alloc, pieces, spares)?;
+        let mut buffers = make_buffers::<J>(alloc, pieces, spares)?;
         if pieces.count() == 1 {
             let none = pieces.count();
             self.runner
-                .tally_rooms(rt, alloc, pieces, rooms, none, left.as_slice(), tally);
+                .tally_buffers(rt, alloc, pieces, buffers, none, left.as_slice(), tally);
             return Ok(());
         }
-        let (post, runner) = (&mut self.post, &mut self.runner);
-        let failed = play_rooms(rt, alloc, post, runner, pieces, &mut rooms);
-        self.post.mark_left(left);
+        let (leader_member, runner) = (&mut self.leader_member, &mut self.runner);
+        let failed = play_sequential(rt, alloc, leader_member, runner, pieces, &mut buffers);
+        self.leader_member.mark_left(left);
         self.runner
-            .tally_rooms(rt, alloc, pieces, rooms, failed, left.as_slice(), tally);
+            .tally_buffers(rt, alloc, pieces, buffers, failed, left.as_slice(), tally);
         Ok(())
     }
 }

@@ -27,7 +27,7 @@ use std::thread::Threads;
 /// What the threads of a lock over jobs of kind J share, beside the tables that every lock has.
 #[derive(Drop)]
 pub struct Workspace<J: Job> {
-    children: <J::Inner as Nest>::ChildSlots,
+    child_slots: <J::Inner as Nest>::ChildSlots,
     trays: Trays<J>,
 }
 
@@ -43,7 +43,7 @@ pub trait Opens<L>: Job + HasWorkspace<L> {
         ensures { OnErr result (IsErrOf result Fault.Memory) };
 
     /// The slots for the locks that its jobs open.
-    fn children(workspace: &L) -> &<Self::Inner as Nest>::ChildSlots;
+    fn child_slots(workspace: &L) -> &<Self::Inner as Nest>::ChildSlots;
 
     /// The trays of its pieces.
     fn trays(workspace: &L) -> &Trays<Self>;
@@ -56,13 +56,13 @@ impl<J: Job> HasWorkspace<Workspace<J>> for J {}
 
 impl<J: Job> Opens<Workspace<J>> for J {
     fn open(alloc: Global, threads: usize) -> Result<Workspace<J>, Fault> {
-        let children = <J::Inner as Nest>::make(alloc, threads)?;
+        let child_slots = <J::Inner as Nest>::make(alloc, threads)?;
         let trays = Trays::new(alloc, threads)?;
-        Ok(Workspace { children, trays })
+        Ok(Workspace { child_slots, trays })
     }
 
-    fn children(workspace: &Workspace<J>) -> &<J::Inner as Nest>::ChildSlots {
-        &workspace.children
+    fn child_slots(workspace: &Workspace<J>) -> &<J::Inner as Nest>::ChildSlots {
+        &workspace.child_slots
     }
 
     fn trays(workspace: &Workspace<J>) -> &Trays<J> {
@@ -77,7 +77,7 @@ impl<J: Job> Opens<Workspace<J>> for J {
 /// What the threads of a lock over jobs of kind J share beside its tables, where its round table has D's slots.
 pub trait TakesPart<J: Job, D: SlotContents> {
     /// The slots for the locks that its jobs open.
-    fn children(&self) -> &<J::Inner as Nest>::ChildSlots;
+    fn child_slots(&self) -> &<J::Inner as Nest>::ChildSlots;
 
     /// Where its jobs read how many threads take part.
     fn members<'a>(tables: &'a Tables<D>) -> Members<'a>;
@@ -87,22 +87,23 @@ pub trait TakesPart<J: Job, D: SlotContents> {
         &self,
         rt: &H,
         alloc: Global,
-        post: &mut Member<'a, D>,
+        member: &mut Member<'a, D>,
         runner: &mut Runner<'_, J, G>,
         task: PublishedRound,
     )
         requires sync { IsSync H.row }
-        requires task { OnTask task.jobs task.may_stop post.old.barrier.seat.me.0 }
-        requires helper { post.old.barrier.seat.me.0.leader ≡ false }
-        ensures post { (post.new.tables ≡ post.old.tables) × (post.new.thread ≡ post.old.thread) }
-        ensures leader { post.new.barrier.seat.me.0.leader ≡ false }
-        ensures done { IsDone post.new.barrier.seat.me.0 }
-        ensures seat { IsSameSeat post.old.barrier.seat post.new.barrier.seat };
+        requires task { OnTask task.jobs task.may_stop member.old.barrier.seat.me.0 }
+        requires helper { member.old.barrier.seat.me.0.leader ≡ false }
+        ensures member { (member.new.tables ≡ member.old.tables)
+            × (member.new.thread ≡ member.old.thread) }
+        ensures leader { member.new.barrier.seat.me.0.leader ≡ false }
+        ensures done { IsDone member.new.barrier.seat.me.0 }
+        ensures seat { IsSameSeat member.old.barrier.seat member.new.barrier.seat };
 }
 
 impl<J: Opens<L>, L> TakesPart<J, Bare> for L {
-    fn children(&self) -> &<J::Inner as Nest>::ChildSlots {
-        <J as Opens<L>>::children(self)
+    fn child_slots(&self) -> &<J::Inner as Nest>::ChildSlots {
+        <J as Opens<L>>::child_slots(self)
     }
 
     fn members<'a>(tables: &'a Tables<Bare>) -> Members<'a> {
@@ -113,7 +114,7 @@ impl<J: Opens<L>, L> TakesPart<J, Bare> for L {
         &self,
         rt: &H,
         alloc: Global,
-        post: &mut Member<'a, Bare>,
+        member: &mut Member<'a, Bare>,
         runner: &mut Runner<'_, J, G>,
         task: PublishedRound,
     ) {
@@ -124,7 +125,7 @@ impl<J: Opens<L>, L> TakesPart<J, Bare> for L {
             alloc,
             held: None,
         };
-        let work = post.join_in(rt, task, work);
+        let work = member.join_in(rt, task, work);
         trays.bring_back(rt, task.jobs as usize, work.held);
     }
 }

@@ -9,32 +9,32 @@ use crate::job::Job;
 use crate::pieces::finished::Finished;
 use spindle_parts::cut::Piece;
 
-/// Moves the outputs of the pieces that were handed out into `room`, in order, and empties the places.
+/// Moves the outputs of the pieces that were handed out into `outputs`, in order, and empties the places.
 ///
 /// Answers the least place that is empty or holds another number or other inputs than its piece; then nothing moves.
 /// Takes no memory. Whole runs of outputs move, not one by one.
 pub fn gather<J: Job>(
     handed: &[Piece<J::In>],
     places: &mut Vec<Option<Finished<J>>>,
-    room: &mut Vec<J::Out>,
+    outputs: &mut Vec<J::Out>,
 ) -> Result<(), usize>
     requires places { vec_len places.old ≡ length handed.now }
-    requires empty { room.old.items ≡ [] }
-    requires space { length (items_of handed.now) ≤ vec_capacity room.old }
-    ensures answers { OnOk result (AllZip J.meets (items_of handed.now) room.new.items) }
+    requires empty { outputs.old.items ≡ [] }
+    requires space { length (items_of handed.now) ≤ vec_capacity outputs.old }
+    ensures answers { OnOk result (AllZip J.meets (items_of handed.now) outputs.new.items) }
     ensures emptied { OnOk result (places.new.items ≡ replicate (vec_len places.old) None) }
     ensures complete { IsOk result ↔ HoldAll handed.now places.old.items }
     ensures lost { IfErr result (IsFirstLost handed.now places.old.items) }
     ensures within { IfErr result (λ k. k < length handed.now) }
     ensures kept { OnErr result (places.new.items ≡ places.old.items) }
-    ensures untouched { OnErr result (room.new.items ≡ []) }
+    ensures untouched { OnErr result (outputs.new.items ≡ []) }
 {
     for (k, piece) in handed.iter().enumerate() {
         if !holds(&places[k], piece) {
             return Err(k);
         }
     }
-    move_outputs(places, room);
+    move_outputs(places, outputs);
     Ok(())
 }
 
@@ -48,16 +48,16 @@ fn holds<J: Job>(place: &Option<Finished<J>>, piece: &Piece<J::In>) -> bool
     }
 }
 
-/// Moves all outputs to the end of `room`, and empties the places.
-fn move_outputs<J: Job>(places: &mut Vec<Option<Finished<J>>>, room: &mut Vec<J::Out>)
-    requires empty { room.old.items ≡ [] }
-    requires space { length (all_inputs_in places.old.items) ≤ vec_capacity room.old }
-    ensures answers { AllZip J.meets (all_inputs_in places.old.items) room.new.items }
+/// Moves all outputs to the end of `outputs`, and empties the places.
+fn move_outputs<J: Job>(places: &mut Vec<Option<Finished<J>>>, outputs: &mut Vec<J::Out>)
+    requires empty { outputs.old.items ≡ [] }
+    requires space { length (all_inputs_in places.old.items) ≤ vec_capacity outputs.old }
+    ensures answers { AllZip J.meets (all_inputs_in places.old.items) outputs.new.items }
     ensures emptied { places.new.items ≡ replicate (vec_len places.old) None }
 {
     for k in 0..places.len() {
         if let Some(finished) = places[k].take() {
-            room.append(&mut finished.into_outputs()).unwrap();
+            outputs.append(&mut finished.into_outputs()).unwrap();
         }
     }
 }

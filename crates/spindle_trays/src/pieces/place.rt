@@ -41,12 +41,12 @@ impl<J: Job> Place<Ready<J>, Finished<J>> {
     ) -> Result<(), AllocError>
         ensures { OnOk result (self.new ≡ Waits (record { number = number; inputs = inputs })) }
     {
-        let room = match mem::replace(self, Place::Away(number)) {
+        let buffer = match mem::replace(self, Place::Away(number)) {
             Place::Away(_) => spares.take(alloc),
             Place::Waits(ready) => ready.into_parts().1,
             Place::Back(finished) => finished.into_outputs(),
         };
-        *self = Place::Waits(Ready::new(number, inputs, room)?);
+        *self = Place::Waits(Ready::new(number, inputs, buffer)?);
         Ok(())
     }
 
@@ -201,7 +201,7 @@ pub(crate) fn let_go<J: Job>(tray: &mut Tray<J>, from: usize, count: usize)
 pub struct Ready<J: Job> {
     number: usize,
     inputs: ListRun<J::In>,
-    room: Vec<J::Out>,
+    buffer: Vec<J::Out>,
 }
 
 impl<J: Job> Model for Ready<J> {
@@ -212,8 +212,8 @@ impl<J: Job> Model for Ready<J> {
 
     ghost view = { λ piece. record { number = piece.number; inputs = piece.inputs } };
 
-    ghost invariant = { λ piece. (piece.room.items ≡ [])
-        × (length piece.inputs ≤ vec_capacity piece.room) };
+    ghost invariant = { λ piece. (piece.buffer.items ≡ [])
+        × (length piece.inputs ≤ vec_capacity piece.buffer) };
 }
 
 impl<J: Job> Ready<J> {
@@ -221,17 +221,17 @@ impl<J: Job> Ready<J> {
     pub fn new(
         number: usize,
         inputs: ListRun<J::In>,
-        mut room: Vec<J::Out>,
+        mut buffer: Vec<J::Out>,
     ) -> Result<Ready<J>, AllocError>
         ensures number { IfOk result (λ ready. ready.number ≡ number) }
         ensures inputs { IfOk result (λ ready. ready.inputs ≡ inputs) }
     {
-        room.clear();
-        room.reserve(inputs.len())?;
+        buffer.clear();
+        buffer.reserve(inputs.len())?;
         Ok(Ready {
             number,
             inputs,
-            room,
+            buffer,
         })
     }
 
@@ -248,7 +248,7 @@ impl<J: Job> Ready<J> {
         ensures empty { result.1.items ≡ [] }
         ensures room { length result.0 ≤ vec_capacity result.1 }
     {
-        (self.inputs, self.room)
+        (self.inputs, self.buffer)
     }
 }
 

@@ -1,7 +1,7 @@
 //! The work of a thread in a round whose pieces stand in trays: it takes the piece of each number that it claims out of its tray, runs
 //! it, and brings it back. The leader runs the piece whose outputs come next where it lies; alone it runs each piece so.
 ghost use Rattle.std.specs.Prelude.{◌≡◌, ◌≤◌, ◌∷◌, true, MatchBool, ◌+◌, ◌<◌, [], length, vec_capacity};
-ghost use Rattle.spindle_threads.specs.Posts.{LastPublished, party_view};
+ghost use Rattle.spindle_threads.specs.Members.{LastPublished, party_view};
 ghost use Rattle.spindle_rounds.specs.RoundSteps.{round_of};
 ghost use Rattle.spindle_rounds.specs.Working.{PlayedRoundOf, PlayedRound};
 ghost use Rattle.spindle_rounds.specs.PartyWork.{HasFinished, IsAtTask};
@@ -50,10 +50,10 @@ pub(crate) fn play_in_trays<'a, J: Job, G: Gate, H: Threads + Wait + Sync>(
 )
     requires counted { (2 ≤ task.jobs) × (task.jobs ≤ 4294967295) }
     ensures played { PlayedRoundOf task.jobs task.may_stop
-        leader.old.post.barrier.seat.me.0 leader.new.post.barrier.seat.me.0 }
-    ensures last { LastPublished (round_of (party_view leader.old.post.barrier).standing)
-        task.jobs task.may_stop (party_view leader.new.post.barrier) }
-    ensures tables { leader.new.post.tables ≡ leader.old.post.tables }
+        leader.old.member.barrier.seat.me.0 leader.new.member.barrier.seat.me.0 }
+    ensures last { LastPublished (round_of (party_view leader.old.member.barrier).standing)
+        task.jobs task.may_stop (party_view leader.new.member.barrier) }
+    ensures tables { leader.new.member.tables ≡ leader.old.member.tables }
 {
     let signals = runner.signals.another();
     let work = TrayWork {
@@ -75,12 +75,12 @@ impl<'t, 'r, 'a, J: Job, G: Gate> Work<Bare> for TrayWork<'t, 'r, 'a, J, G> {
     fn run<H: Threads + Wait + Sync>(
         &mut self,
         rt: &H,
-        party: &Claimer<'_, Bare>,
+        claimer: &Claimer<'_, Bare>,
         seat: &mut Seat<Bare>,
         claimed: Claimed,
     ) -> u64 {
         let number = claimed.number() as usize;
-        let pieces = party.task.jobs as usize;
+        let pieces = claimer.task.jobs as usize;
         let held = self.held.take();
         let finished = match self.trays.exchange(rt, pieces, held, number) {
             Some(piece) => {
@@ -92,8 +92,8 @@ impl<'t, 'r, 'a, J: Job, G: Gate> Work<Bare> for TrayWork<'t, 'r, 'a, J, G> {
             }
             None => Finished::empty(self.alloc, number),
         };
-        let failed = party.task.may_stop && finished.has_failed();
-        let before = finish(party, seat, claimed, &finished, failed);
+        let failed = claimer.task.may_stop && finished.has_failed();
+        let before = finish(claimer, seat, claimed, &finished, failed);
         self.held = Some(finished);
         before
     }
@@ -116,16 +116,16 @@ impl<J: Job> Trays<J> {
 
 /// Finishes a number whose piece was run. Where the piece failed in a round that may stop, the round is stopped before.
 pub(crate) fn finish<P: Numbered>(
-    party: &Claimer<'_, Bare>,
+    claimer: &Claimer<'_, Bare>,
     seat: &mut Seat<Bare>,
     claimed: Claimed,
     piece: &P,
     failed: bool,
 ) -> u64
-    requires at { IsAtTask party.now.round.now party.now.task seat.old }
+    requires at { IsAtTask claimer.now.round.now claimer.now.task seat.old }
     requires own { MayFinish claimed seat.old.me.0 }
     requires piece { P.number piece.now ≡ claimed }
-    requires failed { failed ≡ true → party.now.task.may_stop ≡ true }
+    requires failed { failed ≡ true → claimer.now.task.may_stop ≡ true }
     ensures seat { IsSameSeat seat.old seat.new }
     ensures finished { HasFinished result seat.old.me.0 seat.new.me.0 }
     ensures stops { let v = seat.old.me.0 in let w = seat.new.me.0 in MatchBool failed
@@ -133,9 +133,9 @@ pub(crate) fn finish<P: Numbered>(
         (StopsAsBefore v w) }
 {
     if failed {
-        party.round.stop(seat, &claimed);
+        claimer.round.stop(seat, &claimed);
     }
-    party.round.finish(seat, claimed, piece)
+    claimer.round.finish(seat, claimed, piece)
 }
 
 /// What runs the next piece where it lies, with the outputs of those before it, and others out of their trays.
@@ -163,8 +163,8 @@ pub(crate) fn play_ahead<'a, J: Job, G: Gate, H: Threads + Wait + Sync>(
     requires room { length pieces.now.items ≤ vec_capacity outputs.old }
     ensures answered { HasAnswered J.meets pieces.now.items pieces.now.count result outputs.new }
     ensures played { PlayedRound pieces.now.count
-        leader.old.post.barrier.seat.me.0 leader.new.post.barrier.seat.me.0 }
-    ensures tables { leader.new.post.tables ≡ leader.old.post.tables }
+        leader.old.member.barrier.seat.me.0 leader.new.member.barrier.seat.me.0 }
+    ensures tables { leader.new.member.tables ≡ leader.old.member.tables }
 {
     let signals = runner.signals.another();
     let others = TrayWork {
@@ -200,8 +200,8 @@ pub(crate) fn play_alone<'a, J: Job, G: Gate, H: Threads + Wait + Sync>(
     requires room { length pieces.now.items ≤ vec_capacity outputs.old }
     ensures answered { AllZip J.meets pieces.now.items outputs.new.items }
     ensures played { PlayedRound pieces.now.count
-        leader.old.post.barrier.seat.me.0 leader.new.post.barrier.seat.me.0 }
-    ensures tables { leader.new.post.tables ≡ leader.old.post.tables }
+        leader.old.member.barrier.seat.me.0 leader.new.member.barrier.seat.me.0 }
+    ensures tables { leader.new.member.tables ≡ leader.old.member.tables }
 {
     let first = play_ahead(rt, alloc, leader, trays, runner, pieces, outputs);
     for number in first..pieces.count() {
@@ -218,19 +218,19 @@ impl<'t, 'p, 'r, 'a, J: Job, G: Gate> Work<Bare> for AheadWork<'t, 'p, 'r, 'a, J
     fn run<H: Threads + Wait + Sync>(
         &mut self,
         rt: &H,
-        party: &Claimer<'_, Bare>,
+        claimer: &Claimer<'_, Bare>,
         seat: &mut Seat<Bare>,
         claimed: Claimed,
     ) -> u64 {
         let number = claimed.number() as usize;
         if number != self.next || number >= self.pieces.count() {
-            return self.others.run(rt, party, seat, claimed);
+            return self.others.run(rt, claimer, seat, claimed);
         }
         let (alloc, runner) = (self.others.alloc, &mut *self.others.runner);
         run_next(rt, alloc, runner, self.pieces, number, &mut self.outputs);
         self.next = number + 1;
         let finished: Finished<J> = Finished::empty(alloc, number);
-        party.round.finish(seat, claimed, &finished)
+        claimer.round.finish(seat, claimed, &finished)
     }
 
     ghost keeps_same = { λ w x y on same. refl };

@@ -15,7 +15,7 @@ use std::thread::Threads;
 /// What a thread of a lock runs jobs with.
 #[derive(Drop)]
 pub struct Runner<'a, J: Job, G: Gate> {
-    pub slots: &'a <J::Inner as Nest>::ChildSlots,
+    pub child_slots: &'a <J::Inner as Nest>::ChildSlots,
     pub gate: &'a G,
     pub site: JobSite<'a>,
     pub signals: Signals<'a>,
@@ -24,7 +24,7 @@ pub struct Runner<'a, J: Job, G: Gate> {
 impl<'a, J: Job, G: Gate> Runner<'a, J, G> {
     /// What this thread runs jobs with.
     pub fn new(
-        slots: &'a <J::Inner as Nest>::ChildSlots,
+        child_slots: &'a <J::Inner as Nest>::ChildSlots,
         gate: &'a G,
         site: JobSite<'a>,
         signals: Signals<'a>,
@@ -32,7 +32,7 @@ impl<'a, J: Job, G: Gate> Runner<'a, J, G> {
         ensures { result.site ≡ site.entry }
     {
         Runner {
-            slots,
+            child_slots,
             gate,
             site,
             signals,
@@ -50,7 +50,7 @@ impl<'a, J: Job, G: Gate> Runner<'a, J, G> {
         };
         let signals = self.signals.another();
         let context = JobCx {
-            slots: Some(self.slots),
+            child_slots: Some(self.child_slots),
             asks: Asks { signals },
             site,
         };

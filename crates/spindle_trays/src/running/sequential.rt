@@ -1,13 +1,13 @@
-//! The pieces of a round that may stop where the leader alone runs them. Each has a room, a list for its outputs that is empty until the
-//! piece has run. The rooms stay with the leader and no tray is asked, so nothing can be lost there.
+//! The pieces of a round that may stop where the leader alone runs them. Each has a buffer, a list for its outputs that is empty until the
+//! piece has run. The buffers stay with the leader and no tray is asked, so nothing can be lost there.
 ghost use Rattle.std.specs.Prelude.{◌≡◌, ◌↔◌, ◌<◌, ◌≤◌, ℕ, None, true, IfOk, IfSome, IsNone, IsTrue, OnErr, IsErrOf, length};
 ghost use Rattle.std.specs.List.{AllZip, Any};
 ghost use Rattle.std.proofs.Common.{ap, inl, refl, ◌∙◌};
 ghost use Rattle.spindle_trays.specs.PieceRuns.{piece_at};
-ghost use Rattle.spindle_trays.specs.Reports.{AreRooms, IsNoted, IsRoomFor};
+ghost use Rattle.spindle_trays.specs.Reports.{AreBuffers, IsNoted, IsBufferFor};
 ghost use Rattle.spindle_trays.specs.Stops.{HasFailedIn, IsStoppedBy, StopsBy, stops_then};
 ghost use Rattle.spindle_rounds.specs.Leftovers.{IsMarked};
-ghost use Rattle.spindle_threads.specs.Posts.{LastPublished, party_view};
+ghost use Rattle.spindle_threads.specs.Members.{LastPublished, party_view};
 ghost use Rattle.spindle_rounds.specs.RoundSteps.{round_of};
 ghost use Rattle.spindle_rounds.specs.Working.{PlayedRoundOf};
 
@@ -30,55 +30,56 @@ use std::mem;
 use std::sync::Wait;
 use std::thread::Threads;
 
-/// What runs the pieces of the numbers that the leader claims, each in its room. It keeps the number that failed last; as many as there
+/// What runs the pieces of the numbers that the leader claims, each in its buffer. It keeps the number that failed last; as many as there
 /// are pieces stands for none.
 #[derive(Drop)]
 struct SequentialWork<'p, 'r, 'a, J: Job, G: Gate> {
     pieces: &'p ListRuns<J::In>,
     runner: &'r mut Runner<'a, J, G>,
     alloc: Global,
-    rooms: Vec<Vec<J::Out>>,
+    buffers: Vec<Vec<J::Out>>,
     failed: usize,
 }
 
-/// Publishes the pieces for a round that may stop, runs those that it claims in their rooms, and ends the round. Answers the number of
+/// Publishes the pieces for a round that may stop, runs those that it claims in their buffers, and ends the round. Answers the number of
 /// the piece that failed last, or where none has, how many there are.
-pub(crate) fn play_rooms<'a, J: Job, G: Gate, H: Threads + Wait + Sync>(
+pub(crate) fn play_sequential<'a, J: Job, G: Gate, H: Threads + Wait + Sync>(
     rt: &H,
     alloc: Global,
     leader: &mut LeaderMember<'a, Bare>,
     runner: &mut Runner<'a, J, G>,
     pieces: &ListRuns<J::In>,
-    rooms: &mut Vec<Vec<J::Out>>,
+    buffers: &mut Vec<Vec<J::Out>>,
 ) -> usize
     requires counted { (2 ≤ pieces.now.count) × (pieces.now.count ≤ 4294967295) }
-    requires fit { AreRooms J.meets pieces.now.items pieces.now.count 0 rooms.old.items }
-    ensures fit { AreRooms J.meets pieces.now.items pieces.now.count 0 rooms.new.items }
-    ensures failed { HasFailedIn J.fails 0 result rooms.new.items }
+    requires fit { AreBuffers J.meets pieces.now.items pieces.now.count 0 buffers.old.items }
+    ensures fit { AreBuffers J.meets pieces.now.items pieces.now.count 0 buffers.new.items }
+    ensures failed { HasFailedIn J.fails 0 result buffers.new.items }
     ensures stops { IsStoppedBy pieces.now.count result
-        leader.old.post.barrier.seat.me.0 leader.new.post.barrier.seat.me.0 }
+        leader.old.member.barrier.seat.me.0 leader.new.member.barrier.seat.me.0 }
     ensures played { PlayedRoundOf pieces.now.count true
-        leader.old.post.barrier.seat.me.0 leader.new.post.barrier.seat.me.0 }
-    ensures last { LastPublished (round_of (party_view leader.old.post.barrier).standing)
-        pieces.now.count true (party_view leader.new.post.barrier) }
-    ensures tables { leader.new.post.tables ≡ leader.old.post.tables }
+        leader.old.member.barrier.seat.me.0 leader.new.member.barrier.seat.me.0 }
+    ensures last { LastPublished (round_of (party_view leader.old.member.barrier).standing)
+        pieces.now.count true (party_view leader.new.member.barrier) }
+    ensures tables { leader.new.member.tables ≡ leader.old.member.tables }
 {
     let signals = runner.signals.another();
     let work = SequentialWork {
         pieces,
         runner,
         alloc,
-        rooms: mem::replace(rooms, Vec::new(alloc)),
+        buffers: mem::replace(buffers, Vec::new(alloc)),
         failed: pieces.count(),
     };
     let work = leader.lead(rt, signals, pieces.task(true), work);
-    *rooms = work.rooms;
+    *buffers = work.buffers;
     work.failed
 }
 
 impl<'p, 'r, 'a, J: Job, G: Gate> Work<Bare> for SequentialWork<'p, 'r, 'a, J, G> {
-    ghost holds = { λ w hands. AreRooms J.meets w.pieces.now.items w.pieces.now.count 0 w.rooms.items
-        × HasFailedIn J.fails 0 w.failed w.rooms.items };
+    ghost holds = { λ w hands.
+        AreBuffers J.meets w.pieces.now.items w.pieces.now.count 0 w.buffers.items
+        × HasFailedIn J.fails 0 w.failed w.buffers.items };
 
     ghost keeps = { λ v x w y. (w.pieces ≡ v.pieces) × StopsBy v.pieces.now.count v.failed x w.failed y };
 
@@ -86,17 +87,17 @@ impl<'p, 'r, 'a, J: Job, G: Gate> Work<Bare> for SequentialWork<'p, 'r, 'a, J, G
     fn run<H: Threads + Wait + Sync>(
         &mut self,
         rt: &H,
-        party: &Claimer<'_, Bare>,
+        claimer: &Claimer<'_, Bare>,
         seat: &mut Seat<Bare>,
         claimed: Claimed,
     ) -> u64 {
         let number = claimed.number() as usize;
-        let failed = self.run_piece(rt, number) && party.task.may_stop;
+        let failed = self.run_piece(rt, number) && claimer.task.may_stop;
         if failed {
             self.failed = number;
         }
         let finished: Finished<J> = Finished::empty(self.alloc, number);
-        finish(party, seat, claimed, &finished, failed)
+        finish(claimer, seat, claimed, &finished, failed)
     }
 
     ghost keeps_same = { λ w x y on same. (refl, (on.standing, inl (refl, same))) };
@@ -111,61 +112,61 @@ impl<'p, 'r, 'a, J: Job, G: Gate> Work<Bare> for SequentialWork<'p, 'r, 'a, J, G
 impl<'p, 'r, 'a, J: Job, G: Gate> SequentialWork<'p, 'r, 'a, J, G> {
     // Runs the piece of a number, and says whether it failed. A number of no piece runs nothing.
     fn run_piece<H: Threads + Wait + Sync>(&mut self, rt: &H, number: usize) -> bool
-        requires { AreRooms J.meets
-            self.old.pieces.now.items self.old.pieces.now.count 0 self.old.rooms.items }
-        ensures fit { AreRooms J.meets
-            self.new.pieces.now.items self.new.pieces.now.count 0 self.new.rooms.items }
+        requires { AreBuffers J.meets
+            self.old.pieces.now.items self.old.pieces.now.count 0 self.old.buffers.items }
+        ensures fit { AreBuffers J.meets
+            self.new.pieces.now.items self.new.pieces.now.count 0 self.new.buffers.items }
         ensures pieces { (self.new.pieces ≡ self.old.pieces) × (self.new.failed ≡ self.old.failed) }
-        ensures kept { (f : ℕ) → HasFailedIn J.fails 0 f self.old.rooms.items
-            → HasFailedIn J.fails 0 f self.new.rooms.items }
+        ensures kept { (f : ℕ) → HasFailedIn J.fails 0 f self.old.buffers.items
+            → HasFailedIn J.fails 0 f self.new.buffers.items }
         ensures failed { result ≡ true → (number < self.new.pieces.now.count)
-            × HasFailedIn J.fails 0 number self.new.rooms.items }
+            × HasFailedIn J.fails 0 number self.new.buffers.items }
     {
         if number >= self.pieces.count() {
             return false;
         }
         let items = self.pieces.piece(number);
-        let room = &mut self.rooms[number];
-        run_in_room(rt, self.alloc, self.runner, Some(number), items, room);
-        has_failure::<J>(room.as_slice())
+        let buffer = &mut self.buffers[number];
+        run_in_buffer(rt, self.alloc, self.runner, Some(number), items, buffer);
+        has_failure::<J>(buffer.as_slice())
     }
 }
 
-/// A room for each of the pieces, a spare list where there is one.
-pub(crate) fn make_rooms<J: Job>(
+/// A buffer for each of the pieces, a spare list where there is one.
+pub(crate) fn make_buffers<J: Job>(
     alloc: Global,
     pieces: &ListRuns<J::In>,
     spares: &mut SpareLists<J::Out>,
 ) -> Result<Vec<Vec<J::Out>>, Fault>
-    ensures fit { IfOk result (λ rooms. AreRooms J.meets
-        pieces.now.items pieces.now.count 0 rooms.items) }
+    ensures fit { IfOk result (λ buffers. AreBuffers J.meets
+        pieces.now.items pieces.now.count 0 buffers.items) }
     ensures memory { OnErr result (IsErrOf result Fault.Memory) }
 {
-    let mut rooms = Vec::with_capacity(alloc, pieces.count())?;
+    let mut buffers = Vec::with_capacity(alloc, pieces.count())?;
     for number in 0..pieces.count() {
-        let mut room = spares.take(alloc);
-        room.clear();
-        room.reserve(pieces.piece(number).len())?;
-        rooms.push_reserved(room);
+        let mut buffer = spares.take(alloc);
+        buffer.clear();
+        buffer.reserve(pieces.piece(number).len())?;
+        buffers.push_reserved(buffer);
     }
-    Ok(rooms)
+    Ok(buffers)
 }
 
 impl<'a, J: Job, G: Gate> Runner<'a, J, G> {
-    /// Notes what came of the pieces in their rooms, of which some are marked as left. One that isn't, and that hasn't run,
-    /// runs now. The room of the number `failed` has a failure, if there is such a room.
-    pub(crate) fn tally_rooms<H: Threads + Wait + Sync>(
+    /// Notes what came of the pieces in their buffers, of which some are marked as left. One that isn't, and that hasn't run,
+    /// runs now. The buffer of the number `failed` has a failure, if there is such a buffer.
+    pub(crate) fn tally_buffers<H: Threads + Wait + Sync>(
         &mut self,
         rt: &H,
         alloc: Global,
         pieces: &ListRuns<J::In>,
-        mut rooms: Vec<Vec<J::Out>>,
+        mut buffers: Vec<Vec<J::Out>>,
         failed: usize,
         left: &[bool],
         tally: &mut Tally<J::Out>,
     )
-        requires fit { AreRooms J.meets pieces.now.items pieces.now.count 0 rooms.items }
-        requires failed { HasFailedIn J.fails 0 failed rooms.items }
+        requires fit { AreBuffers J.meets pieces.now.items pieces.now.count 0 buffers.items }
+        requires failed { HasFailedIn J.fails 0 failed buffers.items }
         requires unmarked { failed < pieces.now.count → IsMarked left.now failed → ⊥ }
         requires marks { length left.now ≡ pieces.now.count }
         requires fresh { IsNoted J.meets J.fails
@@ -178,58 +179,59 @@ impl<'a, J: Job, G: Gate> Runner<'a, J, G> {
         ensures site { self.new.site ≡ self.old.site }
     {
         for number in 0..pieces.count() {
-            let room = &mut rooms[number];
-            let outputs = self.take_room(rt, alloc, left[number], pieces, number, room);
+            let buffer = &mut buffers[number];
+            let outputs = self.take_buffer(rt, alloc, left[number], pieces, number, buffer);
             tally.note::<J>(pieces, left, number, outputs, number == failed);
         }
     }
 
-    // Takes the outputs of a piece that isn't left out of its room. Where it hasn't run, the leader runs it directly.
-    fn take_room<H: Threads + Wait + Sync>(
+    // Takes the outputs of a piece that isn't left out of its buffer. Where it hasn't run, the leader runs it directly.
+    fn take_buffer<H: Threads + Wait + Sync>(
         &mut self,
         rt: &H,
         alloc: Global,
         is_left: bool,
         pieces: &ListRuns<J::In>,
         number: usize,
-        room: &mut Vec<J::Out>,
+        buffer: &mut Vec<J::Out>,
     ) -> Option<Vec<J::Out>>
         requires number { number < pieces.now.count }
-        requires fits { IsRoomFor J.meets
-            (piece_at pieces.now.items pieces.now.count number) room.old }
+        requires fits { IsBufferFor J.meets
+            (piece_at pieces.now.items pieces.now.count number) buffer.old }
         ensures answers { IfSome result (λ outputs. AllZip J.meets
             (piece_at pieces.now.items pieces.now.count number) outputs.items) }
-        ensures kept { Any J.fails room.old.items → IfSome result (λ outputs. Any J.fails outputs.items) }
+        ensures kept { Any J.fails buffer.old.items
+            → IfSome result (λ outputs. Any J.fails outputs.items) }
         ensures ran { IsNone result ↔ IsTrue is_left }
         ensures site { self.new.site ≡ self.old.site }
     {
         if is_left {
             return None;
         }
-        let mut outputs = mem::replace(room, Vec::new(alloc));
+        let mut outputs = mem::replace(buffer, Vec::new(alloc));
         let items = pieces.piece(number);
-        run_in_room(rt, alloc, self, None, items, &mut outputs);
+        run_in_buffer(rt, alloc, self, None, items, &mut outputs);
         Some(outputs)
     }
 }
 
-// Runs a piece in its room, unless it has run there.
-#[tactic(auto, using(crate::proofs::Rooms::room_answers, crate::proofs::Rooms::room_done))]
-fn run_in_room<J: Job, G: Gate, H: Threads + Wait + Sync>(
+// Runs a piece in its buffer, unless it has run there.
+#[tactic(auto, using(crate::proofs::Buffers::buffer_answers, crate::proofs::Buffers::buffer_done))]
+fn run_in_buffer<J: Job, G: Gate, H: Threads + Wait + Sync>(
     rt: &H,
     alloc: Global,
     runner: &mut Runner<'_, J, G>,
     number: Option<usize>,
     items: &[J::In],
-    room: &mut Vec<J::Out>,
+    buffer: &mut Vec<J::Out>,
 )
-    requires fits { IsRoomFor J.meets items.now room.old }
-    ensures answered { AllZip J.meets items.now room.new.items }
-    ensures kept { Any J.fails room.old.items → Any J.fails room.new.items }
+    requires fits { IsBufferFor J.meets items.now buffer.old }
+    ensures answered { AllZip J.meets items.now buffer.new.items }
+    ensures kept { Any J.fails buffer.old.items → Any J.fails buffer.new.items }
     ensures site { runner.new.site ≡ runner.old.site }
 {
-    if !room.is_empty() {
+    if !buffer.is_empty() {
         return;
     }
-    runner.run(rt, alloc, number, items, room);
+    runner.run(rt, alloc, number, items, buffer);
 }

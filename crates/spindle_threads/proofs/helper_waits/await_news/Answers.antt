@@ -1,7 +1,7 @@
--- Each turn leaves the post as it was, and reads what it has to, until one finds news.
+-- Each turn leaves the member as it was, and reads what it has to, until one finds news.
 use Rattle.std.proofs.Common.{◌≡◌, ℕ, [], ◌∷◌, refl, subst, ◌∙◌, arith}
 use Rattle.spindle_threads.specs.Accounts.{account_of}
-use Rattle.spindle_threads.specs.Posts.{party_view}
+use Rattle.spindle_threads.specs.Members.{party_view}
 use Rattle.spindle_threads.specs.Waits.{LookedAtRequests, patience_of}
 use Rattle.spindle_threads.proofs.Waits.{looked, was_read}
 use Rattle.spindle_threads.proofs.helper_waits.await_news.Goals as goal
@@ -18,10 +18,10 @@ loop-init g c = record {
 
 pub returns-then-is_exit_announced-clause-turns : goal.returns-then-is_exit_announced-clause-turns
 returns-then-is_exit_announced-clause-turns g c = let t = c.loop.invariant.turns in
-    (t.0, account_of c.loop.signals, party_view c.loop.post.barrier, t.1, (c.if-is_exit_announced.ensures.read, refl))
+    (t.0, account_of c.loop.signals, party_view c.loop.member.barrier, t.1, (c.if-is_exit_announced.ensures.read, refl))
 
-pub returns-then-is_exit_announced-clause-post : goal.returns-then-is_exit_announced-clause-post
-returns-then-is_exit_announced-clause-post g c = let i = c.loop.invariant in (i.tables, i.thread)
+pub returns-then-is_exit_announced-clause-member : goal.returns-then-is_exit_announced-clause-member
+returns-then-is_exit_announced-clause-member g c = let i = c.loop.invariant in (i.tables, i.thread)
 
 pub returns-then-is_exit_announced-clause-leader : goal.returns-then-is_exit_announced-clause-leader
 returns-then-is_exit_announced-clause-leader g c = c.loop.invariant.leader
@@ -31,10 +31,10 @@ returns-then-is_exit_announced-clause-seat g c = c.loop.invariant.seat
 
 pub returns-in-Some-task-clause-turns : goal.returns-in-Some-task-clause-turns
 returns-in-Some-task-clause-turns g c = let t = c.loop.invariant.turns in
-    (t.0, account_of c.loop.signals, party_view c.loop.post.barrier, t.1, (c.if-is_exit_announced.ensures.read, c.in-Some-task.ensures.looked))
+    (t.0, account_of c.loop.signals, party_view c.loop.member.barrier, t.1, (c.if-is_exit_announced.ensures.read, c.in-Some-task.ensures.looked))
 
-pub returns-in-Some-task-clause-post : goal.returns-in-Some-task-clause-post
-returns-in-Some-task-clause-post g c = let i = c.loop.invariant in let e = c.task.ensures.post in (e.0 ∙ i.tables, e.1 ∙ i.thread)
+pub returns-in-Some-task-clause-member : goal.returns-in-Some-task-clause-member
+returns-in-Some-task-clause-member g c = let i = c.loop.invariant in let e = c.task.ensures.member in (e.0 ∙ i.tables, e.1 ∙ i.thread)
 
 pub returns-in-Some-task-clause-leader : goal.returns-in-Some-task-clause-leader
 returns-in-Some-task-clause-leader g c = c.task.ensures.leader ∙ c.loop.invariant.leader
@@ -44,21 +44,21 @@ returns-in-Some-task-clause-seat g c = let i = c.loop.invariant.seat in let e = 
 
 pub returns-then-requests_if-gt0-clause-turns : goal.returns-then-requests_if-gt0-clause-turns
 returns-then-requests_if-gt0-clause-turns g c = let i = c.loop.invariant in let t = i.turns in let n = c.requests_if.result in
-    let look = looked c.loop.idle.waited n c.looks_at_requests.result _ _ c.requests_if.ensures.read _ (patience_of c.args.post.now.tables.now)
+    let look = looked c.loop.idle.waited n c.looks_at_requests.result _ _ c.requests_if.ensures.read _ (patience_of c.args.member.now.tables.now)
     i.patience c.looks_at_requests.ensures.late c.requests_if.ensures.unread in let some = c.if-requests_if-gt0.true in (
       t.0,
       account_of c.loop.signals,
-      party_view c.loop.post.barrier,
+      party_view c.loop.member.barrier,
       t.1,
       (account_of c.is_exit_announced.new.self, n, c.if-is_exit_announced.ensures.read, c.in_default.ensures.looked, some, was_read _ n _ _ some look),
     )
 
 pub loop-preserved : goal.loop-preserved
 loop-preserved g c = let i = c.loop.invariant in let e = c.task.ensures in let n = c.requests_if.result in let none : n ≡ 0 = omega arith in
-    let look = looked c.loop.idle.waited n c.looks_at_requests.result _ _ c.requests_if.ensures.read _ (patience_of c.args.post.now.tables.now)
+    let look = looked c.loop.idle.waited n c.looks_at_requests.result _ _ c.requests_if.ensures.read _ (patience_of c.args.member.now.tables.now)
     i.patience c.looks_at_requests.ensures.late c.requests_if.ensures.unread in record {
-      tables = e.post.0 ∙ i.tables;
-      thread = e.post.1 ∙ i.thread;
+      tables = e.member.0 ∙ i.tables;
+      thread = e.member.1 ∙ i.thread;
       leader = e.leader ∙ i.leader;
       seat = (e.seat.0 ∙ i.seat.0, e.seat.1 ∙ i.seat.1);
       patience = c.pass.ensures ∙ i.patience;
@@ -68,12 +68,12 @@ loop-preserved g c = let i = c.loop.invariant in let e = c.task.ensures in let n
           account_of c.loop.signals,
           account_of c.is_exit_announced.new.self,
           account_of c.requests_if.new.self,
-          party_view c.loop.post.barrier,
+          party_view c.loop.member.barrier,
           i.turns.1,
           c.if-is_exit_announced.ensures.read,
           c.in_default.ensures.looked,
           subst
-              (λ (z : ℕ). LookedAtRequests (patience_of c.args.post.now.tables.now) (account_of c.is_exit_announced.new.self) z
+              (λ (z : ℕ). LookedAtRequests (patience_of c.args.member.now.tables.now) (account_of c.is_exit_announced.new.self) z
               (account_of c.requests_if.new.self)) none look,
           c.is_rest_announced.ensures.read,
         ),

@@ -5,7 +5,7 @@ use Rattle.spindle_rounds.specs.RoundSteps.{publishing, round_of}
 use Rattle.spindle_rounds.specs.RoundShown.{Showed}
 use Rattle.spindle_rounds.specs.RoundViews.{shown_of, stopped_of, stops_of}
 use Rattle.spindle_rounds.proofs.RoundClients.{filled_round, round_published}
-use Rattle.spindle_threads.specs.Posts.{LastPublished}
+use Rattle.spindle_threads.specs.Members.{LastPublished}
 use Rattle.spindle_threads.proofs.publish_and_end.publish.Goals as goal
 
 -- the seat that the barrier lends is its own, at the fill and at the publish

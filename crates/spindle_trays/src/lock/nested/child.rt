@@ -1,7 +1,7 @@
 //! A lock that a job opened, as it stands in a child slot of the outer lock.
 ghost use Rattle.std.specs.Prelude.{◌≡◌, ◌<◌, IfOk, OnErr, IsErrOf, All};
 ghost use Rattle.std.specs.Arc.{arc_value};
-ghost use Rattle.spindle_threads.specs.Benches.{IsBenchAt};
+ghost use Rattle.spindle_threads.specs.SpareSeats.{AreSpareSeatsAt};
 ghost use Rattle.spindle_threads.specs.Opening.{AreSeatsAt};
 ghost use denote.Param.Send.{IsSync};
 
@@ -31,7 +31,7 @@ pub struct Nested<K: Job> {
     pub(crate) tables: Tables<Bare>,
     workspace: Workspace<K>,
     spare_seats: Vec<SpareSeats<Bare>>,
-    ghost seated: { All (IsBenchAt tables) spare_seats.items },
+    ghost seated: { All (AreSpareSeatsAt tables) spare_seats.items },
 }
 
 /// A lock that stands in a child slot, whatever its kind: idle helpers of the outer lock may live in it.
@@ -41,7 +41,7 @@ pub trait TakesHelpers {
         requires { IsSync H.row };
 }
 
-/// Lives as a helper of a nested lock, with seats that rest on one of its benches; where none do, that life ends at once.
+/// Lives as a helper of a nested lock, with spare seats of it; where it has none, that life ends at once.
 pub fn help_from<D: SlotContents, J: Job, L: TakesPart<J, D>, H: Threads + Wait + Sync>(
     rt: &H,
     alloc: Global,
@@ -50,7 +50,7 @@ pub fn help_from<D: SlotContents, J: Job, L: TakesPart<J, D>, H: Threads + Wait 
     spare_seats: &[SpareSeats<D>],
 )
     requires sync { IsSync H.row }
-    requires spare_seats { All (IsBenchAt tables.now) spare_seats.now }
+    requires spare_seats { All (AreSpareSeatsAt tables.now) spare_seats.now }
 {
     let gate = NoGate;
     for spare in spare_seats {
@@ -102,8 +102,8 @@ impl<K: Job> Child<Nested<K>> {
     {
         let workspace = <K as Opens<Workspace<K>>>::open(alloc, counts.threads())?;
         let (round, seat) = Round::new(alloc, counts.threads())?;
-        let slots = K::Inner::slot_count(counts.threads());
-        let (tables, mut seats) = Tables::new(alloc, counts, idling, slots, round, seat)?;
+        let child_slots = K::Inner::slot_count(counts.threads());
+        let (tables, mut seats) = Tables::new(alloc, counts, idling, child_slots, round, seat)?;
         let spare_seats = tables.spare_seats(alloc, &mut seats)?;
         let shared = Arc::new(
             alloc,
@@ -155,9 +155,9 @@ impl<K: Job> Nest for Under<K> {
     fn serve<H: Threads + Wait + Sync>(
         rt: &H,
         alloc: Global,
-        slots: &Vec<ChildSlot<Nested<K>>>,
+        child_slots: &Vec<ChildSlot<Nested<K>>>,
         signals: &mut Signals<'_>,
     ) {
-        serve_slots(rt, alloc, slots, signals);
+        serve_slots(rt, alloc, child_slots, signals);
     }
 }

@@ -25,7 +25,7 @@ pub type ChildSlot<N> = CachePadded<AtomicArc<Child<N>>>;
 
 /// A child slot in which a lock stands, with the helpers that were asked for. It can't be dropped, but closed.
 pub struct ChildLease<'a, N> {
-    offered: OpenPlaces<'a>,
+    open_places: OpenPlaces<'a>,
     slot: &'a AtomicArc<Child<N>>,
 }
 
@@ -34,28 +34,28 @@ impl<'a, N: Drop> ChildLease<'a, N> {
     /// nothing is asked for any more.
     pub fn take<H: Wait>(
         rt: &H,
-        slots: &'a Vec<ChildSlot<N>>,
+        child_slots: &'a Vec<ChildSlot<N>>,
         child: &Child<N>,
-        asked: HelperRequest<'a>,
+        request: HelperRequest<'a>,
         sleep: &Sleep,
     ) -> Option<ChildLease<'a, N>> {
-        let Some(slot) = find_slot(slots, child, asked.slots()) else {
-            drop(asked.withdraw());
+        let Some(slot) = find_slot(child_slots, child, request.child_slots()) else {
+            drop(request.withdraw());
             return None;
         };
-        let offered = asked.install(slot);
+        let open_places = request.install(slot);
         sleep.wake(rt);
         Some(ChildLease {
-            offered,
-            slot: &slots[slot],
+            open_places,
+            slot: &child_slots[slot],
         })
     }
 
     /// Closes the places that nobody took, once the lock's leader has told its helpers to end.
     pub(crate) fn close<T: Leads>(self, dismissed: Dismissed<T>) -> Closed<'a, T, N> {
-        let ChildLease { offered, slot } = self;
+        let ChildLease { open_places, slot } = self;
         let Dismissed { leader } = dismissed;
-        drop(offered.close());
+        drop(open_places.close());
         Closed { leader, slot }
     }
 }
@@ -65,12 +65,12 @@ impl<'a, N: Drop> ChildLease<'a, N> {
 // A lock of t threads has t slots, and so there is one: at most t - i threads look at slot i or have a lock there or behind it, since
 // a thread looks past slot i only while another thread's lock stands there, and has one lock in these slots at most. No type says so,
 // and a share may be refused too: None stands for both.
-fn find_slot<N: Drop>(slots: &Vec<ChildSlot<N>>, child: &Child<N>, places: usize) -> Option<usize>
-    ensures { IfSome result (λ slot. (slot < vec_len slots.now) × (slot < places)) }
+fn find_slot<N: Drop>(child_slots: &Vec<ChildSlot<N>>, child: &Child<N>, places: usize) -> Option<usize>
+    ensures { IfSome result (λ slot. (slot < vec_len child_slots.now) × (slot < places)) }
 {
     let mut share = child.again()?;
-    for number in 0..slots.len().min(places) {
-        share = match slots[number].compare_exchange_null(share) {
+    for number in 0..child_slots.len().min(places) {
+        share = match child_slots[number].compare_exchange_null(share) {
             Ok(()) => return Some(number),
             Err(back) => back,
         };
@@ -82,11 +82,11 @@ fn find_slot<N: Drop>(slots: &Vec<ChildSlot<N>>, child: &Child<N>, places: usize
 pub fn make_slots<N>(alloc: Global, threads: usize) -> Result<Vec<ChildSlot<N>>, Fault>
     ensures { OnErr result (IsErrOf result Fault.Memory) }
 {
-    let mut slots = Vec::with_capacity(alloc, threads)?;
+    let mut child_slots = Vec::with_capacity(alloc, threads)?;
     for _ in 0..threads {
-        slots.push_reserved(CachePadded::new(AtomicArc::null(&())));
+        child_slots.push_reserved(CachePadded::new(AtomicArc::null(&())));
     }
-    Ok(slots)
+    Ok(child_slots)
 }
 
 /// A helper's walk over the slots, from the first to the last: where it gets a place it lives as a helper of the lock that stands
@@ -94,14 +94,14 @@ pub fn make_slots<N>(alloc: Global, threads: usize) -> Result<Vec<ChildSlot<N>>,
 pub fn serve_slots<N: TakesHelpers, H: Threads + Wait + Sync>(
     rt: &H,
     alloc: Global,
-    slots: &Vec<ChildSlot<N>>,
+    child_slots: &Vec<ChildSlot<N>>,
     signals: &mut Signals<'_>,
 )
     requires { IsSync H.row }
     ensures { IsSameThread signals.old signals.new }
 {
-    for number in 0..slots.len().min(signals.slots()) {
-        serve_slot(rt, alloc, &slots[number], number, signals);
+    for number in 0..child_slots.len().min(signals.child_slots()) {
+        serve_slot(rt, alloc, &child_slots[number], number, signals);
     }
 }
 
@@ -114,7 +114,7 @@ fn serve_slot<N: TakesHelpers, H: Threads + Wait + Sync>(
     signals: &mut Signals<'_>,
 )
     requires sync { IsSync H.row }
-    requires slot { number < signals.old.slots }
+    requires slot { number < signals.old.child_slots }
     ensures { IsSameThread signals.old signals.new }
 {
     let Some(guard) = slot.load() else {

@@ -2,8 +2,8 @@
 ghost use Rattle.std.specs.Prelude.{◌≡◌, ◌<◌, ◌≤◌, IfOk, IfErr, OnErr, IsErrOf, vec_len, ◌⊎◌};
 ghost use Rattle.std.specs.List.{AllZip};
 ghost use Rattle.spindle_parts.specs.Pieces.{counted};
-ghost use Rattle.spindle_trays.specs.Leaders.{hands_of, threads_of};
-ghost use Rattle.spindle_trays.specs.Locks.{hands_in, nested_hands};
+ghost use Rattle.spindle_trays.specs.Leaders.{workers_of, threads_of};
+ghost use Rattle.spindle_trays.specs.Locks.{workers_in, nested_workers};
 ghost use Rattle.spindle_trays.specs.Rounds.{job_count, IsRefusal};
 ghost use Rattle.std.specs.Fn.{FnOnceReturnsAtMut};
 ghost use Rattle.std.specs.Arc.{arc_value};
@@ -42,7 +42,7 @@ impl<'a, K: Job> JobCx<'a, Under<K>> {
         requires jobs { 0 < vec_len items → 0 < n_jobs }
         ensures answer { IfOk result (λ outputs. AllZip K.meets items.items outputs.items) }
         ensures refused { let jobs = job_count (vec_len items) n_jobs in
-            IfErr result (IsRefusal (hands_in self.old jobs) jobs) }
+            IfErr result (IsRefusal (workers_in self.old jobs) jobs) }
         ensures same { self.new ≡ self.old }
     {
         if items.is_empty() {
@@ -60,7 +60,7 @@ impl<'a, K: Job> JobCx<'a, Under<K>> {
                 requires jobs { 0 < vec_len items → 0 < n_jobs }
                 ensures answer { IfOk result (λ outputs. AllZip K.meets items.items outputs.items) }
                 ensures refused { IfErr result
-                    (IsRefusal (hands_of leader.old) (job_count (vec_len items) n_jobs)) }
+                    (IsRefusal (workers_of leader.old) (job_count (vec_len items) n_jobs)) }
             { leader.for_each(rt, alloc, n_jobs, items) },
         )?
     }
@@ -99,17 +99,18 @@ impl<'a, K: Job> JobCx<'a, Under<K>> {
         requires callable { F.IsAlwaysCallable f }
         ensures promise { IfOk result (λ r. (old : _) × (new : _)
             × (threads_of old ≡ lock_threads self.old.pool max_threads)
-            × ((hands_of old ≡ 1) ⊎ (hands_of old ≡ nested_hands self.old.has_slots (threads_of old)))
+            × ((workers_of old ≡ 1)
+            ⊎ (workers_of old ≡ nested_workers self.old.has_slots (threads_of old)))
             × FnOnceReturnsAtMut F.FnOnce f old r new) }
         ensures memory { OnErr result (IsErrOf result Fault.Memory) }
         ensures same { self.new ≡ self.old }
     {
         let counts = self.counts_for(max_threads);
         let sleep = self.site.sleep;
-        if let Some(slots) = child_slots_for(self, counts) {
+        if let Some(child_slots) = child_slots_for(self, counts) {
             let (child, seats) = Child::open(alloc, counts, sleep.idling())?;
-            let asked = self.asks.ask(child.tables());
-            if let Some(child_lease) = ChildLease::take(rt, slots, &child, asked, sleep) {
+            let request = self.asks.ask(child.tables());
+            if let Some(child_lease) = ChildLease::take(rt, child_slots, &child, request, sleep) {
                 let mut leader = take_lead(rt, &child, &NoGate, seats);
                 let answer = f(&mut leader);
                 close(rt, leader, child_lease);
@@ -132,7 +133,7 @@ impl<'a, K: Job<In = usize>> JobCx<'a, Under<K>> {
     ) -> Result<Vec<K::Out>, Fault>
         ensures answer { IfOk result (λ outputs. AllZip K.meets (counted 0 n_jobs) outputs.items) }
         ensures refused { let jobs = job_count n_jobs n_jobs in
-            IfErr result (IsRefusal (hands_in self.old jobs) jobs) }
+            IfErr result (IsRefusal (workers_in self.old jobs) jobs) }
         ensures same { self.new ≡ self.old }
     {
         if n_jobs == 0 {
@@ -151,15 +152,15 @@ fn take_lead<'b, K: Opens<L>, L, H: Wait>(
 ) -> Leader<'b, K, NoGate, L>
     requires { AreSeatsAt (arc_value child.now.shared).tables seats }
     ensures threads { threads_of result ≡ (arc_value child.now.shared).tables.counts.most }
-    ensures hands { hands_of result ≡ (arc_value child.now.shared).tables.counts.threads }
+    ensures workers { workers_of result ≡ (arc_value child.now.shared).tables.counts.threads }
 {
     let workspace = K::inner(child);
-    let (post, runner) = join_as_leader::<Bare, K, NoGate, L, H>(
+    let (member, runner) = join_as_leader::<Bare, K, NoGate, L, H>(
         rt,
         child.tables(),
         workspace,
         gate,
         seats,
     );
-    Leader::new(workspace, runner, post)
+    Leader::new(workspace, runner, member)
 }

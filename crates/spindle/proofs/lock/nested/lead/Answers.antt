@@ -6,7 +6,7 @@ use Rattle.spindle.proofs.lock.nested.lead.Goals as goal
 
 pub f-answer-requires : goal.f-answer-requires
 f-answer-requires g c = c.requires.callable c.new-leader.result
-    (ap g.J.OpensSlots.slot_count c.new-leader.ensures.post ∙ (c.settle.ensures _ refl ∙ c.new.ensures)) _ refl
+    (ap g.J.OpensSlots.slot_count c.new-leader.ensures.state ∙ (c.settle.ensures _ refl ∙ c.new.ensures)) _ refl
 
 pub returns : goal.returns
 unfolding WasLed
@@ -15,9 +15,9 @@ returns g c = (
   _,
   (
     c.new-leader.ensures.threads
-        ∙ (ap (λ (k : ThreadCounts). k.most) c.join_as_leader-post.ensures.counts
+        ∙ (ap (λ (k : ThreadCounts). k.most) c.join_as_leader-member.ensures.counts
         ∙ ap (λ t. t.counts.most) (c.deref-2.ensures ∙ (ap (λ n. n.tables.value) c.deref.ensures ∙ sym c.requires.share))),
-    ap g.J.OpensSlots.slot_count c.new-leader.ensures.post ∙ (c.settle.ensures _ refl ∙ c.new.ensures),
+    ap g.J.OpensSlots.slot_count c.new-leader.ensures.state ∙ (c.settle.ensures _ refl ∙ c.new.ensures),
   ),
   record { shown = _; shows = refl; left = _; met = c.f-answer.ensures; leaves = refl },
 )

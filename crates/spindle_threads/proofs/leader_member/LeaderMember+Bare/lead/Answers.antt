@@ -9,7 +9,7 @@ use Rattle.spindle_rounds.specs.declared.round_table.view.Standing.TheVariants.{
 use Rattle.spindle_rounds.specs.declared.round_table.view.View.{View}
 use Rattle.spindle_rounds.proofs.BarrierClients.{moved_deeds}
 use Rattle.spindle_rounds.proofs.Workers.{played_after}
-use Rattle.spindle_threads.specs.Posts.{LastPublished}
+use Rattle.spindle_threads.specs.Members.{LastPublished}
 use Rattle.spindle_threads.proofs.leader_member.LeaderMember+Bare.lead.Goals as goal
 
 -- what a leader published stays what it published last, through its work in the round and the round's end
@@ -21,7 +21,7 @@ last_after q n may_stop v u w last on next =
 
 pub returns-clause-played : goal.returns-clause-played
 returns-clause-played g c = let w = c.work-work.ensures in
-    played_after c.args.task.jobs c.args.task.may_stop c.args.self.now.post.barrier.seat.me.0 c.publish.new.barrier.seat.me.0 c.work-work.new.seat.me
+    played_after c.args.task.jobs c.args.task.may_stop c.args.self.now.member.barrier.seat.me.0 c.publish.new.barrier.seat.me.0 c.work-work.new.seat.me
     c.end_round.new.barrier.seat.me c.publish.ensures.published (rw c.seat.ensures.value at w.went.on) w.idle c.end_round.ensures.next
 
 pub returns-clause-keeps : goal.returns-clause-keeps

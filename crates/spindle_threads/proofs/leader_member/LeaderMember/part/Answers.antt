@@ -1,4 +1,4 @@
--- The leader stands where its post stood.
+-- The leader stands where it stood as a member.
 use Rattle.std.proofs.Common.{◌%◌, ap, sym, subst, ◌∙◌}
 use Rattle.spindle_rounds.specs.declared.round_table.view.Standing.TheVariants.{Inside}
 use Rattle.spindle_rounds.specs.RoundSteps.{round_of}
@@ -6,7 +6,7 @@ use Rattle.spindle_rounds.specs.Working.{IsIdle}
 use Rattle.spindle_threads.proofs.leader_member.LeaderMember.part.Goals as goal
 
 pub returns-clause-stands : goal.returns-clause-stands
-returns-clause-stands g c = let p = c.args.self.post in let q = c.part.ensures in let u = ap (λ z. z.me.0.standing) q.seat in (
+returns-clause-stands g c = let p = c.args.self.member in let q = c.part.ensures in let u = ap (λ z. z.me.0.standing) q.seat in (
   ap (λ z. z.table_id) q.seat ∙ p.seated,
   ap (λ z. z.me.0.threads) q.seat ∙ p.sized,
   ap (λ z. z.me.0.leader) q.seat ∙ c.args.self.leads,

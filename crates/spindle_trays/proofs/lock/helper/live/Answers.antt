@@ -1,7 +1,7 @@
 -- Neither waiting nor a round changes the helper's seat, its number and its lock.
 use Rattle.std.proofs.Common.{ℕ, refl, ap, subst, ◌∙◌}
 use Rattle.spindle_threads.specs.Helpers.{IsHelperAt}
-use Rattle.spindle_threads.specs.Posts.{IsOut}
+use Rattle.spindle_threads.specs.Members.{IsOut}
 use Rattle.spindle_trays.proofs.lock.helper.live.Goals as goal
 
 pub loop-init : goal.loop-init
@@ -10,16 +10,16 @@ loop-init g c = record { helper = c.requires; tables = refl; thread = refl; seat
 pub follow-now-requires-clause-helper : goal.follow-now-requires-clause-helper
 follow-now-requires-clause-helper g c κs within = c.await_news-news.ensures.leader ∙ c.loop.invariant.helper
 
-pub return_to_post-post-requires-clause-at : goal.return_to_post-post-requires-clause-at
-return_to_post-post-requires-clause-at g c κs within = let i = c.loop.invariant in let a = c.await_news-news.ensures.post in
-    subst (λ t. IsHelperAt t c.args.post.thread c.follow-now.result) (ap (λ t. t.now) a.0 ∙ i.tables)
-    (subst (λ (n : ℕ). IsHelperAt c.await_news-news.new.post.tables.now n c.follow-now.result) (a.1 ∙ i.thread) c.follow-now.ensures.at)
+pub rejoin-member-requires-clause-at : goal.rejoin-member-requires-clause-at
+rejoin-member-requires-clause-at g c κs within = let i = c.loop.invariant in let a = c.await_news-news.ensures.member in
+    subst (λ t. IsHelperAt t c.args.member.thread c.follow-now.result) (ap (λ t. t.now) a.0 ∙ i.tables)
+    (subst (λ (n : ℕ). IsHelperAt c.await_news-news.new.member.tables.now n c.follow-now.result) (a.1 ∙ i.thread) c.follow-now.ensures.at)
 
-pub return_to_post-post-requires-clause-thread : goal.return_to_post-post-requires-clause-thread
-return_to_post-post-requires-clause-thread g c κs within = c.args.post.numbered
+pub rejoin-member-requires-clause-thread : goal.rejoin-member-requires-clause-thread
+rejoin-member-requires-clause-thread g c κs within = c.args.member.numbered
 
 pub loop-preserved : goal.loop-preserved
-loop-preserved g c = let e = c.return_to_post-post.ensures in let f = c.follow-now.ensures.seat in let a = c.await_news-news.ensures.seat in
+loop-preserved g c = let e = c.rejoin-member.ensures in let f = c.follow-now.ensures.seat in let a = c.await_news-news.ensures.seat in
     let i = c.loop.invariant.seat in record {
       helper = e.leader;
       tables = e.tables;
@@ -29,7 +29,7 @@ loop-preserved g c = let e = c.return_to_post-post.ensures in let f = c.follow-n
 
 pub returns-in-Exit-clause-out : goal.returns-in-Exit-clause-out
 returns-in-Exit-clause-out g c =
-    let same = ap (λ t. t.now) c.await_news-news.ensures.post.0 ∙ c.loop.invariant.tables in
+    let same = ap (λ t. t.now) c.await_news-news.ensures.member.0 ∙ c.loop.invariant.tables in
     subst (λ t. IsOut t c.leave.result) same c.leave.ensures.out
 
 pub returns-in-Exit-clause-leader : goal.returns-in-Exit-clause-leader

@@ -1,4 +1,4 @@
--- One more place's outputs stand in the room, and it is empty.
+-- One more place's outputs stand in the list, and it is empty.
 use Rattle.std.proofs.Common.{◌≡◌, ◌<◌, ◌++◌, length, None, ◌∙◌, rules, arith}
 use Rattle.spindle_trays.proofs.Places.{outputs_more, nothing_more, outputs_fit, found_there, set-emptied}
 use Rattle.spindle_trays.proofs.pieces.gathering.move_outputs.Goals as goal
@@ -10,7 +10,7 @@ unwrap-requires g c =
     let places = c.args.places.now.items in
     let k = c.loop-k.k in
     let d = c.index_mut.result.now in
-    let room = c.loop-k.room.items in
+    let room = c.loop-k.outputs.items in
     let h : k < length places = search rules in
     let here = found_there places c.loop-k.places.items k d c.take.result c.loop-k.invariant.emptied h c.index_mut.ensures.value c.take.ensures.value in
     let more = outputs_more R places k d c.in-Some.finished room c.into_outputs.result.items h
@@ -24,20 +24,20 @@ loop-k-preserved g c =
     let places = c.args.places.now.items in
     let k = c.loop-k.k in
     let d = c.index_mut.result.now in
-    let room = c.loop-k.room.items in
+    let room = c.loop-k.outputs.items in
     let h : k < length places = search rules in
     let here = found_there places c.loop-k.places.items k d c.take.result c.loop-k.invariant.emptied h c.index_mut.ensures.value c.take.ensures.value in
     record {
       answers = elim c.match-take.branch [
         | in-Some w ↦
-            let e : c.match-take.room.items ≡ room ++ w.into_outputs.result.items = search rules in
+            let e : c.match-take.outputs.items ≡ room ++ w.into_outputs.result.items = search rules in
             rw e (outputs_more R places k d w.in-Some.finished room w.into_outputs.result.items h
             (here ∙ w.in-Some.is) c.loop-k.invariant.answers w.into_outputs.ensures.answers)
-        | in_default w ↦ rw w.room-is (nothing_more R places k d room h (here ∙ w.in_default.is) c.loop-k.invariant.answers)
+        | in_default w ↦ rw w.outputs-is (nothing_more R places k d room h (here ∙ w.in_default.is) c.loop-k.invariant.answers)
       ];
       emptied = rw (c.take.ensures.after, c.loop-k.invariant.emptied) (set-emptied None k places h);
       space = elim c.match-take.branch [
-        | in-Some w ↦ rw w.room-is (omega (arith, c.loop-k.invariant.space, w.append.ensures.capacity))
-        | in_default w ↦ rw w.room-is c.loop-k.invariant.space
+        | in-Some w ↦ rw w.outputs-is (omega (arith, c.loop-k.invariant.space, w.append.ensures.capacity))
+        | in_default w ↦ rw w.outputs-is c.loop-k.invariant.space
       ];
     }

@@ -1,4 +1,4 @@
--- So far the outputs of the first places stand in the room, and these places are empty.
+-- So far the outputs of the first places stand in the list, and these places are empty.
 use Rattle.std.proofs.Common.{◌≡◌, ◌++◌, ◌≤◌, replicate, take, drop, None, vec_capacity, length}
 use Rattle.std.specs.List.{AllZip}
 use Rattle.spindle_trays.specs.Outputs.{all_inputs_in}
@@ -6,7 +6,7 @@ use Rattle.spindle_trays.proofs.pieces.gathering.move_outputs.Given as goal
 
 abbrev pub invariant-loop-k : goal.invariant-loop-k
 invariant-loop-k g l = record {
-  answers : AllZip g.J.Job.meets (all_inputs_in (take l.k l.initial.places.items)) l.room.items;
+  answers : AllZip g.J.Job.meets (all_inputs_in (take l.k l.initial.places.items)) l.outputs.items;
   emptied : l.places.items ≡ replicate l.k None ++ drop l.k l.initial.places.items;
-  space : length (all_inputs_in l.initial.places.items) ≤ vec_capacity l.room;
+  space : length (all_inputs_in l.initial.places.items) ≤ vec_capacity l.outputs;
 }

@@ -4,6 +4,6 @@ use Rattle.spindle_rounds.specs.Working.{PlayedRound, PlayedRoundOf}
 use Rattle.spindle_trays.proofs.running.in_trays.play_ahead.Goals as goal
 
 pub returns-clause-played : goal.returns-clause-played
-returns-clause-played g c = let old = c.args.leader.now.post.barrier.seat.me.0 in let new = c.lead-work.new.self.post.barrier.seat.me.0 in
+returns-clause-played g c = let old = c.args.leader.now.member.barrier.seat.me.0 in let new = c.lead-work.new.self.member.barrier.seat.me.0 in
     let task = c.task.ensures in subst (λ (n : ℕ). PlayedRound n old new) task.jobs
     (subst (λ (b : Bool). PlayedRoundOf c.task.result.jobs b old new) task.may_stop c.lead-work.ensures.played)

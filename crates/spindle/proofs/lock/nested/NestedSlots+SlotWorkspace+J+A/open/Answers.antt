@@ -1,14 +1,14 @@
--- The tables were made for these threads with these slots, and its seats and benches stand at the tables that are shared.
+-- The tables were made for these threads with these slots, and its seats and spare seats stand at the tables that are shared.
 use Rattle.std.proofs.Common.{All, ap, sym, subst, ◌∙◌}
 use Rattle.std.specs.Arc.{arc_value}
 use Rattle.spindle_rounds.specs.Seating.{slots_of}
-use Rattle.spindle_threads.specs.Benches.{IsBenchAt}
+use Rattle.spindle_threads.specs.SpareSeats.{AreSpareSeatsAt}
 use Rattle.spindle_threads.specs.Opening.{AreSeatsAt}
 use Rattle.spindle.proofs.lock.nested.NestedSlots+SlotWorkspace+J+A.open.Goals as goal
 
 pub invariant_of-nested : goal.invariant_of-nested
 invariant_of-nested g c = record {
-  seated = subst (λ t. All (IsBenchAt t) c.in_ok-spare_seats.spare_seats.items) (sym c.in_ok-tables-2.ensures.ok) c.in_ok-spare_seats.ensures.spare_seats;
+  seated = subst (λ t. All (AreSpareSeatsAt t) c.in_ok-spare_seats.spare_seats.items) (sym c.in_ok-tables-2.ensures.ok) c.in_ok-spare_seats.ensures.spare_seats;
 }
 
 pub invariant_of-share : goal.invariant_of-share
@@ -17,8 +17,8 @@ invariant_of-share g c = record {
   few = c.requires.slots;
 }
 
-pub invariant_of-entry : goal.invariant_of-entry
-invariant_of-entry g c = record {
+pub invariant_of-leader_start : goal.invariant_of-leader_start
+invariant_of-leader_start g c = record {
   seated = subst (λ t. AreSeatsAt t c.spare_seats.new.seats) (sym (c.in_ok-shared_tables.ensures ∙ c.in_ok-tables-2.ensures.ok)) c.spare_seats.ensures.seats;
 }
 

@@ -18,7 +18,7 @@ loop-done-init g c = let few = c.requires.jobs in let old = c.args.items.now in 
       chunks = ready.none;
       room = ready.places;
       chunked = omega (arith, ap length ready.none, c.args.self.now.chunks.ok.0);
-      rooms = ready.rooms;
+      buffers = ready.buffers;
       ready = omega (arith, ready.many, c.args.self.now.ready.ok.0);
     }
 
@@ -26,8 +26,8 @@ pub load-requires-clause-room : goal.load-requires-clause-room
 load-requires-clause-room g c = let i = c.loop-done.invariant in let n : ℕ = c.args.jobs in let k : ℕ = c.loop-done.done in
     let len : ℕ = vec_len c.args.items.now in let m : ℕ = n - 1 - k in let next : n - k ≡ m + 1 = omega arith in
     let long : c.len-len.result ≡ len = omega arith in
-    let less = room_less (len / n + 1) c.take_last-room.new.self.items c.take_last-room.result
-    (subst (HaveRoom (len / n + 1)) c.take_last-room.ensures.items i.rooms) in
+    let less = room_less (len / n + 1) c.take_last-buffer.new.self.items c.take_last-buffer.result
+    (subst (HaveRoom (len / n + 1)) c.take_last-buffer.ensures.items i.buffers) in
     let from = c.start-from.ensures.start ∙ ap (λ (l : ℕ). piece_start l n m) long in
     omega (arith, less.1, i.len ∙ ap (λ (j : ℕ). piece_start len n j) next, from, piece_short len n m)
 
@@ -39,8 +39,8 @@ loop-done-preserved g c = let i = c.loop-done.invariant in let old = c.args.item
     let f : ℕ = c.start-from.result in let from : f ≡ piece_start len n m = c.start-from.ensures.start ∙ ap (λ (l : ℕ). piece_start l n m) long in
     let same : len ≡ length old.items = old.ok.0 in let at : f ≡ piece_start (length old.items) n m = from ∙ ap (λ (l : ℕ). piece_start l n m) same in
     let was : c.loop-done.items.items ≡ items_before old.items n (m + 1) = i.items ∙ ap (λ (j : ℕ). items_before old.items n j) next in
-    let less = room_less (len / n + 1) c.take_last-room.new.self.items c.take_last-room.result
-    (subst (HaveRoom (len / n + 1)) c.take_last-room.ensures.items i.rooms) in
+    let less = room_less (len / n + 1) c.take_last-buffer.new.self.items c.take_last-buffer.result
+    (subst (HaveRoom (len / n + 1)) c.take_last-buffer.ensures.items i.buffers) in
     let up : piece_start (length old.items) n m ≤ piece_start (length old.items) n (m + 1) = omega arith in
     let one : suc k ≡ k + 1 = omega arith in let last : n - suc k ≡ m = omega arith in record {
       items = c.load.ensures.left ∙ (ap (take f) was ∙ (ap (λ (j : ℕ). take j (items_before old.items n (m + 1))) at
@@ -53,12 +53,12 @@ loop-done-preserved g c = let i = c.loop-done.invariant in let old = c.args.item
           ∙ ap (piece_at old.items n) (sym last))))) ∙ ap (last_pieces old.items n) one));
       room = omega (arith, c.push_reserved.ensures.capacity, i.room);
       chunked = omega (arith, c.push_reserved.ensures.len, i.chunked);
-      rooms = less.0;
-      ready = omega (arith, c.take_last-room.ensures.len, i.ready);
+      buffers = less.0;
+      ready = omega (arith, c.take_last-buffer.ensures.len, i.ready);
     }
 
-pub take_last-room-requires : goal.take_last-room-requires
-take_last-room-requires g c = some_ready _ _ _ c.loop-done.invariant.ready c.loop-done-test.true
+pub take_last-buffer-requires : goal.take_last-buffer-requires
+take_last-buffer-requires g c = some_ready _ _ _ c.loop-done.invariant.ready c.loop-done-test.true
 
 pub load-requires-clause-from : goal.load-requires-clause-from
 load-requires-clause-from g c = start_before _ _ _ _ _ _ c.len-len.ensures c.loop-done-test.true c.start-from.ensures.start c.loop-done.invariant.len

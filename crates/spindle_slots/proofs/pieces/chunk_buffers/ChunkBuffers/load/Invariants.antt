@@ -12,6 +12,6 @@ invariant-loop-done g l = let old = l.fn.items in record {
   chunks : l.self.chunks.items ≡ last_pieces old.items l.jobs l.done;
   room : l.jobs ≤ vec_capacity l.self.chunks;
   chunked : vec_len l.self.chunks ≡ l.done;
-  rooms : HaveRoom (vec_len old / l.jobs + 1) l.self.ready.items;
+  buffers : HaveRoom (vec_len old / l.jobs + 1) l.self.ready.items;
   ready : vec_len l.self.ready + l.done ≡ l.jobs;
 }

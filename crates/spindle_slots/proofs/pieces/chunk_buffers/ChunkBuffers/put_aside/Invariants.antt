@@ -1,4 +1,4 @@
--- What is ready becomes less by one room a turn.
+-- What is ready becomes less by one buffer a turn.
 use Rattle.std.proofs.Common.{◌≡◌, ◌+◌, vec_len}
 use Rattle.spindle_slots.proofs.pieces.chunk_buffers.ChunkBuffers.put_aside.Given as goal
 

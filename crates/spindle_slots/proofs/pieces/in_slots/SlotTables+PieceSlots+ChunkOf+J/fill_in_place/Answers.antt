@@ -21,7 +21,7 @@ loop-slot-init g c = let zero : c.args.jobs - 0 ≡ c.args.jobs = omega arith in
 
 pub take_last-chunk-requires : goal.take_last-chunk-requires
 take_last-chunk-requires g c = let i = c.loop-slot.invariant in let few = c.requires.few in let old = c.args.items.now.items in let n : ℕ = c.args.jobs in
-    let many = last_many old n (n - c.loop-slot.slot) in omega (arith, ap length i.chunks, many, c.loop-slot.store.chunks.ok.0)
+    let many = last_many old n (n - c.loop-slot.slot) in omega (arith, ap length i.chunks, many, c.loop-slot.buffers.chunks.ok.0)
 
 pub put_piece-requires-clause-head : goal.put_piece-requires-clause-head
 put_piece-requires-clause-head g c = let few = c.requires.few in

@@ -12,5 +12,5 @@ invariant-loop-slot g l = record {
   seat : IsSameSeat l.fn.seat l.seat;
   view : l.seat.me.0 ≡ l.fn.seat.me.0;
   hand : Turning IsEmpty (WaitsAs (IsPieceOf l.fn.items.items l.jobs)) l.self.slots l.slot l.seat.me.1;
-  chunks : l.store.chunks.items ≡ last_pieces l.fn.items.items l.jobs (l.jobs - l.slot);
+  chunks : l.buffers.chunks.items ≡ last_pieces l.fn.items.items l.jobs (l.jobs - l.slot);
 }

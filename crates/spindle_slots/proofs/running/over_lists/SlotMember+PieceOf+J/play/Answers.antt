@@ -7,8 +7,8 @@ use Rattle.spindle_trays.proofs.TrayPlaces.{some_is}
 use Rattle.spindle_slots.proofs.running.over_lists.SlotMember+PieceOf+J.play.Goals as goal
 
 pub play-played-requires-clause-leads : goal.play-played-requires-clause-leads
-play-played-requires-clause-leads g c κs within = let p = c.args.self.now in let s = c.in-Some.stance in let a = c.take.ensures.value in
-    let b = c.in-Some.is in let there : p.stance ≡ Some s = cc in let r = c.resume-barrier.ensures in let same = c.deref-tables.ensures in
+play-played-requires-clause-leads g c κs within = let p = c.args.self.now in let s = c.in-Some.party in let a = c.take.ensures.value in
+    let b = c.in-Some.is in let there : p.party ≡ Some s = cc in let r = c.resume-barrier.ensures in let same = c.deref-tables.ensures in
     resumed c.deref-tables.result.now c.resume-barrier.result s r.party r.barrier
     (subst (λ t. StandsAt t s) (sym same) (p.stands s there))
     (subst (λ n. HoldsEmpty n s) (sym (ap (λ t. slots_of t.round.init) same ∙ p.share.many)) (p.holds s there))

@@ -10,7 +10,7 @@ returns-in_err-numbers g c = let p = err_from_is_err_and c.from_residual.result 
       answer = tt;
       refused = some_numbers _ c.if-n_jobs-eq0.false;
       trail = refl;
-      goes_on = ((refl, refl), between c.args.self.now.post);
+      goes_on = ((refl, refl), between c.args.self.now.leader_member);
     })
 
 pub returns : goal.returns

@@ -2,7 +2,7 @@
 use Rattle.std.proofs.Common.{vec_len, ◌∙◌, refl}
 use Rattle.std.proofs.lemmas.Result.{err_from_is_err_and}
 use Rattle.spindle_parts.specs.declared.fault.Fault.TheVariants.{Memory}
-use Rattle.spindle_trays.specs.Leaders.{hands_of, MadeNoStep}
+use Rattle.spindle_trays.specs.Leaders.{workers_of, MadeNoStep}
 use Rattle.spindle_trays.specs.Rounds.{IsRefusal}
 use Rattle.spindle_trays.proofs.LeaderRounds.{between, jobs_are, only_memory, played_alone, some_jobs}
 use Rattle.spindle_trays.proofs.lock.leader.Leader.round_into.Goals as goal
@@ -14,7 +14,7 @@ returns-in_err-reserve g c = let p = err_from_is_err_and c.from_residual.result 
       given_up = c.in_err-reserve.ensures.items ∙ c.clear.ensures.items;
       refused = some_jobs _ c.args.n_jobs _ c.is_empty.ensures c.if-is_empty.false c.requires.jobs;
       trail = refl;
-      goes_on = ((refl, refl), between c.args.self.now.post);
+      goes_on = ((refl, refl), between c.args.self.now.leader_member);
     })
 
 pub returns-then-threads-gt1 : goal.returns-then-threads-gt1
@@ -24,7 +24,7 @@ returns-then-threads-gt1 g c = let e = c.play.ensures in
       given_up = e.given_up;
       refused = e.refused;
       trail = e.trail;
-      goes_on = (e.lock, between c.play.new.self.post);
+      goes_on = (e.lock, between c.play.new.self.leader_member);
     })
 
 pub returns : goal.returns
@@ -34,7 +34,7 @@ returns g c = let e = c.play_here.ensures in let jobs = c.min-jobs.result in let
     rw (← same) (record {
       answer = e.answer;
       given_up = e.given_up;
-      refused = only_memory c.play_here.result Memory (MadeNoStep old new) (IsRefusal (hands_of old) jobs) (λ _. some) e.memory;
+      refused = only_memory c.play_here.result Memory (MadeNoStep old new) (IsRefusal (workers_of old) jobs) (λ _. some) e.memory;
       trail = played_alone jobs old new c.play_here.result some e.played e.direct e.memory;
-      goes_on = (e.lock, between new.post);
+      goes_on = (e.lock, between new.leader_member);
     })

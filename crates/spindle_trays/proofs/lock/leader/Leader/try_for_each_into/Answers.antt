@@ -16,7 +16,7 @@ returns-in_err-from_vec g c = let p = err_from_is_err_and c.from_residual.result
       given_up = rw c.replace-ran.ensures.after c.new.ensures;
       refused = some_jobs (vec_len c.args.items) c.args.n_jobs _ c.is_empty.ensures c.if-is_empty.false c.requires.jobs;
       trail = refl;
-      goes_on = ((refl, refl), between c.args.self.now.post);
+      goes_on = ((refl, refl), between c.args.self.now.leader_member);
     })
 
 pub returns-in_err-report : goal.returns-in_err-report
@@ -29,7 +29,7 @@ returns-in_err-report g c = let e = c.in_err-report.ensures in let own = c.new-p
       given_up = rw c.replace-ran.ensures.after c.new.ensures;
       refused = rw own at e.refused;
       trail = e.trail;
-      goes_on = (e.lock, between c.try_pieces.new.self.post);
+      goes_on = (e.lock, between c.try_pieces.new.self.leader_member);
     })
 
 pub returns : goal.returns
@@ -42,5 +42,5 @@ returns g c = let e = c.in_ok-report.ensures in let own = c.new-pieces.ensures.i
       given_up = tt;
       refused = tt;
       trail = e.trail;
-      goes_on = (e.lock, between c.try_pieces.new.self.post);
+      goes_on = (e.lock, between c.try_pieces.new.self.leader_member);
     })

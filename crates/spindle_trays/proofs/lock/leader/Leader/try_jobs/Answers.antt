@@ -1,11 +1,11 @@
 -- A fresh tally fits all marks.
 use Rattle.std.proofs.Common.{ℕ, ◌≤◌, true, ap, refl, subst, arith, ◌∙◌}
-use Rattle.spindle_threads.specs.Posts.{LastPublished, party_view}
+use Rattle.spindle_threads.specs.Members.{LastPublished, party_view}
 use Rattle.spindle_rounds.specs.Leftovers.{AreUnbegun, IsMarked}
 use Rattle.spindle_rounds.specs.RoundSlots.{bare}
 use Rattle.spindle_rounds.specs.RoundSteps.{round_of}
 use Rattle.spindle_rounds.specs.RoundViews.{shown_of}
-use Rattle.spindle_trays.specs.Leaders.{hands_of, view_of}
+use Rattle.spindle_trays.specs.Leaders.{workers_of, view_of}
 use Rattle.spindle_trays.proofs.LeaderRounds.{passed_on}
 use Rattle.spindle_trays.proofs.lock.leader.Leader.try_jobs.Goals as goal
 
@@ -20,9 +20,9 @@ pub returns-then-threads-gt1 : goal.returns-then-threads-gt1
 returns-then-threads-gt1 g c = let p = c.play_in_trays.ensures in let m = c.mark_left.ensures in let t = c.task-task.ensures in
     let played = rw (t.jobs, t.may_stop) at p.played in let last = rw (t.jobs, t.may_stop) at p.last in
     let q = round_of (view_of c.args.self.now).standing in let marks = c.mark_left.new.marks.items in
-    let v = party_view c.play_in_trays.new.leader.post.barrier in let w = party_view c.mark_left.new.self.post.barrier in
+    let v = party_view c.play_in_trays.new.leader.member.barrier in let w = party_view c.mark_left.new.self.member.barrier in
     let counted : 2 ≤ c.args.pieces.now.count = omega (arith, c.if-count-gt1.true, c.count.ensures.number) in
-    let hands : 2 ≤ hands_of c.args.self.now = omega (arith, c.if-threads-gt1.true, c.threads.ensures.number) in record {
+    let workers : 2 ≤ workers_of c.args.self.now = omega (arith, c.if-threads-gt1.true, c.threads.ensures.number) in record {
       tallied = record {
         counted = m.count ∙ c.requires.blank.counted;
         tried = λ two. (

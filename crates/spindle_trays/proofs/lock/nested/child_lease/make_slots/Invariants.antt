@@ -3,4 +3,4 @@ use Rattle.std.proofs.Common.{◌≡◌, vec_len, vec_capacity, ◌≤◌}
 use Rattle.spindle_trays.proofs.lock.nested.child_lease.make_slots.Given as goal
 
 abbrev pub invariant-loop : goal.invariant-loop
-invariant-loop g l = (vec_len l.slots ≡ l.counter) × (l.threads ≤ vec_capacity l.slots)
+invariant-loop g l = (vec_len l.child_slots ≡ l.counter) × (l.threads ≤ vec_capacity l.child_slots)

@@ -3,7 +3,7 @@ use Rattle.std.proofs.Common.{◌≡◌, ◌<◌, ◌∷◌, ◌∙◌, ℕ, tru
 use Rattle.spindle_rounds.specs.RoundShown.{Stopped}
 use Rattle.spindle_rounds.specs.RoundSteps.{round_of}
 use Rattle.spindle_rounds.specs.RoundViews.{stops_of}
-use Rattle.spindle_trays.specs.Reports.{AreRooms}
+use Rattle.spindle_trays.specs.Reports.{AreBuffers}
 use Rattle.spindle_trays.specs.Stops.{HasFailedIn, StopsBy}
 use Rattle.spindle_trays.proofs.running.sequential.SequentialWorkWorkBare.run.Goals as goal
 use Rattle.spindle_trays.proofs.running.sequential.SequentialWorkWorkBare.run.Goals.{then-run_piece, else-run_piece, then-failed, else-failed}
@@ -17,12 +17,14 @@ has_failed g c stops = elim c.if-run_piece.branch [
 
 pub returns-clause-holds : goal.returns-clause-holds
 returns-clause-holds g c = let e = c.run_piece.ensures in elim c.if-failed.branch [
-  | then-failed w ↦ subst (λ s. AreRooms g.J.Job.meets s.pieces.now.items s.pieces.now.count 0 s.rooms.items × HasFailedIn g.J.Job.fails 0 s.failed s.rooms.items)
+  | then-failed w ↦ subst (λ s. AreBuffers g.J.Job.meets s.pieces.now.items s.pieces.now.count 0 s.buffers.items
+      × HasFailedIn g.J.Job.fails 0 s.failed s.buffers.items)
       (sym w.self-is) (e.fit, (e.failed (has_failed g c w.if-failed.true)).1)
-  | else-failed w ↦ subst (λ s. AreRooms g.J.Job.meets s.pieces.now.items s.pieces.now.count 0 s.rooms.items × HasFailedIn g.J.Job.fails 0 s.failed s.rooms.items)
+  | else-failed w ↦ subst (λ s. AreBuffers g.J.Job.meets s.pieces.now.items s.pieces.now.count 0 s.buffers.items
+      × HasFailedIn g.J.Job.fails 0 s.failed s.buffers.items)
       (sym w.self-is) (
         e.fit,
-        subst (λ (f : ℕ). HasFailedIn g.J.Job.fails 0 f c.run_piece.new.self.rooms.items) (sym e.pieces.1)
+        subst (λ (f : ℕ). HasFailedIn g.J.Job.fails 0 f c.run_piece.new.self.buffers.items) (sym e.pieces.1)
             (e.kept c.args.self.now.failed c.requires.taken.1.1),
       )
 ]

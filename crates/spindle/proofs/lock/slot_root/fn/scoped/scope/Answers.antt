@@ -6,7 +6,7 @@ use Rattle.spindle.proofs.lock.slot_root.fn.scoped.scope.Goals as goal
 
 pub f-answer-requires : goal.f-answer-requires
 f-answer-requires g c = c.requires.callable c.new-leader.result
-    (ap g.J.OpensSlots.slot_count c.new-leader.ensures.post ∙ (c.settle.ensures _ refl ∙ c.new.ensures)) _ refl
+    (ap g.J.OpensSlots.slot_count c.new-leader.ensures.state ∙ (c.settle.ensures _ refl ∙ c.new.ensures)) _ refl
 
 pub returns : goal.returns
 unfolding WasLed
@@ -14,8 +14,8 @@ returns g c = (
   c.new-leader.result,
   _,
   (
-    c.new-leader.ensures.threads ∙ ap (λ (k : ThreadCounts). k.most) c.muster-post.ensures.counts,
-    ap g.J.OpensSlots.slot_count c.new-leader.ensures.post ∙ (c.settle.ensures _ refl ∙ c.new.ensures),
+    c.new-leader.ensures.threads ∙ ap (λ (k : ThreadCounts). k.most) c.start_helpers-member.ensures.counts,
+    ap g.J.OpensSlots.slot_count c.new-leader.ensures.state ∙ (c.settle.ensures _ refl ∙ c.new.ensures),
   ),
   record { shown = _; shows = refl; left = _; met = c.f-answer.ensures; leaves = refl },
 )

@@ -2,7 +2,7 @@
 use Rattle.std.proofs.Common.{vec_len}
 use Rattle.std.proofs.lemmas.Result.{on_err_weaker}
 use Rattle.spindle_parts.specs.declared.fault.Fault.TheVariants.{Memory}
-use Rattle.spindle_trays.specs.Locks.{hands_in}
+use Rattle.spindle_trays.specs.Locks.{workers_in}
 use Rattle.spindle_trays.specs.Rounds.{job_count, IsRefusal}
 use Rattle.spindle_trays.proofs.LeaderRounds.{only_memory, passed_on, some_jobs}
 use Rattle.spindle_trays.proofs.lock.nested.rounds.JobCx+Under+K.for_each.Goals as goal
@@ -12,7 +12,7 @@ returns-then-jobs-eq1 g c = let e = c.run_directly.ensures in let jobs = job_cou
     let some = some_jobs (vec_len c.args.items) c.args.n_jobs _ c.is_empty.ensures c.if-is_empty.false c.requires.jobs in
     record {
       answer = e.answer;
-      refused = only_memory c.run_directly.result Memory (Unit {0}) (IsRefusal (hands_in c.args.self.now jobs) jobs) (λ _. some)
+      refused = only_memory c.run_directly.result Memory (Unit {0}) (IsRefusal (workers_in c.args.self.now jobs) jobs) (λ _. some)
           (on_err_weaker c.run_directly.result (λ h. (h, tt)) e.memory);
       same = e.same;
     }

@@ -1,7 +1,7 @@
 -- The closure was called with a leader of a lock of these threads, all of which may take part in its rounds, or it alone.
 use Rattle.std.proofs.Common.{ap, inl, inr, sym, refl, ◌∙◌}
 use Rattle.spindle_threads.specs.declared.tables.ThreadCounts.{ThreadCounts}
-use Rattle.spindle_trays.specs.Locks.{nested_hands}
+use Rattle.spindle_trays.specs.Locks.{nested_workers}
 use Rattle.spindle_trays.proofs.lock.nested.rounds.JobCx+Under+K.with_lock.Goals as goal
 
 pub returns-in-Some-take-clause-promise : goal.returns-in-Some-take-clause-promise
@@ -11,8 +11,8 @@ returns-in-Some-take-clause-promise g c =
       c.take_lead-leader.result,
       _,
       all ∙ c.counts_for-counts.ensures.most,
-      inr (leads.hands ∙ (ap (λ (k : ThreadCounts). k.threads) counts
-          ∙ (c.counts_for-counts.ensures.hands ∙ ap (nested_hands c.args.self.now.has_slots) (sym all)))),
+      inr (leads.workers ∙ (ap (λ (k : ThreadCounts). k.threads) counts
+          ∙ (c.counts_for-counts.ensures.workers ∙ ap (nested_workers c.args.self.now.has_slots) (sym all)))),
       record { shown = _; shows = refl; left = _; met = c.f-answer.ensures; leaves = refl },
     )
 
@@ -21,6 +21,6 @@ returns-clause-promise g c = let leads = c.take_lead-leader-2.ensures in let cou
   c.take_lead-leader-2.result,
   _,
   leads.threads ∙ (ap (λ (k : ThreadCounts). k.most) counts ∙ (c.alone.ensures.most ∙ c.counts_for-counts.ensures.most)),
-  inl (leads.hands ∙ (ap (λ (k : ThreadCounts). k.threads) counts ∙ c.alone.ensures.alone)),
+  inl (leads.workers ∙ (ap (λ (k : ThreadCounts). k.threads) counts ∙ c.alone.ensures.alone)),
   record { shown = _; shows = refl; left = _; met = c.f.ensures; leaves = refl },
 )

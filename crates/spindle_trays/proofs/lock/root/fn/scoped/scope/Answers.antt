@@ -5,10 +5,10 @@ use Rattle.spindle_trays.proofs.lock.root.fn.scoped.scope.Goals as goal
 
 pub returns : goal.returns
 unfolding WasLed
-returns g c = let e = c.new-leader.ensures in let t = c.muster-post.ensures.tables in (
+returns g c = let e = c.new-leader.ensures in let t = c.start_helpers-member.ensures.tables in (
   c.new-leader.result,
   _,
   e.threads ∙ ap (λ t. t.counts.most) t,
-  e.hands ∙ ap (λ t. t.counts.threads) t,
+  e.workers ∙ ap (λ t. t.counts.threads) t,
   record { shown = _; shows = refl; left = _; met = c.f-answer.ensures; leaves = refl },
 )

@@ -6,9 +6,9 @@ use Rattle.spindle_threads.specs.declared.seats.SpareSeats.{SpareSeats}
 use Rattle.spindle_threads.specs.declared.tables.Tables.{Tables}
 use Rattle.spindle_rounds.specs.RoundSteps.{outsider}
 
--- what rests on the bench are seats at these tables, as a helper needs them:
+-- these spare seats are seats at these tables, as a helper needs them:
 -- no member of the barrier, no number, no request to answer for
-pub record IsBenchAt {T S N : Type 0} (tables : Tables T S N)
+pub record AreSpareSeatsAt {T S N : Type 0} (tables : Tables T S N)
     (spare : SpareSeats T S N) : Type 0 where
   pub round : spare.round.table_id ≡ tables.round.init.table.shared.table_id
   pub outside : spare.round.view ≡ outsider tables.round.init.threads false

@@ -1,7 +1,7 @@
 -- The leader's seats stay its own while the helpers' are split from them, and there is room for the helpers that are left.
 use Rattle.std.proofs.Common.{◌≡◌, ◌≤◌, vec_len, vec_capacity}
 use Rattle.spindle_threads.specs.Opening.{AreSeatsAt}
-use Rattle.spindle_trays.proofs.lock.root.LeaderStart.muster.Given as goal
+use Rattle.spindle_trays.proofs.lock.root.LeaderStart.start_helpers.Given as goal
 
 abbrev pub invariant-loop-asked : goal.invariant-loop-asked
 invariant-loop-asked g l = record {

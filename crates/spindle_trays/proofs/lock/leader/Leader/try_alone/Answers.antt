@@ -1,7 +1,7 @@
 -- A fresh tally fits all marks.
 use Rattle.std.proofs.Common.{ℕ, true, ⊎_elim, inl, refl, ap, sym, subst, ◌∙◌, arith}
 use Rattle.std.proofs.lemmas.Bool.{false≢true}
-use Rattle.spindle_threads.specs.Posts.{LastPublished, party_view}
+use Rattle.spindle_threads.specs.Members.{LastPublished, party_view}
 use Rattle.spindle_rounds.specs.Leftovers.{AreUnbegun, IsMarked}
 use Rattle.spindle_rounds.specs.RoundSlots.{bare}
 use Rattle.spindle_rounds.specs.RoundShown.{Stopped}
@@ -12,32 +12,32 @@ use Rattle.spindle_rounds.proofs.Leftovers.{stopped_begun}
 use Rattle.spindle_trays.specs.Leaders.{view_of}
 use Rattle.spindle_trays.specs.Stops.{HasStoppedAt}
 use Rattle.spindle_trays.proofs.LeaderRounds.{not_one, not_two, passed_on}
-use Rattle.spindle_trays.proofs.lock.leader.Leader.try_in_rooms.Goals as goal
+use Rattle.spindle_trays.proofs.lock.leader.Leader.try_alone.Goals as goal
 
-pub tally_rooms-requires-clause-fresh : goal.tally_rooms-requires-clause-fresh
-tally_rooms-requires-clause-fresh g c κs within = c.requires.blank.fresh c.as_slice.result.now
+pub tally_buffers-requires-clause-fresh : goal.tally_buffers-requires-clause-fresh
+tally_buffers-requires-clause-fresh g c κs within = c.requires.blank.fresh c.as_slice.result.now
 
-pub tally_rooms-requires-2-clause-fresh : goal.tally_rooms-requires-2-clause-fresh
-tally_rooms-requires-2-clause-fresh g c κs within = c.requires.blank.fresh c.as_slice-2.result.now
+pub tally_buffers-requires-2-clause-fresh : goal.tally_buffers-requires-2-clause-fresh
+tally_buffers-requires-2-clause-fresh g c κs within = c.requires.blank.fresh c.as_slice-2.result.now
 
-pub tally_rooms-requires-2-clause-unmarked : goal.tally_rooms-requires-2-clause-unmarked
-tally_rooms-requires-2-clause-unmarked g c κs within = λ lt marked. let p = c.play_rooms-failed.ensures in let m = c.mark_left.ensures in
-    let n = c.args.pieces.now.count in let f = c.play_rooms-failed.result in let q = round_of (view_of c.args.self.now).standing in
-    let w = party_view c.mark_left.new.self.post.barrier in let marks = c.mark_left.new.marks.items in
-    let v = party_view c.play_rooms-failed.new.leader.post.barrier in
+pub tally_buffers-requires-2-clause-unmarked : goal.tally_buffers-requires-2-clause-unmarked
+tally_buffers-requires-2-clause-unmarked g c κs within = λ lt marked. let p = c.play_sequential-failed.ensures in let m = c.mark_left.ensures in
+    let n = c.args.pieces.now.count in let f = c.play_sequential-failed.result in let q = round_of (view_of c.args.self.now).standing in
+    let w = party_view c.mark_left.new.self.member.barrier in let marks = c.mark_left.new.marks.items in
+    let v = party_view c.play_sequential-failed.new.leader.member.barrier in
     ⊎_elim (λ none. absurd (omega (arith, lt, none.0)))
     (λ (at : HasStoppedAt n f (view_of c.args.self.now) v). stopped_begun bare w q n f (IsMarked marks) m.moment
     (subst (λ (n : ℕ). LastPublished q n true v → AreUnbegun bare q n w (IsMarked marks)) c.requires.blank.counted (m.unbegun q true) p.last)
     (subst (IsDeed (Stopped q f)) (sym (ap stopped_of m.deeds ∙ at.2)) (inl refl)) (rw c.as_slice-2.ensures.value at marked)) p.stops
 
-pub returns-in_err-rooms : goal.returns-in_err-rooms
-returns-in_err-rooms g c = rw (passed_on c.from_residual.result c.from_residual.ensures.1 c.in_err-rooms.ensures.memory)
+pub returns-in_err-buffers : goal.returns-in_err-buffers
+returns-in_err-buffers g c = rw (passed_on c.from_residual.result c.from_residual.ensures.1 c.in_err-buffers.ensures.memory)
     (record { tallied = tt; memory = (refl, refl); lock = (refl, refl) })
 
 pub returns : goal.returns
-returns g c = let p = c.play_rooms-failed.ensures in let m = c.mark_left.ensures in let e = c.tally_rooms-2.ensures in
+returns g c = let p = c.play_sequential-failed.ensures in let m = c.mark_left.ensures in let e = c.tally_buffers-2.ensures in
     let q = round_of (view_of c.args.self.now).standing in let marks = c.mark_left.new.marks.items in
-    let v = party_view c.play_rooms-failed.new.leader.post.barrier in let w = party_view c.mark_left.new.self.post.barrier in
+    let v = party_view c.play_sequential-failed.new.leader.member.barrier in let w = party_view c.mark_left.new.self.member.barrier in
     record {
       tallied = record {
         counted = m.count ∙ c.requires.blank.counted;
@@ -61,7 +61,7 @@ returns g c = let p = c.play_rooms-failed.ensures in let m = c.mark_left.ensures
     }
 
 pub returns-then-count-eq1 : goal.returns-then-count-eq1
-returns-then-count-eq1 g c = let e = c.tally_rooms.ensures in
+returns-then-count-eq1 g c = let e = c.tally_buffers.ensures in
     record {
       tallied = record {
         counted = c.requires.blank.counted;
