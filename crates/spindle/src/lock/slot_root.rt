@@ -119,7 +119,8 @@ fn open<
         tables: shared,
         slots,
     };
-    Ok(scoped::<J, A, L, G, R, F, P, H>(rt, alloc, start, share, f))
+    let lock = SlotLeaderStart { start, share };
+    Ok(scoped::<J, A, L, G, R, F, P, H>(rt, alloc, lock, f))
 }
 
 /// The tables of such a lock, and the leader's seats at them.
@@ -140,6 +141,14 @@ pub(crate) fn make<J: Job, A: PieceKind>(
     Ok(Tables::new(alloc, counts, idling, child_slots, round, seat)?)
 }
 
+// What the leader of such a lock comes to, with its share of the tables.
+#[derive(Drop)]
+struct SlotLeaderStart<'s, A: PieceKind, G: Gate, L> {
+    start: LeaderStart<'s, PieceSlots<A>, G, L>,
+    share: SlotShare<PieceSlots<A>>,
+    ghost shared: { arc_value share.tables ≡ start.tables.now },
+}
+
 // Starts the helpers, runs f with a leader that has a share of the tables, and dismisses and joins them.
 fn scoped<
     J: MakesSlots<P, PieceSlots<A>, L> + CrossesThreads,
@@ -150,30 +159,23 @@ fn scoped<
     F: FnOnce(&mut SlotLeader<J, G, P>) -> R,
     P: Drop,
     H: Threads + Wait + Sync,
->(
-    rt: &H,
-    alloc: Global,
-    start: LeaderStart<'_, PieceSlots<A>, G, L>,
-    share: SlotShare<PieceSlots<A>>,
-    f: F,
-) -> R
-    requires share { arc_value share.tables ≡ start.tables.now }
-    requires callable { TakesLeaders J.OpensSlots.slot_count share.slots F.FnOnce f }
-    ensures { let counts = start.entry.tables.now.counts in
-        WasLed J.OpensSlots.slot_count counts.most share.slots F.FnOnce f result }
+>(rt: &H, alloc: Global, lock: SlotLeaderStart<'_, A, G, L>, f: F) -> R
+    requires callable { TakesLeaders J.OpensSlots.slot_count lock.share.slots F.FnOnce f }
+    ensures { let most = lock.entry.start.tables.now.counts.most in
+        WasLed J.OpensSlots.slot_count most lock.entry.share.slots F.FnOnce f result }
 {
     thread::scope(
         thread::scope_env(),
         rt,
         |scope| -> R
-            requires share { arc_value share.tables ≡ start.tables.now }
-            requires callable { TakesLeaders J.OpensSlots.slot_count share.slots F.FnOnce f }
+            requires share { arc_value lock.share.tables ≡ lock.start.tables.now }
+            requires callable { TakesLeaders J.OpensSlots.slot_count lock.share.slots F.FnOnce f }
             requires sync { IsSync H.row }
-            ensures { let counts = start.entry.tables.now.counts in
-                WasLed J.OpensSlots.slot_count counts.most share.slots F.FnOnce f result }
+            ensures { let most = lock.entry.start.tables.now.counts.most in
+                WasLed J.OpensSlots.slot_count most lock.entry.share.slots F.FnOnce f result }
         {
-            let (member, runner, helpers) = start.start_helpers::<_, J, H>(scope, rt, alloc);
-            let mut leader_seats = Some(LeaderSeats::new(share, member));
+            let (member, runner, helpers) = lock.start.start_helpers::<_, J, H>(scope, rt, alloc);
+            let mut leader_seats = Some(LeaderSeats::new(lock.share, member));
             let mut leader = SlotLeader::new(runner, J::settle(&mut leader_seats));
             let answer = f(&mut leader);
             leader.dismiss(rt);
