@@ -10,7 +10,7 @@ ghost use Rattle.spindle_threads.specs.Waits.{WaitedForNews, patience_of};
 ghost use Rattle.spindle_rounds.specs.RoundConditions.{IsDone};
 ghost use Rattle.spindle_rounds.specs.Seating.{IsSameSeat};
 
-use crate::member::{Member, HelperStatus};
+use crate::member::{HelperStatus, Member};
 use crate::publish_and_end::end_or_leave;
 use crate::signals::Signals;
 use spindle_parts::numbers;

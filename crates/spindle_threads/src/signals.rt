@@ -102,7 +102,12 @@ impl<'a> Signals<'a> {
         ensures helpers { 1 + result.helpers ≡ tables.now.counts.threads }
     {
         let seat = self.ledger.new_seat(&mut self.seat);
-        HelperRequest::new(self.ledger, seat, self.child_slots, tables.counts.threads() - 1)
+        HelperRequest::new(
+            self.ledger,
+            seat,
+            self.child_slots,
+            tables.counts.threads() - 1,
+        )
     }
 
     /// Whether the helpers are to end.

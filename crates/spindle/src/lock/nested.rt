@@ -68,7 +68,12 @@ pub(crate) fn open<
             return Ok(lead(rt, child, leader_start, Some(lease), f));
         }
     }
-    let (child, leader_start) = NestedSlots::open(alloc, counts.alone(), site.sleep.idling(), slots)?;
+    let (child, leader_start) = NestedSlots::open(
+        alloc,
+        counts.alone(),
+        site.sleep.idling(),
+        slots,
+    )?;
     Ok(lead(rt, child, leader_start, None::<ChildLease<'_, ()>>, f))
 }
 

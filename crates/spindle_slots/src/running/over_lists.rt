@@ -129,7 +129,9 @@ impl<J: Job> PlaysPieces<LeaderState<PieceOf<J>>> for J {
         outputs: &mut Vec<J::Out>,
     ) -> Result<(), Fault> {
         let buffers = state.kept.get_or_insert_with(|| OutputBuffers::new(alloc));
-        state.member.play(rt, alloc, runner, items, buffers, outputs)
+        state
+            .member
+            .play(rt, alloc, runner, items, buffers, outputs)
     }
 }
 

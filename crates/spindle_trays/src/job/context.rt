@@ -128,5 +128,9 @@ pub fn child_slots_for<'a, N: Nest>(
     cx: &JobCx<'a, N>,
     counts: ThreadCounts,
 ) -> Option<&'a N::ChildSlots> {
-    if counts.threads() > 1 { cx.child_slots } else { None }
+    if counts.threads() > 1 {
+        cx.child_slots
+    } else {
+        None
+    }
 }

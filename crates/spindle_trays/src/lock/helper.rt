@@ -15,7 +15,7 @@ use spindle_rounds::round_table;
 use spindle_rounds::round_table::slots::SlotContents;
 use spindle_threads::helper_waits::{News, await_news, end_part, take_number};
 use spindle_threads::leader_member::LeaderMember;
-use spindle_threads::member::{Member, HelperStatus};
+use spindle_threads::member::{HelperStatus, Member};
 use spindle_threads::seats::{HelperSeats, Seats};
 use spindle_threads::signals::Signals;
 use spindle_threads::tables::Tables;

@@ -135,7 +135,14 @@ impl<'a, J: Opens<L>, G: Gate, L> Leader<'a, J, G, L> {
             let trays = J::trays(self.workspace);
             trays.hand_out(rt, alloc, pieces, spares)?;
             let task = pieces.task(true);
-            play_in_trays(rt, alloc, &mut self.leader_member, trays, &mut self.runner, task);
+            play_in_trays(
+                rt,
+                alloc,
+                &mut self.leader_member,
+                trays,
+                &mut self.runner,
+                task,
+            );
             self.leader_member.mark_left(left);
             trays.tally(rt, pieces, left.as_slice(), tally);
             return Ok(());

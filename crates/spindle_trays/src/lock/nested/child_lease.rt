@@ -65,7 +65,11 @@ impl<'a, N: Drop> ChildLease<'a, N> {
 // A lock of t threads has t slots, and so there is one: at most t - i threads look at slot i or have a lock there or behind it, since
 // a thread looks past slot i only while another thread's lock stands there, and has one lock in these slots at most. No type says so,
 // and a share may be refused too: None stands for both.
-fn find_slot<N: Drop>(child_slots: &Vec<ChildSlot<N>>, child: &Child<N>, places: usize) -> Option<usize>
+fn find_slot<N: Drop>(
+    child_slots: &Vec<ChildSlot<N>>,
+    child: &Child<N>,
+    places: usize,
+) -> Option<usize>
     ensures { IfSome result (λ slot. (slot < vec_len child_slots.now) × (slot < places)) }
 {
     let mut share = child.again()?;
