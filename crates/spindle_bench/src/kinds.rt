@@ -1,8 +1,8 @@
 //! The kinds of jobs of the shapes, but of `nested`: each over lists and in place; and what their values ought to be.
-ghost use Rattle.std.specs.Prelude.{◌≡◌, true};
+ghost use Rattle.std.specs.Prelude.{◌≡◌};
 ghost use Rattle.std.proofs.Common.{rules};
 
-use crate::series::Placed;
+use crate::series::{Input, Listed, Placed};
 use spindle::prelude::*;
 use std::marker::PhantomData;
 
@@ -12,15 +12,6 @@ const OWN_PAGES: usize = 4194304;
 
 /// So many numbers stand between a place 16 bytes behind the beginning of a cache line and the next line.
 const BEFORE_A_LINE: usize = 6;
-
-/// What a job over lists is given.
-pub trait Input: Clone + Eq + Drop {
-    /// What the job of this number is given in the first round, so many numbers where that is a list.
-    fn input(alloc: Global, number: usize, size: usize) -> Result<Self, Fault>;
-
-    /// Equal inputs are the same value.
-    ghost equal_is_same: { (x y : Self) → Self.eq x y ≡ true → x ≡ y };
-}
 
 impl Input for usize {
     ghost equal_is_same = { Prim.search rules };
@@ -68,15 +59,6 @@ pub trait Task {
 
     /// Its item after so many rounds, before the first after 0.
     fn item(alloc: Global, number: usize, size: usize, rounds: u64) -> Result<Self::Item, Fault>;
-}
-
-/// A kind of job whose rounds answer new lists.
-pub trait Listed: Job<Inner = End, In: Input, Out: PartialEq> {
-    /// What the job of this number answers after so many rounds.
-    fn output(alloc: Global, number: usize, size: usize, rounds: u64) -> Result<Self::Out, Fault>;
-
-    /// What the jobs of the next round are given, after this in the first and these answers.
-    fn next(_: Global, first: &Vec<Self::In>, _: Vec<Self::Out>) -> Result<Vec<Self::In>, Fault>;
 }
 
 /// The kind of job that does this.

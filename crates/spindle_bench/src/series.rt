@@ -1,8 +1,7 @@
 //! Series of rounds: what stands before the first, how the next one is played, and what ought to stand then.
-ghost use Rattle.std.specs.Prelude.{◌≡◌, ◌<◌};
+ghost use Rattle.std.specs.Prelude.{◌≡◌, ◌<◌, true};
 ghost use denote.Param.Send.{IsSync};
 
-use crate::kinds::{Input, Listed};
 use crate::settings::Shape;
 use spindle::lock::{Opens, PlaysInPlace, Updates};
 use spindle::prelude::*;
@@ -15,6 +14,24 @@ pub type Done = Result<(), Fault>;
 pub trait Runs: Threads + Wait + Sync {}
 
 impl<H: Threads + Wait + Sync> Runs for H {}
+
+/// What a job over lists is given.
+pub trait Input: Clone + Eq + Drop {
+    /// What the job of this number is given in the first round, so many numbers where that is a list.
+    fn input(alloc: Global, number: usize, size: usize) -> Result<Self, Fault>;
+
+    /// Equal inputs are the same value.
+    ghost equal_is_same: { (x y : Self) → Self.eq x y ≡ true → x ≡ y };
+}
+
+/// A kind of job whose rounds answer new lists.
+pub trait Listed: Job<Inner = End, In: Input, Out: PartialEq> {
+    /// What the job of this number answers after so many rounds.
+    fn output(alloc: Global, number: usize, size: usize, rounds: u64) -> Result<Self::Out, Fault>;
+
+    /// What the jobs of the next round are given, after this in the first and these answers.
+    fn next(_: Global, first: &Vec<Self::In>, _: Vec<Self::Out>) -> Result<Vec<Self::In>, Fault>;
+}
 
 /// A kind of job whose rounds are played in place.
 pub trait Placed: Updates<In = (), Out = (), Item: PartialEq> {

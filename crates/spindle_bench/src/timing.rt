@@ -2,8 +2,7 @@
 ghost use Rattle.std.specs.Prelude.{◌≡◌, ◌*◌, ◌<◌, ◌≤◌};
 ghost use denote.Param.Send.{IsSync};
 
-use crate::kinds::Listed;
-use crate::series::{Lists, Placed, Places, Plays, Runs, Series, Tries};
+use crate::series::{Listed, Lists, Placed, Places, Plays, Runs, Series, Tries};
 use crate::settings::{Bench, Ended, Line, Shape, Stop};
 use spindle::lock::{Nest, Updates};
 use spindle::prelude::*;
