@@ -83,13 +83,6 @@ impl<J: Job> Place<Ready<J>, Finished<J>> {
         }
     }
 
-    // Lets go of a piece that was run elsewhere. The room for its outputs stays.
-    fn let_go(&mut self) {
-        if let Place::Waits(piece) = mem::replace(self, Place::Away(0)) {
-            *self = Place::Back(Finished::run_elsewhere(piece));
-        }
-    }
-
     /// Takes the outputs of what was brought back, if it is the piece of a number with these items. Nothing stands here then.
     pub(crate) fn take_outputs(&mut self, number: usize, items: &[J::In]) -> Option<Vec<J::Out>>
         ensures answers { IfSome result (λ outputs. AllZip J.meets items.now outputs.items) }
@@ -185,13 +178,15 @@ pub(crate) fn gather<J: Job>(
     Ok(())
 }
 
-/// Lets go of so many pieces, whose places begin at `from` and which were run elsewhere.
+/// Lets go of so many pieces, whose places begin at `from` and which were run elsewhere. The room for their outputs stays.
 pub(crate) fn let_go<J: Job>(tray: &mut Tray<J>, from: usize, count: usize)
     requires places { from + count < 2 ^ 64 }
 {
     for at in from..from + count {
-        if let Some(place) = tray.get_mut(at) {
-            place.let_go();
+        if let Some(place) = tray.get_mut(at)
+            && let Place::Waits(piece) = mem::replace(place, Place::Away(0))
+        {
+            *place = Place::Back(Finished::run_elsewhere(piece));
         }
     }
 }
