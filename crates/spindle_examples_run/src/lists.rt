@@ -74,15 +74,11 @@ fn dots<'a, H: Machine>(rt: &'a H, pool: &'a Pool<NoGate>, is_lock: bool) -> Res
         };
         Ok(())
     })?;
-    let products = (0..u64::from(NUMBERS)).map(|x| x * (u64::from(NUMBERS) - 1 - x));
-    print(
-        rt,
-        pool,
-        "dot1m",
-        is_lock,
-        total == products.sum::<u64>(),
-        &times,
-    )
+    let mut wanted = 0u64;
+    for pair in first.as_slice().iter().zip(second.as_slice()) {
+        wanted = wanted.wrapping_add(u64::from(*pair.0).wrapping_mul(u64::from(*pair.1)));
+    }
+    print(rt, pool, "dot1m", is_lock, total == wanted, &times)
 }
 
 fn by_rayon<H: Machine>(rt: &H, first: &[u32], second: &[u32]) -> u64 {

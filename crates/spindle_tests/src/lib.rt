@@ -10,6 +10,8 @@ mod checks;
 #[cfg(test)]
 mod crossings;
 #[cfg(test)]
+mod finished;
+#[cfg(test)]
 mod free_rows;
 #[cfg(test)]
 mod gates;

@@ -7,6 +7,7 @@ ghost use Rattle.std.specs.Prelude.{◌≡◌, ◌∷◌, [], IfOk, length, vec_
 ghost use Rattle.spindle_trays.specs.Rounds.{items_of};
 
 use crate::checks::{are, holds, is};
+use crate::finished::{only, squared};
 use crate::jobs::Square;
 use crate::trying::{Item, Trying, these_ran};
 use spindle::SharedList;
@@ -20,23 +21,6 @@ use std::alloc::{AllocError, Global};
 use std::process::Abort;
 use std::sync::Wait;
 use std::test::Fail;
-
-// A list of one item.
-fn only<T: Drop>(alloc: Global, item: T) -> Result<Vec<T>, AllocError>
-    ensures { IfOk result (λ list. list.items ≡ item ∷ []) }
-{
-    let mut list = Vec::with_capacity(alloc, 1)?;
-    list.push_reserved(item);
-    Ok(list)
-}
-
-// A piece of one number, squared.
-fn squared(alloc: Global, number: usize, input: usize) -> Result<Finished<Square>, Fail> {
-    let square = input as u128 * input as u128;
-    let inputs = SharedList::from_vec(alloc, only(alloc, input)?)?.run(0, 1)?;
-    let outputs = only(alloc, square)?;
-    Ok(Finished::new(number, inputs, outputs))
-}
 
 // The pieces [1] and [2].
 fn two_pieces(alloc: Global) -> Result<Vec<Piece<usize>>, AllocError>
