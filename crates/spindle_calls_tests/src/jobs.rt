@@ -34,60 +34,35 @@ impl Job for Square {
     ghost equal_is_same = { Prim.search rules };
 }
 
-/// How often a gate was called before jobs and after them: for job 0 to job 3, and last for any other.
+/// How often a gate was called before jobs and after them.
 #[derive(Drop)]
 pub struct Calls {
-    begun: [AtomicUsize; 5],
-    done: [AtomicUsize; 5],
+    begun: AtomicUsize,
+    done: AtomicUsize,
 }
 
 impl Calls {
     /// No call yet.
     pub fn new() -> Calls {
         Calls {
-            begun: zeros(),
-            done: zeros(),
+            begun: AtomicUsize::new(0),
+            done: AtomicUsize::new(0),
         }
     }
 
-    /// The calls for one job.
-    pub fn of_job(&self, number: usize) -> (usize, usize) {
-        let (begun, done) = (&self.begun[..], &self.done[..]);
-        let at = number.min(4);
-        (
-            begun[at].load(Ordering::SeqCst),
-            done[at].load(Ordering::SeqCst),
-        )
-    }
-
-    /// The calls for all jobs since there were so many.
+    /// The calls since there were so many.
     pub fn since(&self, before: (usize, usize)) -> (usize, usize) {
         let (begun, done) = self.in_all();
         (begun.wrapping_sub(before.0), done.wrapping_sub(before.1))
     }
 
-    /// The calls for all jobs; the sum wraps.
+    /// The calls.
     pub fn in_all(&self) -> (usize, usize) {
-        (sum(&self.begun[..]), sum(&self.done[..]))
+        (
+            self.begun.load(Ordering::SeqCst),
+            self.done.load(Ordering::SeqCst),
+        )
     }
-}
-
-fn zeros() -> [AtomicUsize; 5] {
-    [
-        AtomicUsize::new(0),
-        AtomicUsize::new(0),
-        AtomicUsize::new(0),
-        AtomicUsize::new(0),
-        AtomicUsize::new(0),
-    ]
-}
-
-fn sum(counts: &[AtomicUsize]) -> usize {
-    let mut all = 0usize;
-    for count in counts {
-        all = all.wrapping_add(count.load(Ordering::SeqCst));
-    }
-    all
 }
 
 /// A gate that counts its calls.
@@ -98,13 +73,11 @@ pub struct Counting<'a> {
 }
 
 impl<'a> Gate for Counting<'a> {
-    fn begun(&self, number: usize) {
-        let begun = &self.calls.begun[..];
-        begun[number.min(4)].fetch_add(1, Ordering::SeqCst);
+    fn begun(&self, _number: usize) {
+        self.calls.begun.fetch_add(1, Ordering::SeqCst);
     }
 
-    fn done(&self, number: usize) {
-        let done = &self.calls.done[..];
-        done[number.min(4)].fetch_add(1, Ordering::SeqCst);
+    fn done(&self, _number: usize) {
+        self.calls.done.fetch_add(1, Ordering::SeqCst);
     }
 }
