@@ -57,27 +57,12 @@ check() {
   for crate; do (cd "crates/$crate" && rt check); done
 }
 
-#: test [CRATE..]       the quick one, of some minutes: the names in the documents, and the tests, with nothing proved
+#: test [CRATE..]       the quick one, of some minutes: the names in the documents, and the tests, with nothing proved, those named
+#:                      refused_ with each of their allocations refused in turn
 test() {
   .ci/documents
-  said=$(mktemp -d)
-  export said
-  export -f try_tests
-  # As many crates side by side as PLAYERS says, or as there are processors.
-  printf '%s\n' ${*:-$(.ci/crates '#\[test\]')} | xargs -P "${PLAYERS:-$(nproc)}" -I{} bash -euc 'try_tests {}'
+  .ci/tests "$@"
 }
-
-# Plays the tests of crate $1 unproved, and prints all but the lines of those that held.
-try_tests() {
-  local status=0
-  .ci/idle
-  (cd "crates/$1" && rt try --test --seconds 600) >"$said/$1" 2>&1 || status=1
-  sed "/ \.\.\. ok$/d; s/^/$1: /" "$said/$1"
-  return $status
-}
-
-#: refusals [CRATE..]   play the tests named refused_ with each of their allocations refused in turn
-refusals() { .ci/refusals "$@"; }
 
 #: soak [SECONDS]       play uneven jobs in each kind of lock for so long (15), with nothing proved, and check each answer
 soak() {
@@ -110,6 +95,6 @@ format() {
 figures() { .ci/figures; }
 
 case ${1:-} in
-  prove | add-to | check | test | refusals | soak | edits | bench | format | figures) "$@" ;;
+  prove | add-to | check | test | soak | edits | bench | format | figures) "$@" ;;
   *) sed -n 's|^#: |./do |p' do && exit 2 ;;
 esac

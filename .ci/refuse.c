@@ -1,6 +1,6 @@
-// Linked by .ci/refusals into the program of a crate's tests. A test is played again and again, each time in a copy of
-// its process in which one allocation is refused: the first, then the second, until a copy asks for no more. Then it
-// is played with memory for all. Where a copy fails, the test fails, and its message has the number of the allocation.
+// Linked by .ci/tests into the program of a crate's tests. A test named refused_ is played again and again, each time in a
+// copy of its process in which one allocation is refused: the first, then the second, until a copy asks for no more. Then
+// it is played with memory for all. Where a copy fails, so does the test: its message has the allocation's number.
 // No header is read, so that the kit's own clang compiles this. REPORT is the file that gets a line a test.
 
 typedef unsigned long size;
@@ -15,6 +15,7 @@ unsigned alarm(unsigned seconds);
 int open(const char *path, int flags, ...);
 int dup2(int from, int to);
 int dprintf(int to, const char *format, ...);
+char *strstr(const char *in, const char *words);
 void *mmap(void *at, size bytes, int access, int flags, int file, long from);
 void _exit(int status);
 
@@ -63,7 +64,7 @@ static void fail(const char *test, long number, const char *why) {
 // The words of the program are one test's name, or --list.
 __attribute__((constructor)) static void play_with_each_refused(int count, char **words) {
     long number, last = 0;
-    if (count != 2 || words[1][0] == '-')
+    if (count != 2 || !strstr(words[1], "::refused_"))
         return;
     asked = mmap(0, sizeof *asked, READ_AND_WRITE, SHARED_WITH_COPIES, -1, 0);
     for (number = 1; number <= last + UNREFUSED; number++) {

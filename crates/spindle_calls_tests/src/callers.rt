@@ -43,33 +43,6 @@ pub fn squares<H: Threads + Wait + AllocGlobal + Sync>(
     run_one::<Square>(rt, rt.alloc(), &Pool::of_machine(rt), 0, numbers)
 }
 
-/// What so many jobs answer to the items.
-pub fn outputs_of<J: Job + Send, G: Gate + Sync, H: Threads + Wait + Sync>(
-    rt: &H,
-    alloc: Global,
-    pool: &Pool<G>,
-    jobs: usize,
-    items: Vec<J::In>,
-) -> Result<Vec<J::Out>, Fault>
-where
-    J::In: Send + Sync,
-    J::Out: Send,
-    J::Inner: Send,
-    <J::Inner as Nest>::ChildSlots: Send + Sync,
-    requires jobs { 0 < jobs }
-    ensures { IfOk result (λ outputs. AllZip J.meets items.items outputs.items) }
-{
-    LockOf::<J>::with_lock(
-        rt,
-        alloc,
-        pool,
-        pool.max_num_threads(),
-        |leader|
-            requires { 0 < jobs }
-        { leader.for_each(rt, alloc, jobs, items) },
-    )?
-}
-
 /// Each number and one more, by one round over as many chunks of a shared list as there are jobs.
 pub fn one_more_each<G: Gate + Sync, H: Threads + Wait + Sync>(
     rt: &H,
@@ -82,7 +55,7 @@ pub fn one_more_each<G: Gate + Sync, H: Threads + Wait + Sync>(
     ensures { IfOk result (λ sums. sums.items ≡ map (λ x. x + 1) numbers.items) }
 {
     let chunks = SharedList::from_vec(alloc, numbers)?.share_out_evenly(alloc, jobs)?;
-    let sums = outputs_of::<AddOne, _, _>(rt, alloc, pool, jobs, chunks)?;
+    let sums = run_one::<AddOne>(rt, alloc, pool, jobs, chunks)?;
     Ok(gathered(alloc, sums)??)
 }
 
@@ -101,14 +74,13 @@ where
     J::Out: Send,
     J::Inner: Send,
     <J::Inner as Nest>::ChildSlots: Send + Sync,
-    requires jobs { 0 < jobs }
     requires equal { equal_items.items ≡ items.items }
     requires function { IsFunction J.meets }
     ensures { IfOk result (λ outputs. outputs.0.items ≡ outputs.1.items) }
 {
     let alone = Pool::new(1, Limits { spin: 0, pause: 0 }, NoGate);
-    let by_one = outputs_of::<J, _, _>(rt, alloc, &alone, jobs, items)?;
-    let by_many = outputs_of::<J, _, _>(rt, alloc, pool, jobs, equal_items)?;
+    let by_one = run_one::<J>(rt, alloc, &alone, jobs, items)?;
+    let by_many = run_one::<J>(rt, alloc, pool, jobs, equal_items)?;
     Ok((by_one, by_many))
 }
 

@@ -2,13 +2,14 @@
 //! memory is there, that a closure is called once for each item, and on which threads.
 
 use crate::checks::{are, holds, is};
-use crate::gates::Meetings;
+use crate::gates::{Meeting, Meetings};
 use crate::sevens::{are_seven_squares, seven_items};
 use spindle::lock::{Gate, Limits, NoGate, Pool};
 use spindle::{Fault, for_each, for_each_raw};
+use std::alloc::Global;
 use std::process::Abort;
 use std::sync::atomic::{AtomicUsize, Ordering};
-use std::thread::available_parallelism;
+use std::thread::{Threads, available_parallelism};
 
 #[test]
 fn lists_outside_a_lock_are_answered(rt: HostRuntime) -> Result<(), Fault> {
@@ -51,38 +52,40 @@ fn a_closure_is_called_once_for_each_number(rt: HostRuntime) -> Result<(), Fault
     Ok(())
 }
 
-// Two items each wait for the other. Two threads are there on every machine.
+// Has two items begin at a gate, and then two numbers, so many times.
+fn begin_both<H: Threads + Sync>(
+    rt: &H,
+    alloc: Global,
+    pool: &Pool<NoGate>,
+    gate: &Meeting<'_>,
+    times: usize,
+) -> Result<(), Fault> {
+    for _ in 0..times {
+        let items = vec![in alloc; (), ()]?;
+        for_each(rt, alloc, pool, 2, items, |()| gate.begun(0))?;
+        for_each_raw(rt, alloc, pool, 2, |n| gate.begun(n))?;
+    }
+    Ok(())
+}
+
+// Each waits for the other. Two threads are there on every machine.
 #[test]
 fn two_items_run_side_by_side(rt: HostRuntime) -> Result<(), Fault> {
-    let alloc = rt.alloc();
     let pool = Pool::new(2, Limits::new(), NoGate);
     let meetings = Meetings::new();
-    let gate = meetings.of_jobs(2);
-    for _ in 0..20 {
-        let items = vec![in alloc; (), ()]?;
-        for_each(&rt, alloc, &pool, 2, items, |()| gate.begun(0))?;
-        for_each_raw(&rt, alloc, &pool, 2, |n| gate.begun(n))?;
-    }
+    begin_both(&rt, rt.alloc(), &pool, &meetings.of_jobs(2), 20)?;
     is(&rt, meetings.counts(), (80, 0));
     Ok(())
 }
 
-// The first of two items waits in vain for the second.
+// The first of two waits in vain for the second.
 #[test]
 fn a_pool_of_one_thread_runs_item_after_item(rt: HostRuntime) -> Result<(), Fault> {
     let alloc = rt.alloc();
     let pool = Pool::new(1, Limits::new(), NoGate);
     let meetings = Meetings::new();
-    let gate = meetings.missed_by(2);
-    for_each(
-        &rt,
-        alloc,
-        &pool,
-        2,
-        vec![in alloc; (), ()]?,
-        |()| gate.begun(0),
-    )?;
-    is(&rt, meetings.counts(), (2, 1));
+    begin_both(&rt, alloc, &pool, &meetings.missed_by(2), 1)?;
+    is(&rt, meetings.counts(), (4, 2));
     let turn = AtomicUsize::new(0);
     let turns = for_each_raw(
         &rt,
