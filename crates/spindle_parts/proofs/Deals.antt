@@ -69,23 +69,23 @@ own_left xs each i =
     let e : each * (i + 1) ≡ each * i + each = omega arith in
     rw e (drop-drop each (each * i) xs)
 
--- before its turn, a hand is empty
-pub hand_empty : {A : Type 0} (F : ℕ → List A) (threads i : ℕ) → i < threads → get_or (map F (counted 0 i) ++ replicate (threads - i) []) i [] ≡ []
-hand_empty F threads i h =
+-- before its turn, a list is empty
+pub list_empty : {A : Type 0} (F : ℕ → List A) (threads i : ℕ) → i < threads → get_or (map F (counted 0 i) ++ replicate (threads - i) []) i [] ≡ []
+list_empty F threads i h =
     let e : threads - i ≡ suc (threads - (i + 1)) = omega arith in
     let n : length (map F (counted 0 i)) ≡ i = length-map (counted 0 i) F ∙ length-counted 0 i in
     rw e (get_or_at (map F (counted 0 i)) [] (replicate (threads - (i + 1)) []) [] i n)
 
--- one more hand was dealt
-pub hands_next : {H A : Type 0} (f : H → List A) (hands : List H) (F : ℕ → List A) (threads i : ℕ) (hand : H) → i < threads
-    → map f hands ≡ map F (counted 0 i) ++ replicate (threads - i) [] → f hand ≡ F i
-    → map f (set hands i hand) ≡ map F (counted 0 (i + 1)) ++ replicate (threads - (i + 1)) []
-hands_next f hands F threads i hand h e k =
+-- one more list was dealt
+pub lists_next : {H A : Type 0} (f : H → List A) (lists : List H) (F : ℕ → List A) (threads i : ℕ) (list : H) → i < threads
+    → map f lists ≡ map F (counted 0 i) ++ replicate (threads - i) [] → f list ≡ F i
+    → map f (set lists i list) ≡ map F (counted 0 (i + 1)) ++ replicate (threads - (i + 1)) []
+lists_next f lists F threads i list h e k =
     let s : threads - i ≡ suc (threads - (i + 1)) = omega arith in
     let n : length (map F (counted 0 i)) ≡ i = length-map (counted 0 i) F ∙ length-counted 0 i in
     let rest = replicate (threads - (i + 1)) [] in
     let more : map F (counted 0 (i + 1)) ≡ map F (counted 0 i) ++ F i ∷ [] = rw (counted_snoc 0 i, zero-add i) (map-append F (counted 0 i) (i ∷ [])) in
-    rw (map-set f hands i hand, e, s, more, append_assoc (map F (counted 0 i)) (F i ∷ []) rest, k) (set_at (map F (counted 0 i)) [] rest (F i) i n)
+    rw (map-set f lists i list, e, s, more, append_assoc (map F (counted 0 i)) (F i ∷ []) rest, k) (set_at (map F (counted 0 i)) [] rest (F i) i n)
 
 -- what is dealt, under a function of each element
 map-dealt : {A B : Type 0} (f : A → B) (xs : List A) (threads i : ℕ) → map f (dealt xs threads i) ≡ dealt (map f xs) threads i

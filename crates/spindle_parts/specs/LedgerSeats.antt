@@ -5,8 +5,8 @@ use Rattle.spindle_parts.specs.declared.requests.plays.Account.{Account}
 use Rattle.spindle_parts.specs.declared.requests.Requests.{Requests}
 
 -- how many child slots the table has
-abbrev pub slot_count : Requests → ℕ
-slot_count r = r.table.shared.key
+abbrev pub child_slot_count : Requests → ℕ
+child_slot_count r = r.table.shared.key
 
 -- it is a seat of this table
 abbrev pub IsSeatOf : Requests → Seat (Unit {0}) Account → Type 0

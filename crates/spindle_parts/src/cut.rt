@@ -1,7 +1,7 @@
 //! Cutting a list of items into numbered pieces, and dealing the pieces to threads.
 //!
 //! Runs of items move as blocks, from the back of the list: no item is moved or looked at by
-//! itself. Every growth that a call needs comes before what it hands out, and where one is refused
+//! itself. Every growth that a call needs comes before what it lists out, and where one is refused
 //! the list is put together again.
 ghost use Rattle.std.specs.Prelude.{◌≡◌, ◌+◌, ◌<◌, ◌≤◌, ◌++◌, [], length, map, min, reverse, replicate, take, drop, IfOk, OnOk, OnErr, IsOk, IsErrOf, vec_len};
 ghost use Rattle.std.specs.Prelude.{vec_capacity};
@@ -106,9 +106,9 @@ fn put_back<T>(items: &mut Vec<T>, mut pieces: Vec<Piece<T>>)
 /// Deals the pieces to threads: thread i gets its run, as long as every other thread's, and then
 /// one of the pieces that are left over, where there is one for it.
 ///
-/// So the hand of thread i holds what its own range of the round stands for, and one of the pieces
+/// So the list of thread i holds what its own range of the round stands for, and one of the pieces
 /// of the remainder. This is the order in which spindle's workers count their jobs. No item is
-/// dropped: `T: Drop` lets go of empty hands where a growth is refused.
+/// dropped: `T: Drop` lets go of empty lists where a growth is refused.
 pub fn deal<T: Drop>(
     alloc: Global,
     pieces: &mut Vec<Piece<T>>,
@@ -116,64 +116,64 @@ pub fn deal<T: Drop>(
 ) -> Result<Vec<Vec<Piece<T>>>, Fault>
     requires threads { 0 < threads }
     requires numbers { map (λ p. p.number) pieces.old.items ≡ counted 0 (vec_len pieces.old) }
-    ensures dealt { IfOk result (λ hands.
-        map (λ hand. hand.items) hands.items
+    ensures dealt { IfOk result (λ lists.
+        map (λ list. list.items) lists.items
         ≡ map (dealt pieces.old.items threads) (counted 0 threads)) }
     ensures numbers { let numbers = counted 0 (vec_len pieces.old) in
-        IfOk result (λ hands.
-        map (λ hand. map (λ p. p.number) hand.items) hands.items
+        IfOk result (λ lists.
+        map (λ list. map (λ p. p.number) list.items) lists.items
         ≡ map (dealt numbers threads) (counted 0 threads)) }
 
     // No piece is dropped, repeated or altered.
-    ensures all { IfOk result (λ hands.
-        IsPermutation pieces.old.items (joined (map (λ hand. hand.items) hands.items))) }
+    ensures all { IfOk result (λ lists.
+        IsPermutation pieces.old.items (joined (map (λ list. list.items) lists.items))) }
     ensures taken { OnOk result (pieces.new.items ≡ []) }
     ensures memory { OnErr result (IsErrOf result Fault.Memory) }
     ensures kept { OnErr result (pieces.new.items ≡ pieces.old.items) }
 {
-    let mut hands = empty_hands(alloc, pieces.len(), threads)?;
+    let mut lists = empty_lists(alloc, pieces.len(), threads)?;
     let each = pieces.len() / threads;
     let mut rest = pieces.split_off(each * threads)?;
     pieces.reverse();
     rest.reverse();
-    for hand in hands.iter_mut() {
-        move_last(pieces, hand, each);
-        move_last(&mut rest, hand, 1);
+    for list in lists.iter_mut() {
+        move_last(pieces, list, each);
+        move_last(&mut rest, list, 1);
     }
-    Ok(hands)
+    Ok(lists)
 }
 
 /// One empty list a thread, with room for what the thread is dealt of `count` pieces.
-fn empty_hands<T: Drop>(
+fn empty_lists<T: Drop>(
     alloc: Global,
     count: usize,
     threads: usize,
 ) -> Result<Vec<Vec<Piece<T>>>, Fault>
     requires { 0 < threads }
-    ensures empty { IfOk result (λ hands.
-        map (λ hand. hand.items) hands.items ≡ replicate threads []) }
-    ensures rooms { IfOk result (λ hands.
-        map (λ hand. vec_capacity hand) hands.items ≡ lengths_of count threads) }
+    ensures empty { IfOk result (λ lists.
+        map (λ list. list.items) lists.items ≡ replicate threads []) }
+    ensures rooms { IfOk result (λ lists.
+        map (λ list. vec_capacity list) lists.items ≡ lengths_of count threads) }
     ensures memory { OnErr result (IsErrOf result Fault.Memory) }
 {
     let each = count / threads;
     let over = count % threads;
-    let mut hands = Vec::with_capacity(alloc, threads)?;
+    let mut lists = Vec::with_capacity(alloc, threads)?;
     for thread in 0..threads {
         let room = if thread < over { each + 1 } else { each };
-        hands.push_reserved(Vec::with_capacity(alloc, room)?);
+        lists.push_reserved(Vec::with_capacity(alloc, room)?);
     }
-    Ok(hands)
+    Ok(lists)
 }
 
-/// Moves the last `count` pieces, or all that there are, to the end of a hand, the last one first.
-fn move_last<T>(pieces: &mut Vec<Piece<T>>, hand: &mut Vec<Piece<T>>, count: usize)
-    requires room { vec_len hand.old + min count (vec_len pieces.old) ≤ vec_capacity hand.old }
-    ensures hand { hand.new.items ≡ hand.old.items ++ take count (reverse pieces.old.items) }
+/// Moves the last `count` pieces, or all that there are, to the end of a list, the last one first.
+fn move_last<T>(pieces: &mut Vec<Piece<T>>, list: &mut Vec<Piece<T>>, count: usize)
+    requires room { vec_len list.old + min count (vec_len pieces.old) ≤ vec_capacity list.old }
+    ensures list { list.new.items ≡ list.old.items ++ take count (reverse pieces.old.items) }
     ensures pieces { reverse pieces.new.items ≡ drop count (reverse pieces.old.items) }
-    ensures room { vec_capacity hand.new ≡ vec_capacity hand.old }
+    ensures room { vec_capacity list.new ≡ vec_capacity list.old }
 {
     for _ in 0..count.min(pieces.len()) {
-        hand.push_reserved(pieces.take_last());
+        list.push_reserved(pieces.take_last());
     }
 }

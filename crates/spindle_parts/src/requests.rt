@@ -50,13 +50,13 @@ pub enum TakePlace {
 }
 
 impl Requests {
-    ghost use Rattle.spindle_parts.specs.LedgerSeats.{slot_count, IsSeatOf, IsSameSeat};
+    ghost use Rattle.spindle_parts.specs.LedgerSeats.{child_slot_count, IsSeatOf, IsSameSeat};
 
     /// A ledger with nothing asked for and no place open. As a fresh lock has it, rest is announced
     /// and exit isn't. The seat is the leader's. `Memory` where there is no room for the words.
     pub fn new(alloc: Global, slots: usize) -> Result<(Requests, Seat), Fault>
         ensures seat { IfOk result (λ r. IsSeatOf r.0 r.1 × (r.1.id ≡ 0) × (r.1.me ≡ (blank, []))) }
-        ensures slots { IfOk result (λ r. slot_count r.0 ≡ slots) }
+        ensures slots { IfOk result (λ r. child_slot_count r.0 ≡ slots) }
         ensures memory { OnErr result (IsErrOf result Fault.Memory) }
     {
         // Where the count is capped no allocator has room for it.
@@ -103,7 +103,7 @@ impl Requests {
     /// Opens `n` places at the slot, for requests that the seat answers for.
     pub fn install(&self, seat: &mut Seat, slot: usize, n: usize)
         requires seat { IsSeatOf self.now seat.old }
-        requires slot { slot < slot_count self.now }
+        requires slot { slot < child_slot_count self.now }
         requires credit { n ≤ seat.old.me.0.credit }
         ensures seat { IsSameSeat seat.old seat.new }
         ensures step { (found : ℕ)
@@ -116,7 +116,7 @@ impl Requests {
     /// Tries once to fill a place of the slot. Who took one answers for its request.
     pub fn try_take_place(&self, seat: &mut Seat, slot: usize) -> TakePlace
         requires seat { IsSeatOf self.now seat.old }
-        requires slot { slot < slot_count self.now }
+        requires slot { slot < child_slot_count self.now }
         ensures seat { IsSameSeat seat.old seat.new }
         ensures step { TookBy (place_word slot) result seat.old.me.0 seat.new.me.0 }
     {
@@ -135,7 +135,7 @@ impl Requests {
     /// their requests.
     pub fn close(&self, seat: &mut Seat, slot: usize) -> usize
         requires seat { IsSeatOf self.now seat.old }
-        requires slot { slot < slot_count self.now }
+        requires slot { slot < child_slot_count self.now }
         ensures seat { IsSameSeat seat.old seat.new }
         ensures step { seat.new.me.0 ≡ closing (place_word slot) result seat.old.me.0 }
     {
@@ -190,7 +190,7 @@ impl Requests {
 
     fn load(&self, seat: &mut Seat, word: usize) -> u64
         requires seat { IsSeatOf self.now seat.old }
-        requires word { word < place_word (slot_count self.now) }
+        requires word { word < place_word (child_slot_count self.now) }
         ensures seat { IsSameSeat seat.old seat.new }
         ensures step { seat.new.me.0 ≡ loading word result seat.old.me.0 }
         ensures flag { IsFlag word → result ≤ 1 }
@@ -212,7 +212,7 @@ impl Requests {
     /// Lowers the slot's places by 1 if they are `unfilled`, and says what they were.
     fn exchange_place(&self, seat: &mut Seat, slot: usize, unfilled: u64) -> u64
         requires seat { IsSeatOf self.now seat.old }
-        requires slot { slot < slot_count self.now }
+        requires slot { slot < child_slot_count self.now }
         requires positive { 0 < unfilled }
         ensures seat { IsSameSeat seat.old seat.new }
         ensures hit { result ≡ unfilled

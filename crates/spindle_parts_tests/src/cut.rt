@@ -1,4 +1,4 @@
-//! Pieces and hands: rows of each call, and what a refused growth leaves.
+//! Pieces, and the lists that are dealt to threads: rows of each call, and what a refused growth leaves.
 //!
 //! The clauses of these calls say what an Ok answers and what a refusal leaves. These rows show what no clause says: that memory is
 //! refused only where a growth was.
@@ -55,24 +55,24 @@ fn refused_cut_leaves_the_list(rt: HostRuntime) -> Result<(), Fault> {
     Ok(())
 }
 
-/// Fails where so many pieces aren't dealt into hands of these numbers, or where a refusal doesn't leave them.
-fn have_hands(rt: &impl Abort, alloc: Global, count: u64, want: &[&[u64]]) -> Result<(), Fault> {
+/// Fails where so many pieces aren't dealt into lists of these numbers, or where a refusal doesn't leave them.
+fn have_lists(rt: &impl Abort, alloc: Global, count: u64, want: &[&[u64]]) -> Result<(), Fault> {
     let Ok(mut pieces) = singles(alloc, count) else {
         return Ok(());
     };
     assert!(rt; want.len() > 0);
-    let hands = match deal(alloc, &mut pieces, want.len()) {
-        Ok(hands) => hands,
+    let lists = match deal(alloc, &mut pieces, want.len()) {
+        Ok(lists) => lists,
         Err(fault) => {
             holds(rt, matches!(fault, Fault::Memory));
             is(rt, pieces.len() as u64, count);
             deal(alloc, &mut pieces, want.len())?
         }
     };
-    is(rt, (pieces.len(), hands.len()), (0, want.len()));
-    for (hand, numbers) in hands.iter().zip(want) {
-        is(rt, hand.len(), numbers.len());
-        for (piece, number) in hand.iter().zip(*numbers) {
+    is(rt, (pieces.len(), lists.len()), (0, want.len()));
+    for (list, numbers) in lists.iter().zip(want) {
+        is(rt, list.len(), numbers.len());
+        for (piece, number) in list.iter().zip(*numbers) {
             is(rt, piece.number as u64, *number);
             are(rt, &piece.items, &[*number]);
         }
@@ -88,7 +88,7 @@ fn refused_deal_leaves_the_pieces(rt: HostRuntime) -> Result<(), Fault> {
         (3, &[&[0], &[1], &[2], &[]]),
     ];
     for (count, want) in rows {
-        have_hands(&rt, rt.alloc(), count, want)?;
+        have_lists(&rt, rt.alloc(), count, want)?;
     }
     Ok(())
 }

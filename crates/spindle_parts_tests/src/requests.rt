@@ -3,7 +3,7 @@
 //! Each call says which step it made, and the rule of the ledger that its books balance. These rows show what no clause says: what
 //! the calls find where one thread steps, which flags a fresh ledger has, and that memory is refused only where it was.
 ghost use Rattle.std.specs.Prelude.{◌≡◌, ◌<◌};
-ghost use Rattle.spindle_parts.specs.LedgerSeats.{slot_count, IsSeatOf};
+ghost use Rattle.spindle_parts.specs.LedgerSeats.{child_slot_count, IsSeatOf};
 
 use crate::checks::{holds, is};
 use spindle_parts::fault::Fault;
@@ -12,7 +12,7 @@ use std::process::Abort;
 
 /// Asks for three requests, which are places of slot 0 then.
 fn open_three(rt: &impl Abort, books: &Requests, seat: &mut Seat)
-    requires { IsSeatOf books.now seat.old × (0 < slot_count books.now) }
+    requires { IsSeatOf books.now seat.old × (0 < child_slot_count books.now) }
     ensures { IsSeatOf books.now seat.new }
 {
     books.ask(seat, 3);
@@ -23,7 +23,7 @@ fn open_three(rt: &impl Abort, books: &Requests, seat: &mut Seat)
 
 /// Takes a place of the slot, and its request back: so many are left.
 fn take_one(rt: &impl Abort, books: &Requests, seat: &mut Seat, slot: usize, left: u64)
-    requires { IsSeatOf books.now seat.old × (slot < slot_count books.now) }
+    requires { IsSeatOf books.now seat.old × (slot < child_slot_count books.now) }
     ensures { IsSeatOf books.now seat.new }
 {
     let answer = books.try_take_place(seat, slot);
@@ -36,7 +36,7 @@ fn take_one(rt: &impl Abort, books: &Requests, seat: &mut Seat, slot: usize, lef
 
 /// Closes slot 0, which has all requests that are left, so many, and takes them back.
 fn close_last(rt: &impl Abort, books: &Requests, seat: &mut Seat, want: usize)
-    requires { IsSeatOf books.now seat.old × (0 < slot_count books.now) }
+    requires { IsSeatOf books.now seat.old × (0 < child_slot_count books.now) }
 {
     let left = books.close(seat, 0);
     is(rt, left, want);

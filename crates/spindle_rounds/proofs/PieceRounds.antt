@@ -48,7 +48,7 @@ module _ {P A : Type 0} (answers : P → A → Type 0) where
           let p = round_published f w h.0 n false r.4 step in record {
             hand = ap (λ (z : HandOf). z.1) step ∙ (same ∙ ap (λ (z : HandOf). z.1) gave);
             board = ap (λ (z : HandOf). z.0.board) step ∙ (ap (λ (z : View P). z.board) stored.0 ∙ board);
-            task = (p.0, λ _. p.1);
+            on = (p.0, λ _. p.1);
             seat = (
               ap (λ (z : HandOf). z.0.standing) step ∙ (r.4 ∙ sym h.1),
               ap (λ (z : HandOf). z.0.leader) step ∙ (ap (λ (z : View P). z.leader) stored.0 ∙ ap (λ (z : HandOf). z.0.leader) gave),

@@ -121,7 +121,7 @@ module _ {P A : Type 0} (answers : P → A → Type 0) where
         → u.0.leader ≡ true → IsIdle u.0 → IsDone u.0 → AwaitsAnswers answers slots n u
     awaits m w u l p on leads idle done = let r : ℕ = round_of m.0.standing in let same = on.board in (
       leads,
-      (let inside = p.task.0.inside in (inside.0, on.standing ∙ inside.1, idle.0, idle.1)),
+      (let inside = p.on.0.inside in (inside.0, on.standing ∙ inside.1, idle.0, idle.1)),
       done,
       λ k lt. dite (dec_le n k)
           (λ le out. let v : Vacant ≡ Out = sym (l.vacant k le lt) ∙ (sym (ap (λ (b : Board). spot_at b k) same) ∙ out) in absurd cc)

@@ -9,21 +9,21 @@ use Rattle.spindle_rounds.specs.RoundConditions.{HasEmptiedAll}
 use Rattle.spindle_rounds.specs.RoundSlots.{Discipline}
 use Rattle.spindle_rounds.specs.RoundViews.{Onward, SeesAsBefore, SharesAsBefore}
 use Rattle.spindle_rounds.specs.Seating.{IsSeatAt, IsSameSeat}
-use Rattle.spindle_rounds.specs.Working.{OnTask}
+use Rattle.spindle_rounds.specs.Working.{OnPublished}
 
--- the seat is one of the round's table, and at work on the task
-pub record IsAtTask {T S N : Type 0} (round : Round T S N) (task : PublishedRound)
+-- the seat is one of the round's table, and at work in the published round
+pub record IsAtPublished {T S N : Type 0} (round : Round T S N) (published : PublishedRound)
     (s : Seat S (View N)) : Type 0 where
   pub seated : IsSeatAt round.init s
   pub sized : s.me.0.threads ≡ round.init.threads
-  pub on : OnTask task.jobs task.may_stop s.me.0
+  pub on : OnPublished published.jobs published.may_stop s.me.0
 
--- it has gone on in its task
-pub record WentOn {T S N : Type 0} (round : Round T S N) (task : PublishedRound)
+-- it has gone on in its round
+pub record WentOn {T S N : Type 0} (round : Round T S N) (published : PublishedRound)
     (s t : Seat S (View N)) : Type 0 where
   pub same : IsSameSeat s t
   pub on : Onward s.me.0 t.me.0
-  pub at : IsAtTask round task t
+  pub at : IsAtPublished round published t
 
 -- the number k has begun, and its slot was taken into hands of which this held before
 abbrev pub HasTaken : {S N : Type 0} → Discipline S N → (List (ℕ × S) → Type 0) → ℕ → Me S (View N)

@@ -10,7 +10,7 @@ use Rattle.spindle_rounds.specs.RoundShown.{Showed}
 use Rattle.spindle_rounds.specs.RoundSteps.{round_of}
 use Rattle.spindle_rounds.specs.RoundConditions.{IsFreeInside, IsDone}
 use Rattle.spindle_rounds.specs.RoundViews.{SharesAsBefore, published_of}
-use Rattle.spindle_rounds.specs.Working.{OnTask}
+use Rattle.spindle_rounds.specs.Working.{OnPublished}
 use Rattle.spindle_rounds.specs.SlotSteps.{board_back, HasPublished}
 use Rattle.spindle_rounds.specs.RoundPieces.{pieces, AreFilled}
 
@@ -23,7 +23,7 @@ module _ {P A : Type 0} (answers : P → A → Type 0) where
   pub record PublishedPieces (n : ℕ) (m w : Hand) : Type 0 where
     pub hand : w.1 ≡ []
     pub board : w.0.board ≡ board_back (pieces answers) (round_of m.0.standing) m.1 m.0.board
-    pub task : OnTask n false w.0
+    pub on : OnPublished n false w.0
     pub seat : (w.0.standing ≡ m.0.standing) × (w.0.leader ≡ m.0.leader)
         × (w.0.threads ≡ m.0.threads)
     pub same : SharesAsBefore m.0 w.0 × (w.0.claim ≡ m.0.claim)

@@ -7,8 +7,8 @@ use Rattle.spindle_rounds.specs.RoundSteps.{round_of}
 use Rattle.spindle_rounds.specs.RoundViews.{AtWork, StopsAsBefore, published_of}
 
 -- the seat is at work in a round of n jobs, and has seen no stop of a round that can't stop
-abbrev pub OnTask : {N : Type 0} → ℕ → Bool → View N → Type 0
-OnTask n may_stop v = AtWork n may_stop v × (may_stop ≡ false → v.known.seen_stop ≡ false)
+abbrev pub OnPublished : {N : Type 0} → ℕ → Bool → View N → Type 0
+OnPublished n may_stop v = AtWork n may_stop v × (may_stop ≡ false → v.known.seen_stop ≡ false)
 
 -- it has nothing to finish, and no number left in its share
 abbrev pub IsIdle : {N : Type 0} → View N → Type 0

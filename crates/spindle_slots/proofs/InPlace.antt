@@ -4,7 +4,7 @@ use Rattle.std.proofs.Common.{length-append}
 use Rattle.std.proofs.lemmas.List.{drop-take, nil_from_length, take_all}
 use Rattle.std.proofs.lemmas.Slice.Zip.{AllZip-long}
 use Rattle.std.specs.List.{AllZip}
-use Rattle.spindle_slots.specs.InPlace.{HaveRoom, last_pieces}
+use Rattle.spindle_slots.specs.InPlace.{HaveCapacity, last_pieces}
 use Rattle.spindle_trays.specs.PieceRuns.{piece_start, items_before, piece_at}
 
 module _ {T : Type 0} where
@@ -42,13 +42,13 @@ module _ {T : Type 0} where
       let e : to ≡ from + (to - from) = omega arith in ap (λ n. drop from (take n items)) e ∙ drop-take from (to - from) items
 
 -- one more with room, and one less
-pub room_more : (n : ℕ) (rooms : List ℕ) (room : ℕ) → HaveRoom n rooms → n ≤ room → HaveRoom n (rooms ++ room ∷ [])
-unfolding HaveRoom
+pub room_more : (n : ℕ) (rooms : List ℕ) (room : ℕ) → HaveCapacity n rooms → n ≤ room → HaveCapacity n (rooms ++ room ∷ [])
+unfolding HaveCapacity
 room_more n [] room h le = (le, tt {0})
 room_more n (r ∷ rooms) room h le = (h.0, room_more n rooms room h.1 le)
 
-pub room_less : (n : ℕ) (rooms : List ℕ) (room : ℕ) → HaveRoom n (rooms ++ room ∷ []) → HaveRoom n rooms × (n ≤ room)
-unfolding HaveRoom
+pub room_less : (n : ℕ) (rooms : List ℕ) (room : ℕ) → HaveCapacity n (rooms ++ room ∷ []) → HaveCapacity n rooms × (n ≤ room)
+unfolding HaveCapacity
 room_less n [] room h = (tt {0}, h.0)
 room_less n (r ∷ rooms) room h = let more = room_less n rooms room h.1 in ((h.0, more.0), more.1)
 

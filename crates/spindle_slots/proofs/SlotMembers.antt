@@ -22,7 +22,7 @@ use Rattle.spindle_rounds.specs.DetachedParties.{IsSameParty}
 use Rattle.spindle_rounds.specs.Working.{IsIdle}
 use Rattle.spindle_threads.specs.declared.tables.Tables.{Tables}
 use Rattle.spindle_threads.specs.Members.{IsAt}
-use Rattle.spindle_threads.specs.SlotMembers.{StandsAt, HoldsEmpty, empty_slots, view_in}
+use Rattle.spindle_threads.specs.SlotMembers.{IsDetachedLeader, HoldsEmpty, empty_slots, view_in}
 use Rattle.spindle_slots.specs.SlotRounds.{LeadsIn}
 
 many_same : {X : Type 0} (n : ℕ) (x : X) → length (replicate n x) ≡ n
@@ -49,7 +49,7 @@ module _ {P A : Type 0} where
 
 -- who stands there without its barrier stands at it as it did
 pub stood : {T S N : Type 0} (tables : Tables T S N) (b : Barrier T S N) (s : DetachedParty T S N) → IsSameParty b s → b.init.now ≡ tables.round.init
-    → StandsAt tables s → IsAt tables b × (b.seat.me.0.leader ≡ true) × MayFill b.seat.me.0 × IsIdle b.seat.me.0
+    → IsDetachedLeader tables s → IsAt tables b × (b.seat.me.0.leader ≡ true) × MayFill b.seat.me.0 × IsIdle b.seat.me.0
 stood {T} {S} {N} tables b s is home h = let e : s.seat ≡ b.seat = is.seat in let seated = ap (λ (z : Seat S (View N)). z.table_id) (sym e) ∙ h.0 in
     let sense : HasSense s.seat.me.0.standing s.sense = subst (λ (z : Standing). HasSense z s.sense) (sym h.3) h.6 in
     let part : HasPart s.seat.me.0.standing s.is_member = subst (λ (z : Standing). HasPart z s.is_member) (sym h.3) h.7 in (
@@ -74,9 +74,9 @@ Own P A = Seat (SlotState P A) (View P)
 module _ {T P A : Type 0} where
   -- at its barrier it leads as it did without
   pub resumed : (tables : Tables T (SlotState P A) P) (b : Barrier T (SlotState P A) P) (s : DetachedParty T (SlotState P A) P) → IsSameParty b s
-      → b.init.now ≡ tables.round.init → StandsAt tables s → HoldsEmpty (slots_of tables.round.init) s → LeadsIn tables b
+      → b.init.now ≡ tables.round.init → IsDetachedLeader tables s → HoldsEmpty (slots_of tables.round.init) s → LeadsIn tables b
   resumed tables b s is home h held = let e : s.seat ≡ b.seat = is.seat in let there = stood tables b s is home h in record {
-    stands = record {
+    leads = record {
       at = there.0;
       leads = there.1;
       between = there.2;
@@ -89,8 +89,8 @@ module _ {T P A : Type 0} where
   -- and the other way round
   pub parted : (tables : Tables T (SlotState P A) P) (b : Barrier T (SlotState P A) P) (s : DetachedParty T (SlotState P A) P) → IsSameParty b s
       → LeadsIn tables b
-      → StandsAt tables s × HoldsEmpty (slots_of tables.round.init) s
-  parted tables b s is l = let h = l.stands in let e : s.seat ≡ b.seat = is.seat in let st : Standing = b.seat.me.0.standing in let q : ℕ = h.between.0.0 in
+      → IsDetachedLeader tables s × HoldsEmpty (slots_of tables.round.init) s
+  parted tables b s is l = let h = l.leads in let e : s.seat ≡ b.seat = is.seat in let st : Standing = b.seat.me.0.standing in let q : ℕ = h.between.0.0 in
       let inside : st ≡ Inside q = h.between.0.1 in let here : s.seat.me.0.standing ≡ st = ap (λ (z : Own P A). z.me.0.standing) e in
       let sense : b.sense ≡ q % 2 = subst (λ (z : Standing). HasSense z b.sense) inside h.at.0.1 in
       let part : b.is_member ≡ true = subst (λ (z : Standing). HasPart z b.is_member) inside h.at.0.2 in (
@@ -111,6 +111,7 @@ module _ {T P A : Type 0} where
       )
 
 -- a leader that stands between two rounds may begin the next
-pub may_begin : {T S N : Type 0} (tables : Tables T S N) (o : Option (DetachedParty T S N)) → IsSome o → ForSome o (λ s. StandsAt tables s) → MayFill (view_in o)
+pub may_begin : {T S N : Type 0} (tables : Tables T S N) (o : Option (DetachedParty T S N)) → IsSome o
+    → ForSome o (λ s. IsDetachedLeader tables s) → MayFill (view_in o)
 may_begin tables None there h = absurd cc
 may_begin tables (Some s) there h = let f = h s refl in ((_, f.3), f.4)

@@ -9,13 +9,13 @@ last_pieces items pieces zero = []
 last_pieces items pieces (suc n) = last_pieces items pieces n ++ piece_at items pieces (pieces - suc n) ∷ []
 
 -- each has room for so many items
-unfoldable pub HaveRoom : ℕ → List ℕ → Type 0
-HaveRoom items [] = Unit {0}
-HaveRoom items (room ∷ rooms) = (items ≤ room) × HaveRoom items rooms
+unfoldable pub HaveCapacity : ℕ → List ℕ → Type 0
+HaveCapacity items [] = Unit {0}
+HaveCapacity items (room ∷ rooms) = (items ≤ room) × HaveCapacity items rooms
 
 -- room is ready for so many items in so many chunks, and no chunk waits
 pub record IsReady {T : Type 0} (items jobs : ℕ) (ready : List ℕ) (waiting : List (List T)) (most : ℕ) : Type 0 where
-  pub buffers : HaveRoom (items / jobs + 1) ready
+  pub buffers : HaveCapacity (items / jobs + 1) ready
   pub many : length ready ≡ jobs
   pub none : waiting ≡ []
   pub places : jobs ≤ most

@@ -28,7 +28,7 @@ pub record LeadsAt {T P A : Type 0} (tables : Tables T (SlotState P A) P)
 
 -- and all of them are at its hand, empty
 pub record LeadsIn {T P A : Type 0} (tables : Tables T (SlotState P A) P) (b : Barrier T (SlotState P A) P) : Type 0 where
-  pub stands : LeadsAt tables b
+  pub leads : LeadsAt tables b
   pub hand : HoldsEach IsEmpty (slots_of tables.round.init) b.seat.me.1
 
 -- n pieces at a leader's hand were published, and after their round it has taken all slots out, with their answers

@@ -14,12 +14,12 @@ use Rattle.spindle_rounds.specs.declared.barrier.waiting.ExitStatus.TheVariants 
 use Rattle.spindle_rounds.specs.Seating.{IsSameSeat}
 use Rattle.spindle_rounds.specs.Holding.{Keeps}
 use Rattle.spindle_rounds.specs.Passing.{InNext, WentOut}
-use Rattle.spindle_rounds.specs.Working.{OnTask}
+use Rattle.spindle_rounds.specs.Working.{OnPublished}
 
--- where it is told of a round, its seat knows that round's task
+-- where it is told of a round, its seat is at work in that round
 abbrev pub IsNews : {N : Type 0} → View N → News → Type 0
 IsNews v Exit = Unit {0}
-IsNews v (Round task) = OnTask task.jobs task.may_stop v
+IsNews v (Round published) = OnPublished published.jobs published.may_stop v
 IsNews v Requests = Unit {0}
 
 -- a helper after a round: a member, under its number, or out of the barrier

@@ -40,10 +40,10 @@ abbrev pub LastPublished : {N : Type 0} → (q n : ℕ) → Bool → View N → 
 LastPublished q n may_stop v = (v.laid ≡ Some q)
     × IsDeed (Showed q n may_stop) (published_of v.trail)
 
--- one load of the published word: there is no task exactly where it was 0
-abbrev pub LookedForTask : {N : Type 0} → Option PublishedRound → (old new : View N) → Type 0
-LookedForTask None old new = new ≡ learning 0 old
-LookedForTask (Some task) old new = (word : ℕ) × (0 < word) × (new ≡ learning word old)
+-- one load of the published word: there is no round exactly where it was 0
+abbrev pub LookedForPublished : {N : Type 0} → Option PublishedRound → (old new : View N) → Type 0
+LookedForPublished None old new = new ≡ learning 0 old
+LookedForPublished (Some published) old new = (word : ℕ) × (0 < word) × (new ≡ learning word old)
 
 -- the seats of a helper before its life in the lock and after it: no member, no number, no credit
 pub record AreOut {T S N : Type 0} (tables : Tables T S N) (seats : Seats T S N) : Type 0 where

@@ -18,9 +18,9 @@ abbrev pub empty_slots : {P A : Type 0} → ℕ → List (ℕ × SlotState P A)
 empty_slots slots = numbered 0 (replicate slots Empty) []
 
 -- the leader stands at these tables, inside a round in which it has published nothing
-abbrev pub StandsAt : {T S N : Type 0} → Tables T S N → DetachedParty T S N → Type 0
-StandsAt tables s = let v = s.seat.me.0 in IsSeatAt tables.round.init s.seat × IsSized tables v
-    × (v.leader ≡ true)
+abbrev pub IsDetachedLeader : {T S N : Type 0} → Tables T S N → DetachedParty T S N → Type 0
+IsDetachedLeader tables s = let v = s.seat.me.0 in IsSeatAt tables.round.init s.seat
+    × IsSized tables v × (v.leader ≡ true)
     × (v.standing ≡ Inside (round_of v.standing)) × (v.known.unpublished ≡ true) × IsIdle v
     × (s.sense ≡ round_of v.standing % 2) × (s.is_member ≡ true)
 

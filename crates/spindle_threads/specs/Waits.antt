@@ -7,7 +7,7 @@ use Rattle.spindle_threads.specs.declared.helper_waits.News.{News}
 use Rattle.spindle_threads.specs.declared.helper_waits.News.TheVariants.{Exit, Round, Requests}
 use Rattle.spindle_threads.specs.declared.tables.Tables.{Tables}
 use Rattle.spindle_threads.specs.Signals.{Read, ReadExit, ReadRest}
-use Rattle.spindle_threads.specs.Members.{LookedForTask}
+use Rattle.spindle_threads.specs.Members.{LookedForPublished}
 use Rattle.spindle_rounds.specs.declared.barrier.Barrier.{Barrier}
 use Rattle.spindle_rounds.specs.declared.barrier.steps.Arrival.TheVariants as arrival
 use Rattle.spindle_rounds.specs.declared.barrier.waiting.ExitStatus.{ExitStatus}
@@ -52,14 +52,16 @@ module _ {N : Type 0} where
   FoundNoNews patience [] old new v w = (new ≡ old) × (w ≡ v)
   FoundNoNews patience (rest ∷ rests) old new v w = (before seen asked : Account) × (u : View N)
       × FoundNoNews patience rests old before v u × ReadExit false before seen
-      × LookedForTask None u w × LookedAtRequests patience seen 0 asked × ReadRest rest asked new
+      × LookedForPublished None u w × LookedAtRequests patience seen 0 asked
+      × ReadRest rest asked new
 
   -- the turn that finds some, by its last read
   abbrev pub FoundNews : News → (old new : Account) → (v w : View N) → Type 0
   FoundNews Exit old new v w = ReadExit true old new × (w ≡ v)
-  FoundNews (Round task) old new v w = ReadExit false old new × LookedForTask (Some task) v w
+  FoundNews (Round published) old new v w = ReadExit false old new
+      × LookedForPublished (Some published) v w
   FoundNews Requests old new v w = (seen : Account) × (n : ℕ) × ReadExit false old seen
-      × LookedForTask None v w × (0 < n) × Read REQUESTS n seen new
+      × LookedForPublished None v w × (0 < n) × Read REQUESTS n seen new
 
   -- a wait for news
   abbrev pub WaitedForNews : (patience : ℕ) → News → (old new : Account)

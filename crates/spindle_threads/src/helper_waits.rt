@@ -71,8 +71,8 @@ pub fn await_news<'a, D: SlotContents, H: Wait>(
         if signals.is_exit_announced() {
             return News::Exit;
         }
-        if let Some(task) = member.task() {
-            return News::Round(task);
+        if let Some(published) = member.published() {
+            return News::Round(published);
         }
         if signals.requests_if(idle.looks_at_requests()) > 0 {
             return News::Requests;

@@ -1,7 +1,7 @@
 //! The leader as a member of its lock's barrier: it publishes rounds, and works in them.
 ghost use Rattle.std.specs.Prelude.{◌≡◌, ◌↔◌, ◌≤◌, ℕ, Bool, true, length};
 ghost use Rattle.spindle_threads.specs.Members.{LastPublished, party_view};
-ghost use Rattle.spindle_threads.specs.SlotMembers.{StandsAt};
+ghost use Rattle.spindle_threads.specs.SlotMembers.{IsDetachedLeader};
 ghost use Rattle.spindle_rounds.specs.Leftovers.{AreUnbegun, HasMoment, IsMarked, IsFoundLeft};
 ghost use Rattle.spindle_rounds.specs.RoundSlots.{bare};
 ghost use Rattle.spindle_rounds.specs.RoundSteps.{round_of};
@@ -39,7 +39,7 @@ impl<'a, D: SlotContents> LeaderMember<'a, D> {
 
     /// What the leader keeps of its own, to come back to its barrier with.
     pub fn part(self) -> DetachedParty<D>
-        ensures stands { StandsAt self.entry.member.tables.now result }
+        ensures leads { IsDetachedLeader self.entry.member.tables.now result }
         ensures seat { result.seat ≡ self.entry.member.barrier.seat }
     {
         let LeaderMember { member } = self;
@@ -53,32 +53,32 @@ impl<'a, D: SlotContents> LeaderMember<'a, D> {
 }
 
 impl<'a> LeaderMember<'a, Bare> {
-    /// A leader's round: it publishes the task, does this work in it, and waits until the round has ended. The work comes back.
+    /// A leader's round: it publishes it, does this work in it, and waits until the round has ended. The work comes back.
     pub fn lead<W: Work<Bare> + Drop, H: Threads + Wait + Sync>(
         &mut self,
         rt: &H,
         mut signals: Signals<'a>,
-        task: PublishedRound,
+        published: PublishedRound,
         work: W,
     ) -> W
-        requires counted { (2 ≤ task.jobs) × (task.jobs ≤ 4294967295) }
+        requires counted { (2 ≤ published.jobs) × (published.jobs ≤ 4294967295) }
         requires holds { (hands : _) → W.holds work hands }
         ensures holds { (hands : _) × W.holds result hands }
         ensures keeps { HasKept (λ v w. W.keeps work v result w)
             (party_view self.old.member.barrier) (party_view self.new.member.barrier) }
-        ensures played { PlayedRoundOf task.jobs task.may_stop
+        ensures played { PlayedRoundOf published.jobs published.may_stop
             (party_view self.old.member.barrier) (party_view self.new.member.barrier) }
         ensures last { LastPublished (round_of (party_view self.old.member.barrier).standing)
-            task.jobs task.may_stop (party_view self.new.member.barrier) }
+            published.jobs published.may_stop (party_view self.new.member.barrier) }
         ensures tables { self.new.member.tables ≡ self.old.member.tables }
     {
         let member = &mut self.member;
         let tables = member.tables;
-        publish(rt, tables, &mut member.barrier, &mut signals, task);
+        publish(rt, tables, &mut member.barrier, &mut signals, published);
         let claimer = Claimer {
             round: &tables.round,
             thread: 0,
-            task,
+            published,
         };
         let work = claimer.work(rt, member.barrier.seat(), work);
         end_round(rt, tables, &mut member.barrier);

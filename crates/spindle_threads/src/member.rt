@@ -3,8 +3,9 @@ ghost use Rattle.std.specs.Prelude.{◌≡◌, ℕ, ◌<◌, ◌%◌, false, tru
 ghost use Rattle.spindle_rounds.specs.declared.round_table.view.Standing.TheVariants.{Inside};
 ghost use Rattle.spindle_rounds.specs.RoundConditions.{IsDone};
 ghost use Rattle.spindle_rounds.specs.RoundSteps.{round_of};
-ghost use Rattle.spindle_rounds.specs.Working.{OnTask, IsIdle};
-ghost use Rattle.spindle_threads.specs.Members.{IsAt, IsOut, IsSized, LookedForTask, party_view};
+ghost use Rattle.spindle_rounds.specs.Working.{OnPublished, IsIdle};
+ghost use Rattle.spindle_threads.specs.Members.{IsAt, IsOut, IsSized, party_view};
+ghost use Rattle.spindle_threads.specs.Members.{LookedForPublished};
 ghost use Rattle.spindle_rounds.specs.Seating.{IsSeatAt, IsSameSeat, IsSameTable};
 
 use crate::tables::Tables;
@@ -95,11 +96,12 @@ impl<'a, D: SlotContents> Member<'a, D> {
         unreachable!()
     }
 
-    /// The task of the published round, where there is one.
-    pub fn task(&mut self) -> Option<PublishedRound>
-        ensures task { IfSome result (λ task.
-            OnTask task.jobs task.may_stop (party_view self.new.barrier)) }
-        ensures looked { LookedForTask result (party_view self.old.barrier) (party_view self.new.barrier) }
+    /// The published round, where there is one.
+    pub fn published(&mut self) -> Option<PublishedRound>
+        ensures on { IfSome result (λ published.
+            OnPublished published.jobs published.may_stop (party_view self.new.barrier)) }
+        ensures looked { LookedForPublished result
+            (party_view self.old.barrier) (party_view self.new.barrier) }
         ensures member { (self.new.tables ≡ self.old.tables) × (self.new.thread ≡ self.old.thread) }
         ensures leader { (party_view self.new.barrier).leader ≡ (party_view self.old.barrier).leader }
         ensures seat { IsSameSeat self.old.barrier.seat self.new.barrier.seat }
@@ -116,10 +118,10 @@ impl<'a, D: SlotContents> Member<'a, D> {
     pub fn join_in<W: Work<D> + Drop, H: Threads + Wait + Sync>(
         &mut self,
         rt: &H,
-        task: PublishedRound,
+        published: PublishedRound,
         work: W,
     ) -> W
-        requires task { OnTask task.jobs task.may_stop (party_view self.old.barrier) }
+        requires on { OnPublished published.jobs published.may_stop (party_view self.old.barrier) }
         requires helper { (party_view self.old.barrier).leader ≡ false }
         requires holds { (hands : _) → W.holds work hands }
         ensures member { (self.new.tables ≡ self.old.tables) × (self.new.thread ≡ self.old.thread) }
@@ -130,7 +132,7 @@ impl<'a, D: SlotContents> Member<'a, D> {
         let claimer = Claimer {
             round: &self.tables.round,
             thread: self.thread,
-            task,
+            published,
         };
         claimer.work(rt, self.barrier.seat(), work)
     }

@@ -12,7 +12,7 @@ ghost use Rattle.spindle_rounds.specs.RoundPieces.{IsUnrun};
 ghost use Rattle.spindle_rounds.specs.RoundSlots.{spot_at};
 ghost use Rattle.spindle_rounds.specs.SlotLoops.{IsPiece, Turning};
 ghost use Rattle.spindle_rounds.specs.declared.round_table.view.Spot.TheVariants.{Out};
-ghost use Rattle.spindle_rounds.specs.Working.{OnTask, IsIdle};
+ghost use Rattle.spindle_rounds.specs.Working.{OnPublished, IsIdle};
 ghost use Rattle.spindle_threads.specs.Accounts.{account_of, IsSameThread};
 ghost use Rattle.spindle_threads.specs.Helpers.{EndedOrLeft};
 ghost use Rattle.spindle_threads.specs.Waits.{ArrivedAndWaited, WaitedForEnd, patience_of};
@@ -30,50 +30,52 @@ use spindle_rounds::round_table::pieces::{PieceKind, PieceSlots};
 use spindle_rounds::round_table::slots::SlotContents;
 use std::sync::Wait;
 
-/// The leader publishes a task, and wakes the helpers.
+/// The leader publishes a round, and wakes the helpers.
 pub fn publish<'a, D: SlotContents, H: Wait>(
     rt: &H,
     tables: &Tables<D>,
     barrier: &mut Barrier<'a, D>,
     signals: &mut Signals<'a>,
-    task: PublishedRound,
+    published: PublishedRound,
 )
     requires at { IsAt tables.now barrier.old }
     requires leads { MayFill (party_view barrier.old) }
     requires idle { IsIdle (party_view barrier.old) }
-    requires counted { (2 ≤ task.jobs) × (task.jobs ≤ 4294967295) }
+    requires counted { (2 ≤ published.jobs) × (published.jobs ≤ 4294967295) }
     requires pieces { let v = party_view barrier.old in
-        D.discipline.may_publish (round_of v.standing) task.jobs v.board }
+        D.discipline.may_publish (round_of v.standing) published.jobs v.board }
     ensures at { IsAt tables.now barrier.new × Keeps barrier.old barrier.new }
-    ensures task { OnTask task.jobs task.may_stop (party_view barrier.new) }
+    ensures on { OnPublished published.jobs published.may_stop (party_view barrier.new) }
     ensures idle { IsIdle (party_view barrier.new) }
     ensures leader { (party_view barrier.new).leader ≡ (party_view barrier.old).leader }
     ensures published { let old = party_view barrier.old in let new = party_view barrier.new in
         (new.standing ≡ old.standing) × (published_of new.trail
-        ≡ Showed (round_of old.standing) task.jobs task.may_stop ∷ published_of old.trail) }
+        ≡ Showed (round_of old.standing) published.jobs published.may_stop
+        ∷ published_of old.trail) }
     ensures stops { StopsAsBefore (party_view barrier.old) (party_view barrier.new) }
     ensures last { LastPublished (round_of (party_view barrier.old).standing)
-        task.jobs task.may_stop (party_view barrier.new) }
+        published.jobs published.may_stop (party_view barrier.new) }
     ensures rest { EndedRest (account_of signals.old) (account_of signals.new) }
 {
-    tables.round.fill(barrier.seat(), task.jobs);
+    tables.round.fill(barrier.seat(), published.jobs);
     signals.end_rest();
-    publish_task(&tables.round, barrier.seat(), task);
+    store_published(&tables.round, barrier.seat(), published);
     tables.sleep.wake_for_news(rt);
 }
 
-// One store of the task's word: that of a plain round, or of one that may stop.
-fn publish_task<D: SlotContents>(round: &Round<D>, seat: &mut Seat<D>, task: PublishedRound)
+// One store of the published word: that of a plain round, or of one that may stop.
+fn store_published<D: SlotContents>(round: &Round<D>, seat: &mut Seat<D>, published: PublishedRound)
     requires seated { IsSeatAt round.now.init seat.old }
-    requires leads { MayPublish D.discipline round.now.init.threads task.jobs seat.old.me.0 }
-    requires counted { (2 ≤ task.jobs) × (task.jobs ≤ 4294967295) }
+    requires leads { MayPublish D.discipline round.now.init.threads published.jobs seat.old.me.0 }
+    requires counted { (2 ≤ published.jobs) × (published.jobs ≤ 4294967295) }
     ensures seat { IsSameSeat seat.old seat.new }
-    ensures step { seat.new.me ≡ (publishing task.may_stop task.jobs seat.old.me.0, seat.old.me.1) }
+    ensures step { seat.new.me
+        ≡ (publishing published.may_stop published.jobs seat.old.me.0, seat.old.me.1) }
 {
-    if task.may_stop {
-        round.publish_try(seat, task.jobs);
+    if published.may_stop {
+        round.publish_try(seat, published.jobs);
     } else {
-        round.publish(seat, task.jobs);
+        round.publish(seat, published.jobs);
     }
 }
 

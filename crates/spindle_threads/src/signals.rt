@@ -4,7 +4,7 @@
 //! A nested lock asks the lock that it is opened in for helpers, and for places at a child slot. Each stage of that is a value of its
 //! own, so a seat which answers for requests can't be used for anything else.
 ghost use Rattle.std.specs.Prelude.{◌≡◌, ◌<◌, ◌+◌, [], true, false, ℕ};
-ghost use Rattle.spindle_parts.specs.LedgerSeats.{IsSeatOf, slot_count, IsSameSeat};
+ghost use Rattle.spindle_parts.specs.LedgerSeats.{IsSeatOf, child_slot_count, IsSameSeat};
 ghost use Rattle.spindle_parts.specs.LedgerSteps.{blank, subtracting, installing, closing};
 ghost use Rattle.spindle_parts.specs.declared.words.TheConstants.{REQUESTS};
 ghost use Rattle.spindle_threads.specs.Signals.{Read, ReadExit, ReadRest, AnnouncedExit, AnnouncedRest, EndedRest, TookPlace};
@@ -21,7 +21,7 @@ pub struct Signals<'a> {
     seat: Seat,
     child_slots: usize,
     ghost seated: { IsSeatOf ledger.now seat },
-    ghost counted: { slot_count ledger.now ≡ child_slots },
+    ghost counted: { child_slot_count ledger.now ≡ child_slots },
     ghost no_credit: { seat.me.0.credit ≡ 0 },
 }
 
@@ -31,7 +31,7 @@ impl<'a> Signals<'a> {
     /// The signals, by a seat of their ledger, which has so many child slots.
     pub fn new(ledger: &'a Requests, seat: Seat, child_slots: usize) -> Signals<'a>
         requires seated { IsSeatOf ledger.now seat }
-        requires counted { slot_count ledger.now ≡ child_slots }
+        requires counted { child_slot_count ledger.now ≡ child_slots }
         requires no_credit { seat.me.0.credit ≡ 0 }
         ensures { result.seat ≡ seat }
     {
@@ -156,7 +156,7 @@ pub struct HelperRequest<'a> {
     child_slots: usize,
     helpers: usize,
     ghost seated: { IsSeatOf ledger.now seat },
-    ghost counted: { slot_count ledger.now ≡ child_slots },
+    ghost counted: { child_slot_count ledger.now ≡ child_slots },
     ghost credit: { seat.me.0.credit ≡ helpers },
 }
 
@@ -166,7 +166,7 @@ pub struct OpenPlaces<'a> {
     seat: Seat,
     slot: usize,
     ghost seated: { IsSeatOf ledger.now seat },
-    ghost placed: { slot < slot_count ledger.now },
+    ghost placed: { slot < child_slot_count ledger.now },
     ghost no_credit: { seat.me.0.credit ≡ 0 },
 }
 
@@ -179,7 +179,7 @@ impl<'a> HelperRequest<'a> {
         helpers: usize,
     ) -> HelperRequest<'a>
         requires seated { IsSeatOf ledger.now seat }
-        requires counted { slot_count ledger.now ≡ child_slots }
+        requires counted { child_slot_count ledger.now ≡ child_slots }
         requires no_credit { seat.me.0.credit ≡ 0 }
         ensures child_slots { result.child_slots ≡ child_slots }
         ensures helpers { result.helpers ≡ helpers }

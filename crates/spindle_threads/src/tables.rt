@@ -2,7 +2,7 @@
 //! who is there. What the slots of its round table hold is a parameter. A job sees of this what names no slots: its site.
 ghost use Rattle.std.specs.Prelude.{◌≡◌, ℕ, ◌<◌, None, Some, ◌≤◌, IfSome};
 ghost use Rattle.std.specs.Option.{ForSome};
-ghost use Rattle.spindle_parts.specs.LedgerSeats.{slot_count};
+ghost use Rattle.spindle_parts.specs.LedgerSeats.{child_slot_count};
 
 use crate::MOST_THREADS;
 use crate::sleep::Sleep;
@@ -32,12 +32,12 @@ pub struct Tables<D: SlotContents> {
     pub present: Present,
     ghost rounds: { round.init.threads ≡ counts.threads },
     ghost named: { numbers.threads ≡ counts.threads },
-    ghost placed: { slot_count ledger ≡ child_slots },
+    ghost placed: { child_slot_count ledger ≡ child_slots },
 }
 
 impl<D: SlotContents> Tables<D> {
     /// Where the thread of this number runs jobs, which read there how many threads take part.
-    pub fn site<'a>(&'a self, members: Members<'a>, thread: usize) -> JobSite<'a>
+    pub fn site<'a>(&'a self, members: MemberCount<'a>, thread: usize) -> JobSite<'a>
         requires thread { thread < self.now.counts.threads }
         ensures counts { result.counts ≡ self.now.counts }
         ensures members { result.members ≡ members.entry }
@@ -58,7 +58,7 @@ pub struct JobSite<'a> {
     /// How many threads the lock and its pool have.
     pub counts: ThreadCounts,
     /// Where the number of those that take part is read.
-    pub members: Members<'a>,
+    pub members: MemberCount<'a>,
     /// Where the lock's idle threads sleep.
     pub sleep: &'a Sleep,
     /// The number of the thread; none in a job that a leader runs directly.
@@ -93,7 +93,7 @@ impl<'a> JobSite<'a> {
     {
         JobSite {
             counts: self.counts,
-            members: Members::Fixed(self.current()),
+            members: MemberCount::Fixed(self.current()),
             sleep: self.sleep,
             index: self.index,
         }
@@ -111,7 +111,7 @@ impl<'a> JobSite<'a> {
 
 /// Where the number of threads that take part in a lock is read.
 #[derive(Clone, Copy)]
-pub enum Members<'a> {
+pub enum MemberCount<'a> {
     /// At the lock's barrier, at the moment when it is asked for.
     Barrier(&'a BarrierInit<Bare>),
     /// At the threads' own count, at the moment when it is asked for.
@@ -120,7 +120,7 @@ pub enum Members<'a> {
     Fixed(usize),
 }
 
-impl<'a> Members<'a> {
+impl<'a> MemberCount<'a> {
     ghost use Rattle.spindle_threads.specs.ThreadCounts.{told_of};
 
     /// The number, the leader counted, of a lock of so many threads.
@@ -131,9 +131,9 @@ impl<'a> Members<'a> {
         ensures told { IfSome (told_of self.now threads) (λ now. result ≡ now) }
     {
         let members = match self {
-            Members::Barrier(barrier) => barrier.current_num_threads(),
-            Members::Present(present) => present.threads(),
-            Members::Fixed(members) => *members,
+            MemberCount::Barrier(barrier) => barrier.current_num_threads(),
+            MemberCount::Present(present) => present.threads(),
+            MemberCount::Fixed(members) => *members,
         };
         members.max(1).min(threads)
     }

@@ -1,4 +1,4 @@
--- Where a number stands among the hands that numbers are dealt in.
+-- Where a number stands among the lists that numbers are dealt in.
 use Rattle.std.proofs.Common.{◌≡◌, ℕ, ◌+◌, ◌-◌, ◌*◌, ◌/◌, ◌%◌, ◌<◌, ◌≤◌, List, ◌++◌, inl, inr, length, take, drop, get_or, Some, ap, ◌∙◌, zero, suc, arith}
 use Rattle.std.proofs.Common.{length-append, refl, min}
 use Rattle.std.specs.Prelude.{slice_get}
@@ -102,9 +102,9 @@ left_over_length n a =
     length-take 1 (drop a xs) ∙ ap (min 1) (length-drop a xs ∙ ap (λ m. m - a) (length-counted 0 n))
 
 -- how many a thread is dealt
-hand_length : (n threads thread : ℕ) → thread < threads → length (dealt (counted 0 n) threads thread) ≡ n / threads + min 1
+dealt_length : (n threads thread : ℕ) → thread < threads → length (dealt (counted 0 n) threads thread) ≡ n / threads + min 1
     (n - (n / threads * threads + thread))
-hand_length n threads thread h =
+dealt_length n threads thread h =
     rw (
       length-counted 0 n,
       length-append (take (n / threads) (drop (n / threads * thread) (counted 0 n)))
@@ -115,15 +115,15 @@ hand_length n threads thread h =
     ) refl
 
 -- a thread for which a number is left over is dealt one more
-pub longer_hand : (n threads thread : ℕ) → thread < threads → thread < n % threads → n / threads + 1 ≡ length (dealt (counted 0 n) threads thread)
-longer_hand n threads thread h k = omega (arith, hand_length n threads thread h, div-add-mod' n threads)
+pub longer_dealt : (n threads thread : ℕ) → thread < threads → thread < n % threads → n / threads + 1 ≡ length (dealt (counted 0 n) threads thread)
+longer_dealt n threads thread h k = omega (arith, dealt_length n threads thread h, div-add-mod' n threads)
 
 -- and the others aren't
-pub shorter_hand : (n threads thread : ℕ) → thread < threads → n % threads ≤ thread → n / threads ≡ length (dealt (counted 0 n) threads thread)
-shorter_hand n threads thread h k = omega (arith, hand_length n threads thread h, div-add-mod' n threads)
+pub shorter_dealt : (n threads thread : ℕ) → thread < threads → n % threads ≤ thread → n / threads ≡ length (dealt (counted 0 n) threads thread)
+shorter_dealt n threads thread h k = omega (arith, dealt_length n threads thread h, div-add-mod' n threads)
 
 -- behind the run there is one place at most, that of a left-over number
 pub behind : (n threads thread place : ℕ) → thread < threads → place < length (dealt (counted 0 n) threads thread) → n / threads ≤ place → (place ≡ n / threads)
     × (n / threads * threads + thread < n)
 behind n threads thread place h k l =
-    let c = hand_length n threads thread h in (omega (arith, c, k, l), omega (arith, c, k, l))
+    let c = dealt_length n threads thread h in (omega (arith, c, k, l), omega (arith, c, k, l))

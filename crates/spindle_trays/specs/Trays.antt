@@ -20,9 +20,9 @@ waiting items pieces number =
     Waits (record { number = number; inputs = piece_at items pieces number })
 
 -- the pieces that a thread number is dealt, of so many, wait in the first places
-abbrev pub AwaitsHand : {A B : Type 0}
+abbrev pub AwaitsDealt : {A B : Type 0}
     → List A → (pieces threads thread : ℕ) → List (Place (Given A) (Done A B)) → Type 0
-AwaitsHand items pieces threads thread places =
+AwaitsDealt items pieces threads thread places =
     let own = dealt (counted 0 pieces) threads thread in
     take (length own) places ≡ map (waiting items pieces) own
 

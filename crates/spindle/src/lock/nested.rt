@@ -28,7 +28,8 @@ use spindle_trays::job::gate::NoGate;
 use spindle_trays::job::nest::{IsNest, Nest};
 use spindle_trays::lock::helper::join_as_leader;
 use spindle_trays::lock::nested::{
-    Child, ChildLease, ChildSlot, TakesHelpers, close, help_from, make_slots, serve_slots,
+    Child, ChildLease, ChildSlot, TakesHelpers, close, help_from, make_child_slots,
+    serve_child_slots,
 };
 use std::alloc::Global;
 use std::marker::PhantomData;
@@ -63,7 +64,7 @@ pub(crate) fn open<
     let counts = site.counts.nested(max_threads);
     if let Some(child_slots) = child_slots_for(cx, counts) {
         let (child, leader_start) = NestedSlots::open(alloc, counts, site.sleep.idling(), slots)?;
-        let request = cx.asks.ask(&*child.shared.tables);
+        let request = cx.signals.ask(&*child.shared.tables);
         if let Some(lease) = ChildLease::take(rt, child_slots, &child, request, site.sleep) {
             return Ok(lead(rt, child, leader_start, Some(lease), f));
         }
@@ -189,7 +190,7 @@ impl<J: Job, A: RunsPieces<J>> IsNest for UnderPieces<J, A> {}
 impl<J: Job, A: RunsPieces<J>> Nest for UnderPieces<J, A> {
     type ChildSlots = Vec<ChildSlot<NestedSlots<SlotWorkspace<J>, A>>>;
 
-    fn slot_count(threads: usize) -> usize {
+    fn child_slot_count(threads: usize) -> usize {
         threads
     }
 
@@ -197,7 +198,7 @@ impl<J: Job, A: RunsPieces<J>> Nest for UnderPieces<J, A> {
         alloc: Global,
         threads: usize,
     ) -> Result<Vec<ChildSlot<NestedSlots<SlotWorkspace<J>, A>>>, Fault> {
-        make_slots(alloc, threads)
+        make_child_slots(alloc, threads)
     }
 
     fn serve<H: Threads + Wait + Sync>(
@@ -206,6 +207,6 @@ impl<J: Job, A: RunsPieces<J>> Nest for UnderPieces<J, A> {
         child_slots: &Vec<ChildSlot<NestedSlots<SlotWorkspace<J>, A>>>,
         signals: &mut Signals<'_>,
     ) {
-        serve_slots(rt, alloc, child_slots, signals);
+        serve_child_slots(rt, alloc, child_slots, signals);
     }
 }

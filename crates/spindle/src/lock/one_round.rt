@@ -113,7 +113,7 @@ fn size_of<J: Job>(pool: usize, n_jobs: usize, items: usize) -> (usize, usize)
 {
     let asked = if n_jobs == 0 { pool } else { n_jobs };
     let jobs = items.min(asked.min(MOST_JOBS));
-    if J::Inner::slot_count(pool) == 0 {
+    if J::Inner::child_slot_count(pool) == 0 {
         (jobs, jobs)
     } else {
         (jobs, pool.max(jobs))

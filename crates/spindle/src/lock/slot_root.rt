@@ -137,7 +137,7 @@ pub(crate) fn make<J: Job, A: PieceKind>(
 {
     let threads = counts.threads();
     let (round, seat) = Round::with_slots(alloc, threads, slots)?;
-    let child_slots = J::Inner::slot_count(threads);
+    let child_slots = J::Inner::child_slot_count(threads);
     Ok(Tables::new(alloc, counts, idling, child_slots, round, seat)?)
 }
 

@@ -9,7 +9,7 @@
 //! claim took from the slots stands in the clause `taken`. A work that has nothing to say writes `Unit {0}` for both. It
 //! goes to `Claimer::work` by value and comes back; a ghost field keeps what is needed of what it borrowed.
 //!
-//! Who calls `Claimer::work` has a seat that is on the round's task (`IsAtTask`), with nothing claimed and no share, and
+//! Who calls `Claimer::work` has a seat that is at work in the published round (`IsAtPublished`), with nothing claimed and no share, and
 //! afterwards one that may arrive: the clauses `idle` and `done` are what `Barrier::arrive` asks.
 ghost use Rattle.std.specs.Prelude.{◌≡◌, ◌+◌, ◌<◌, ℕ, List, None, true, MatchBool};
 ghost use denote.Param.Send.{IsSync};
@@ -19,7 +19,7 @@ ghost use Rattle.spindle_rounds.specs.Seating.{IsSameSeat};
 ghost use Rattle.spindle_rounds.specs.Sources.{IsIn, HasEmptied, HasLeft};
 ghost use Rattle.spindle_rounds.specs.Working.{IsIdle};
 ghost use Rattle.spindle_rounds.specs.declared.round_table.view.View.{View};
-ghost use Rattle.spindle_rounds.specs.PartyWork.{IsAtTask, WentOn, HasTaken, HasFinished};
+ghost use Rattle.spindle_rounds.specs.PartyWork.{IsAtPublished, WentOn, HasTaken, HasFinished};
 
 use crate::round::Round;
 use crate::round::claim::{Claimed, Share};
@@ -40,7 +40,7 @@ pub struct Claimer<'r, D: SlotContents> {
     /// Its thread number, which is that of its range.
     pub thread: usize,
     /// What the published word says of the round.
-    pub task: PublishedRound,
+    pub published: PublishedRound,
     ghost placed: { thread < round.now.init.threads },
 }
 
@@ -62,7 +62,7 @@ pub trait Work<D: SlotContents> {
         claimed: Claimed,
     ) -> u64
         requires sync { IsSync H.row }
-        requires at { IsAtTask claimer.now.round.now claimer.now.task seat.old }
+        requires at { IsAtPublished claimer.now.round.now claimer.now.published seat.old }
         requires own { MayFinish claimed seat.old.me.0 }
         requires taken { HasTaken D.discipline (holds self.old) claimed seat.old.me }
         ensures seat { IsSameSeat seat.old seat.new }
@@ -85,10 +85,10 @@ impl<'r, D: SlotContents> Claimer<'r, D> {
         seat: &mut Seat<D>,
         mut work: W,
     ) -> W
-        requires at { IsAtTask self.now.round.now self.now.task seat.old }
+        requires at { IsAtPublished self.now.round.now self.now.published seat.old }
         requires idle { IsIdle seat.old.me.0 }
         requires holds { W.holds work seat.old.me.1 }
-        ensures went { WentOn self.now.round.now self.now.task seat.old seat.new }
+        ensures went { WentOn self.now.round.now self.now.published seat.old seat.new }
         ensures idle { IsIdle seat.new.me.0 }
         ensures done { IsDone seat.new.me.0 }
         ensures holds { W.holds result seat.new.me.1 }
@@ -105,10 +105,10 @@ impl<'r, D: SlotContents> Claimer<'r, D> {
         seat: &mut Seat<D>,
         work: &mut W,
     )
-        requires at { IsAtTask self.now.round.now self.now.task seat.old }
+        requires at { IsAtPublished self.now.round.now self.now.published seat.old }
         requires idle { IsIdle seat.old.me.0 }
         requires holds { W.holds work.old seat.old.me.1 }
-        ensures went { WentOn self.now.round.now self.now.task seat.old seat.new }
+        ensures went { WentOn self.now.round.now self.now.published seat.old seat.new }
         ensures idle { IsIdle seat.new.me.0 }
         ensures done { IsDone seat.new.me.0 }
         ensures holds { W.holds work.new seat.new.me.1 }
@@ -125,15 +125,15 @@ impl<'r, D: SlotContents> Claimer<'r, D> {
 
     // Whether the round was stopped.
     fn sees_stop(&self, seat: &mut Seat<D>) -> bool
-        requires at { IsAtTask self.now.round.now self.now.task seat.old }
-        ensures went { WentOn self.now.round.now self.now.task seat.old seat.new }
+        requires at { IsAtPublished self.now.round.now self.now.published seat.old }
+        ensures went { WentOn self.now.round.now self.now.published seat.old seat.new }
         ensures same { SharesAsBefore seat.old.me.0 seat.new.me.0
             × (seat.new.me.0.claim ≡ seat.old.me.0.claim) }
         ensures stops { StopsAsBefore seat.old.me.0 seat.new.me.0 }
         ensures hands { seat.new.me.1 ≡ seat.old.me.1 }
         ensures seen { seat.new.me.0.known.seen_stop ≡ result }
     {
-        self.task.may_stop && self.round.stopped(seat)
+        self.published.may_stop && self.round.stopped(seat)
     }
 
     // The numbers of a source until it is empty, or until nothing of the round is left for the party: then it answers true.
@@ -144,11 +144,11 @@ impl<'r, D: SlotContents> Claimer<'r, D> {
         work: &mut W,
         source: Source,
     ) -> bool
-        requires at { IsAtTask self.now.round.now self.now.task seat.old }
+        requires at { IsAtPublished self.now.round.now self.now.published seat.old }
         requires there { IsIn self.now.round.now.init.threads source }
         requires idle { IsIdle seat.old.me.0 }
         requires holds { W.holds work.old seat.old.me.1 }
-        ensures went { WentOn self.now.round.now self.now.task seat.old seat.new }
+        ensures went { WentOn self.now.round.now self.now.published seat.old seat.new }
         ensures idle { IsIdle seat.new.me.0 }
         ensures left { MatchBool result (IsDone seat.new.me.0) (HasEmptied source seat.new.me.0) }
         ensures holds { W.holds work.new seat.new.me.1 }
@@ -180,11 +180,11 @@ impl<'r, D: SlotContents> Claimer<'r, D> {
         claimed: Claimed,
         share: Option<Share>,
     ) -> bool
-        requires at { IsAtTask self.now.round.now self.now.task seat.old }
+        requires at { IsAtPublished self.now.round.now self.now.published seat.old }
         requires own { MayFinish claimed seat.old.me.0 }
         requires share { HasLeft share seat.old.me.0 }
         requires taken { HasTaken D.discipline (W.holds work.old) claimed seat.old.me }
-        ensures went { WentOn self.now.round.now self.now.task seat.old seat.new }
+        ensures went { WentOn self.now.round.now self.now.published seat.old seat.new }
         ensures idle { IsIdle seat.new.me.0 }
         ensures over { result ≡ true → IsDone seat.new.me.0 }
         ensures holds { W.holds work.new seat.new.me.1 }
@@ -199,9 +199,9 @@ impl<'r, D: SlotContents> Claimer<'r, D> {
 
     // Whether the job before which so many were finished is the round's last.
     fn is_last(&self, before: u64) -> bool
-        ensures { result ≡ true → self.now.task.jobs ≡ before + 1 }
+        ensures { result ≡ true → self.now.published.jobs ≡ before + 1 }
     {
-        self.task.jobs.saturating_sub(before) == 1
+        self.published.jobs.saturating_sub(before) == 1
     }
 
     // The numbers of a share, where `is_over` says whether nothing of the round is left beside them; true where nothing is left
@@ -214,12 +214,12 @@ impl<'r, D: SlotContents> Claimer<'r, D> {
         mut share: Share,
         mut is_over: bool,
     ) -> bool
-        requires at { IsAtTask self.now.round.now self.now.task seat.old }
+        requires at { IsAtPublished self.now.round.now self.now.published seat.old }
         requires idle { seat.old.me.0.claim ≡ None }
         requires share { IsItsShare share seat.old.me.0 }
         requires over { is_over ≡ true → HasEmptiedAll seat.old.me.0 }
         requires holds { W.holds work.old seat.old.me.1 }
-        ensures went { WentOn self.now.round.now self.now.task seat.old seat.new }
+        ensures went { WentOn self.now.round.now self.now.published seat.old seat.new }
         ensures idle { IsIdle seat.new.me.0 }
         ensures over { result ≡ true → IsDone seat.new.me.0 }
         ensures holds { W.holds work.new seat.new.me.1 }
@@ -257,10 +257,10 @@ impl<'r, D: SlotContents> Claimer<'r, D> {
 
     // Puts a share back into its own range, or into the first of the others that is empty.
     fn put_back<H: Wait>(&self, rt: &H, seat: &mut Seat<D>, mut share: Share)
-        requires at { IsAtTask self.now.round.now self.now.task seat.old }
+        requires at { IsAtPublished self.now.round.now self.now.published seat.old }
         requires free { MayPutBack seat.old.me.0 }
         requires share { IsItsShare share seat.old.me.0 }
-        ensures went { WentOn self.now.round.now self.now.task seat.old seat.new }
+        ensures went { WentOn self.now.round.now self.now.published seat.old seat.new }
         ensures idle { IsIdle seat.new.me.0 }
         ensures seen { seat.new.me.0.known.seen_stop ≡ true }
         ensures stops { StopsAsBefore seat.old.me.0 seat.new.me.0 }

@@ -81,7 +81,7 @@ pub struct PublishedRound {
 }
 
 impl PublishedRound {
-    /// The task of a word, which isn't 0.
+    /// What a word says that isn't 0.
     pub fn new(word: u64) -> PublishedRound
         ensures jobs { result.jobs ≡ word % high_half }
         ensures may_stop { IsTrue result.may_stop ↔ (high_half ≤ word) }

@@ -1,7 +1,7 @@
 //! The state of the leader of a lock with slots: its membership, by a share of the lock's tables, so that it borrows nothing, and what
 //! it keeps from round to round. So too how such a lock is made.
 ghost use Rattle.std.specs.Prelude.{◌≡◌, ◌≤◌, [], IsSome};
-ghost use Rattle.spindle_threads.specs.SlotMembers.{view_in, HoldsEmpty, StandsAt};
+ghost use Rattle.spindle_threads.specs.SlotMembers.{view_in, HoldsEmpty, IsDetachedLeader};
 ghost use Rattle.std.specs.Option.{ForSome};
 ghost use Rattle.std.specs.Arc.{arc_value};
 ghost use Rattle.spindle_rounds.specs.RoundConditions.{MayFill};
@@ -82,7 +82,7 @@ pub struct SlotShare<D: SlotContents> {
 pub struct LeaderSeats<D: SlotContents> {
     pub(crate) share: SlotShare<D>,
     pub(crate) party: DetachedParty<D>,
-    ghost stands: { StandsAt (arc_value share.tables) party },
+    ghost leads: { IsDetachedLeader (arc_value share.tables) party },
     ghost hand: { party.seat.me.1 ≡ [] },
     ghost board: { party.seat.me.0.board ≡ [] },
 }
@@ -106,7 +106,7 @@ pub struct SlotMember<A: PieceKind> {
     pub(crate) share: SlotShare<PieceSlots<A>>,
     pub(crate) party: Option<DetachedParty<PieceSlots<A>>>,
     ghost there: { IsSome party },
-    ghost stands: { ForSome party (λ s. StandsAt (arc_value share.tables) s) },
+    ghost leads: { ForSome party (λ s. IsDetachedLeader (arc_value share.tables) s) },
     ghost holds: { ForSome party (λ s. HoldsEmpty share.slots s) },
 }
 

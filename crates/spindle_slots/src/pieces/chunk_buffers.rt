@@ -1,7 +1,7 @@
 //! The room of a leader that plays rounds in place, kept from round to round: a round of a size that was played before takes no
 //! memory.
 ghost use Rattle.std.specs.Prelude.{◌≡◌, ◌<◌, ◌≤◌, ◌+◌, ◌/◌, [], true, OnOk, OnErr, IsErrOf, length, vec_len, vec_capacity};
-ghost use Rattle.spindle_slots.specs.InPlace.{HaveRoom, IsReady, last_pieces};
+ghost use Rattle.spindle_slots.specs.InPlace.{HaveCapacity, IsReady, last_pieces};
 ghost use Rattle.spindle_trays.specs.PieceRuns.{piece_start};
 
 use crate::pieces::chunk::{Chunk, ChunkBuffer};
@@ -111,7 +111,7 @@ impl<T: Drop> ChunkBuffers<T> {
 
 // Whether each is room for so many items.
 fn are_enough<T>(buffers: &[ChunkBuffer<T>], items: usize) -> bool
-    ensures { result ≡ true → HaveRoom items buffers.now }
+    ensures { result ≡ true → HaveCapacity items buffers.now }
 {
     for buffer in buffers {
         if !buffer.has(items) {

@@ -19,7 +19,7 @@ use spindle_rounds::round_table::Seat;
 use spindle_rounds::round_table::pieces::{PieceKind, PieceSlots};
 use spindle_threads::member::Member;
 use spindle_threads::publish_and_end::{end_round, publish_held};
-use spindle_threads::tables::{Members, Tables};
+use spindle_threads::tables::{MemberCount, Tables};
 use spindle_trays::job::Job;
 use spindle_trays::job::gate::Gate;
 use spindle_trays::job::nest::Nest;
@@ -76,7 +76,7 @@ pub(crate) fn play_held<A: RunsPieces<J>, J: Job, G: Gate, H: Threads + Wait + S
     let claimer = Claimer {
         round: &table.tables.round,
         thread: 0,
-        task: PublishedRound {
+        published: PublishedRound {
             jobs,
             may_stop: false,
         },
@@ -132,8 +132,8 @@ impl<J: Job, A: RunsPieces<J>> TakesPart<J, PieceSlots<A>> for SlotWorkspace<J> 
         &self.child_slots
     }
 
-    fn members<'a>(tables: &'a Tables<PieceSlots<A>>) -> Members<'a> {
-        Members::Present(&tables.present)
+    fn members<'a>(tables: &'a Tables<PieceSlots<A>>) -> MemberCount<'a> {
+        MemberCount::Present(&tables.present)
     }
 
     fn take_part<'a, G: Gate, H: Threads + Wait + Sync>(
@@ -142,13 +142,13 @@ impl<J: Job, A: RunsPieces<J>> TakesPart<J, PieceSlots<A>> for SlotWorkspace<J> 
         alloc: Global,
         member: &mut Member<'a, PieceSlots<A>>,
         runner: &mut Runner<'_, J, G>,
-        task: PublishedRound,
+        published: PublishedRound,
     ) {
         let work = SlotWork {
             runner,
             alloc,
             leads: false,
         };
-        drop(member.join_in(rt, task, work));
+        drop(member.join_in(rt, published, work));
     }
 }

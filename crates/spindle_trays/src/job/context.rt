@@ -1,6 +1,6 @@
 //! What a job is given beside its input: where it runs.
 //!
-//! A job sees of its context what the methods tell. By the functions and `Asks` the crates above open locks in jobs, and `spindle`
+//! A job sees of its context what the methods tell. By the functions and `JobSignals` the crates above open locks in jobs, and `spindle`
 //! doesn't give them out.
 ghost use Rattle.std.specs.Prelude.{◌≡◌, ◌+◌, ◌<◌, ◌≤◌, IfSome};
 
@@ -17,18 +17,18 @@ pub struct JobCx<'a, N: Nest> {
     // The lock's child slots; none in a job that another job runs directly.
     pub(crate) child_slots: Option<&'a N::ChildSlots>,
     /// By this the library asks for the helpers of a lock that the job opens.
-    pub asks: Asks<'a>,
+    pub signals: JobSignals<'a>,
     // What it sees of its lock.
     pub(crate) site: JobSite<'a>,
 }
 
 /// A job's access to what its lock's threads announce. Who has no tables of a lock, as a job hasn't, can do nothing with it.
 #[derive(Drop)]
-pub struct Asks<'a> {
+pub struct JobSignals<'a> {
     pub(crate) signals: Signals<'a>,
 }
 
-impl<'a> Asks<'a> {
+impl<'a> JobSignals<'a> {
     ghost use Rattle.spindle_threads.specs.Accounts.{account_of};
 
     /// Asks for a helper for each thread but the leader of the lock with these tables, which the job opens.
@@ -47,7 +47,7 @@ impl<'a, N: Nest> Model for JobCx<'a, N> {
 
     ghost Value = { ContextView };
 
-    ghost view = { λ c. context_at (is_some c.child_slots) c.site (account_of c.asks.signals) };
+    ghost view = { λ c. context_at (is_some c.child_slots) c.site (account_of c.signals.signals) };
 }
 
 impl<'a, N: Nest> JobCx<'a, N> {
@@ -62,7 +62,7 @@ impl<'a, N: Nest> JobCx<'a, N> {
     {
         JobCx {
             child_slots: None,
-            asks: Asks { signals },
+            signals: JobSignals { signals },
             site: site.within(),
         }
     }
@@ -111,7 +111,7 @@ impl<'a, N: Nest> JobCx<'a, N> {
         ensures rest { AnnouncedRest self.old.account self.new.account }
         ensures same { self.new ≡ knowing self.new.account self.old }
     {
-        self.asks.signals.announce_rest();
+        self.signals.signals.announce_rest();
     }
 }
 

@@ -22,7 +22,7 @@ pub trait Nest: IsNest {
     type ChildSlots: Drop;
 
     /// How many child slots a lock of so many threads has.
-    fn slot_count(threads: usize) -> usize;
+    fn child_slot_count(threads: usize) -> usize;
 
     /// Slots for a lock of so many threads.
     fn make(alloc: Global, threads: usize) -> Result<Self::ChildSlots, Fault>
@@ -48,7 +48,7 @@ impl IsNest for End {}
 impl Nest for End {
     type ChildSlots = ();
 
-    fn slot_count(_threads: usize) -> usize {
+    fn child_slot_count(_threads: usize) -> usize {
         0
     }
 

@@ -96,8 +96,8 @@ fn follow<'a, D: SlotContents, J: Job, L: TakesPart<J, D>, G: Gate, H: Threads +
     ensures seat { IsSameSeat member.entry.barrier.seat (seat_of result) }
 {
     match news {
-        News::Round(task) => {
-            workspace.take_part(rt, alloc, &mut member, runner, task);
+        News::Round(published) => {
+            workspace.take_part(rt, alloc, &mut member, runner, published);
             end_part(rt, member, &mut runner.signals)
         }
         _ => HelperStatus::Out(member.leave(rt)),

@@ -20,7 +20,7 @@ use spindle_parts::fault::Fault;
 use spindle_parts::lists::shared::SharedList;
 use spindle_rounds::round_table::slots::Bare;
 use spindle_threads::leader_member::LeaderMember;
-use spindle_threads::tables::Members;
+use spindle_threads::tables::MemberCount;
 use std::alloc::{AllocError, Global};
 use std::sync::Wait;
 use std::thread::Threads;
@@ -191,7 +191,7 @@ impl<'a, J: Opens<L>, G: Gate, L> Leader<'a, J, G, L> {
         ensures most { result ≤ threads_of self.now }
     {
         let tables = self.leader_member.member.tables;
-        Members::Barrier(tables.round.init()).current(tables.counts.most())
+        MemberCount::Barrier(tables.round.init()).current(tables.counts.most())
     }
 
     /// The lock's threads.

@@ -8,4 +8,6 @@ mod child_lease;
 mod rounds;
 
 pub use self::child::{Child, Nested, TakesHelpers, Under, help_from};
-pub use self::child_lease::{ChildLease, ChildSlot, Leads, close, make_slots, serve_slots};
+pub use self::child_lease::{
+    ChildLease, ChildSlot, Leads, close, make_child_slots, serve_child_slots,
+};

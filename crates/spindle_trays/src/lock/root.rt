@@ -54,7 +54,7 @@ where
     let counts = ThreadCounts::new(pool.max_num_threads(), max_threads);
     let workspace = J::open(alloc, counts.threads())?;
     let (round, seat) = Round::new(alloc, counts.threads())?;
-    let child_slots = J::Inner::slot_count(counts.threads());
+    let child_slots = J::Inner::child_slot_count(counts.threads());
     let (tables, seats) = Tables::new(alloc, counts, pool.idling(), child_slots, round, seat)?;
     let leader_start = LeaderStart::new(alloc, &tables, &workspace, pool, seats)?;
     Ok(scoped(rt, alloc, leader_start, f))

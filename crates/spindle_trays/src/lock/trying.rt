@@ -134,14 +134,14 @@ impl<'a, J: Opens<L>, G: Gate, L> Leader<'a, J, G, L> {
         if pieces.count() > 1 && self.leader_member.member.tables.counts.threads() > 1 {
             let trays = J::trays(self.workspace);
             trays.hand_out(rt, alloc, pieces, spares)?;
-            let task = pieces.task(true);
+            let published = pieces.published(true);
             play_in_trays(
                 rt,
                 alloc,
                 &mut self.leader_member,
                 trays,
                 &mut self.runner,
-                task,
+                published,
             );
             self.leader_member.mark_left(left);
             trays.tally(rt, pieces, left.as_slice(), tally);

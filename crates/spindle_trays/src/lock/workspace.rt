@@ -6,7 +6,7 @@ ghost use Rattle.std.specs.Prelude.{◌<◌, OnErr, IsErrOf, ◌≡◌, false};
 ghost use denote.Param.Send.{IsSync};
 ghost use Rattle.spindle_rounds.specs.RoundConditions.{IsDone};
 ghost use Rattle.spindle_rounds.specs.Seating.{IsSameSeat};
-ghost use Rattle.spindle_rounds.specs.Working.{OnTask};
+ghost use Rattle.spindle_rounds.specs.Working.{OnPublished};
 
 use crate::job::Job;
 use crate::job::gate::Gate;
@@ -19,7 +19,7 @@ use spindle_parts::fault::Fault;
 use spindle_rounds::round::publishing::PublishedRound;
 use spindle_rounds::round_table::slots::{Bare, SlotContents};
 use spindle_threads::member::Member;
-use spindle_threads::tables::{Members, Tables};
+use spindle_threads::tables::{MemberCount, Tables};
 use std::alloc::Global;
 use std::sync::Wait;
 use std::thread::Threads;
@@ -80,7 +80,7 @@ pub trait TakesPart<J: Job, D: SlotContents> {
     fn child_slots(&self) -> &<J::Inner as Nest>::ChildSlots;
 
     /// Where its jobs read how many threads take part.
-    fn members<'a>(tables: &'a Tables<D>) -> Members<'a>;
+    fn members<'a>(tables: &'a Tables<D>) -> MemberCount<'a>;
 
     /// Runs the jobs of a published round that are left for the thread.
     fn take_part<'a, G: Gate, H: Threads + Wait + Sync>(
@@ -89,10 +89,10 @@ pub trait TakesPart<J: Job, D: SlotContents> {
         alloc: Global,
         member: &mut Member<'a, D>,
         runner: &mut Runner<'_, J, G>,
-        task: PublishedRound,
+        published: PublishedRound,
     )
         requires sync { IsSync H.row }
-        requires task { OnTask task.jobs task.may_stop member.old.barrier.seat.me.0 }
+        requires on { OnPublished published.jobs published.may_stop member.old.barrier.seat.me.0 }
         requires helper { member.old.barrier.seat.me.0.leader ≡ false }
         ensures member { (member.new.tables ≡ member.old.tables)
             × (member.new.thread ≡ member.old.thread) }
@@ -106,8 +106,8 @@ impl<J: Opens<L>, L> TakesPart<J, Bare> for L {
         <J as Opens<L>>::child_slots(self)
     }
 
-    fn members<'a>(tables: &'a Tables<Bare>) -> Members<'a> {
-        Members::Barrier(tables.round.init())
+    fn members<'a>(tables: &'a Tables<Bare>) -> MemberCount<'a> {
+        MemberCount::Barrier(tables.round.init())
     }
 
     fn take_part<'a, G: Gate, H: Threads + Wait + Sync>(
@@ -116,7 +116,7 @@ impl<J: Opens<L>, L> TakesPart<J, Bare> for L {
         alloc: Global,
         member: &mut Member<'a, Bare>,
         runner: &mut Runner<'_, J, G>,
-        task: PublishedRound,
+        published: PublishedRound,
     ) {
         let trays = J::trays(self);
         let work = TrayWork {
@@ -125,7 +125,7 @@ impl<J: Opens<L>, L> TakesPart<J, Bare> for L {
             alloc,
             held: None,
         };
-        let work = member.join_in(rt, task, work);
-        trays.bring_back(rt, task.jobs as usize, work.held);
+        let work = member.join_in(rt, published, work);
+        trays.bring_back(rt, published.jobs as usize, work.held);
     }
 }

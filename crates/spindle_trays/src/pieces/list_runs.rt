@@ -48,8 +48,8 @@ impl<T> ListRuns<T> {
         self.count
     }
 
-    /// The task of their round, a job for each piece.
-    pub fn task(&self, may_stop: bool) -> PublishedRound
+    /// Their round, a job for each piece.
+    pub fn published(&self, may_stop: bool) -> PublishedRound
         ensures jobs { result.jobs ≡ self.now.count }
         ensures may_stop { result.may_stop ≡ may_stop }
     {
@@ -156,7 +156,7 @@ impl Address {
 }
 
 /// How many of so many pieces a thread is dealt.
-pub(crate) fn hand_length(thread: usize, pieces: usize, threads: usize) -> usize
+pub(crate) fn dealt_length(thread: usize, pieces: usize, threads: usize) -> usize
     requires { thread < threads }
     ensures { result ≡ length (dealt (counted 0 pieces) threads thread) }
 {

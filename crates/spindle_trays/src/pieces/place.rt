@@ -5,12 +5,12 @@ ghost use Rattle.std.specs.List.{AllZip};
 ghost use Rattle.spindle_trays.specs.PieceRuns.{HasAnswered};
 ghost use Rattle.spindle_trays.specs.Rounds.{AddsAnswers};
 ghost use Rattle.spindle_trays.specs.Outputs.{IsDoneOf};
-ghost use Rattle.spindle_trays.specs.Trays.{brought_to, AwaitsHand, HoldsDone, IsFirstMissing};
+ghost use Rattle.spindle_trays.specs.Trays.{brought_to, AwaitsDealt, HoldsDone, IsFirstMissing};
 ghost use Rattle.spindle_trays.specs.declared.pieces.place.Place.TheVariants.{Away, Waits, Back};
 
 use crate::job::Job;
 use crate::pieces::finished::Finished;
-use crate::pieces::list_runs::{Address, ListRuns, hand_length};
+use crate::pieces::list_runs::{Address, ListRuns, dealt_length};
 use spindle_parts::lists::shared::ListRun;
 use std::alloc::{AllocError, Global};
 use std::marker::Model;
@@ -128,10 +128,10 @@ pub(crate) fn fill<J: Job>(
 ) -> Result<(), AllocError>
     requires { thread < threads }
     ensures waits { OnOk result
-        (AwaitsHand pieces.now.items pieces.now.count threads thread tray.new.items) }
+        (AwaitsDealt pieces.now.items pieces.now.count threads thread tray.new.items) }
 {
     let count = pieces.count();
-    let length = hand_length(thread, count, threads);
+    let length = dealt_length(thread, count, threads);
     let missing = length.saturating_sub(tray.len());
     tray.reserve(missing)?;
     for _ in 0..missing {

@@ -4,7 +4,7 @@ ghost use Rattle.std.specs.Prelude.{◌≡◌, ◌≤◌, ◌∷◌, true, Match
 ghost use Rattle.spindle_threads.specs.Members.{LastPublished, party_view};
 ghost use Rattle.spindle_rounds.specs.RoundSteps.{round_of};
 ghost use Rattle.spindle_rounds.specs.Working.{PlayedRoundOf, PlayedRound};
-ghost use Rattle.spindle_rounds.specs.PartyWork.{HasFinished, IsAtTask};
+ghost use Rattle.spindle_rounds.specs.PartyWork.{HasFinished, IsAtPublished};
 ghost use Rattle.spindle_rounds.specs.RoundConditions.{MayFinish};
 ghost use Rattle.spindle_rounds.specs.RoundShown.{Stopped};
 ghost use Rattle.spindle_rounds.specs.RoundViews.{StopsAsBefore, stops_of};
@@ -39,20 +39,20 @@ pub(crate) struct TrayWork<'t, 'r, 'a, J: Job, G: Gate> {
     pub(crate) held: Option<Finished<J>>,
 }
 
-/// Publishes a task, whose pieces stand in the trays, takes part, and waits until the round has ended.
+/// Publishes a round, whose pieces stand in the trays, takes part, and waits until the round has ended.
 pub(crate) fn play_in_trays<'a, J: Job, G: Gate, H: Threads + Wait + Sync>(
     rt: &H,
     alloc: Global,
     leader: &mut LeaderMember<'a, Bare>,
     trays: &Trays<J>,
     runner: &mut Runner<'a, J, G>,
-    task: PublishedRound,
+    published: PublishedRound,
 )
-    requires counted { (2 ≤ task.jobs) × (task.jobs ≤ 4294967295) }
-    ensures played { PlayedRoundOf task.jobs task.may_stop
+    requires counted { (2 ≤ published.jobs) × (published.jobs ≤ 4294967295) }
+    ensures played { PlayedRoundOf published.jobs published.may_stop
         leader.old.member.barrier.seat.me.0 leader.new.member.barrier.seat.me.0 }
     ensures last { LastPublished (round_of (party_view leader.old.member.barrier).standing)
-        task.jobs task.may_stop (party_view leader.new.member.barrier) }
+        published.jobs published.may_stop (party_view leader.new.member.barrier) }
     ensures tables { leader.new.member.tables ≡ leader.old.member.tables }
 {
     let signals = runner.signals.another();
@@ -62,8 +62,8 @@ pub(crate) fn play_in_trays<'a, J: Job, G: Gate, H: Threads + Wait + Sync>(
         alloc,
         held: None,
     };
-    let work = leader.lead(rt, signals, task, work);
-    trays.bring_back(rt, task.jobs as usize, work.held);
+    let work = leader.lead(rt, signals, published, work);
+    trays.bring_back(rt, published.jobs as usize, work.held);
 }
 
 impl<'t, 'r, 'a, J: Job, G: Gate> Work<Bare> for TrayWork<'t, 'r, 'a, J, G> {
@@ -80,7 +80,7 @@ impl<'t, 'r, 'a, J: Job, G: Gate> Work<Bare> for TrayWork<'t, 'r, 'a, J, G> {
         claimed: Claimed,
     ) -> u64 {
         let number = claimed.number() as usize;
-        let pieces = claimer.task.jobs as usize;
+        let pieces = claimer.published.jobs as usize;
         let held = self.held.take();
         let finished = match self.trays.exchange(rt, pieces, held, number) {
             Some(piece) => {
@@ -92,7 +92,7 @@ impl<'t, 'r, 'a, J: Job, G: Gate> Work<Bare> for TrayWork<'t, 'r, 'a, J, G> {
             }
             None => Finished::empty(self.alloc, number),
         };
-        let failed = claimer.task.may_stop && finished.has_failed();
+        let failed = claimer.published.may_stop && finished.has_failed();
         let before = finish(claimer, seat, claimed, &finished, failed);
         self.held = Some(finished);
         before
@@ -122,10 +122,10 @@ pub(crate) fn finish<P: Numbered>(
     piece: &P,
     failed: bool,
 ) -> u64
-    requires at { IsAtTask claimer.now.round.now claimer.now.task seat.old }
+    requires at { IsAtPublished claimer.now.round.now claimer.now.published seat.old }
     requires own { MayFinish claimed seat.old.me.0 }
     requires piece { P.number piece.now ≡ claimed }
-    requires failed { failed ≡ true → claimer.now.task.may_stop ≡ true }
+    requires failed { failed ≡ true → claimer.now.published.may_stop ≡ true }
     ensures seat { IsSameSeat seat.old seat.new }
     ensures finished { HasFinished result seat.old.me.0 seat.new.me.0 }
     ensures stops { let v = seat.old.me.0 in let w = seat.new.me.0 in MatchBool failed
@@ -179,7 +179,7 @@ pub(crate) fn play_ahead<'a, J: Job, G: Gate, H: Threads + Wait + Sync>(
         next: 0,
         outputs: mem::replace(outputs, Vec::new(alloc)),
     };
-    let work = leader.lead(rt, signals, pieces.task(false), work);
+    let work = leader.lead(rt, signals, pieces.published(false), work);
     trays.bring_back(rt, pieces.count(), work.others.held);
     *outputs = work.outputs;
     work.next

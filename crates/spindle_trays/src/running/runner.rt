@@ -3,7 +3,7 @@ ghost use Rattle.std.specs.Prelude.{◌≡◌, ◌+◌, ◌≤◌, ◌++◌, Lis
 ghost use Rattle.spindle_trays.specs.Rounds.{AddsAnswers};
 
 use crate::job::Job;
-use crate::job::context::{Asks, JobCx};
+use crate::job::context::{JobCx, JobSignals};
 use crate::job::gate::Gate;
 use crate::job::nest::Nest;
 use spindle_threads::signals::Signals;
@@ -51,7 +51,7 @@ impl<'a, J: Job, G: Gate> Runner<'a, J, G> {
         let signals = self.signals.another();
         let context = JobCx {
             child_slots: Some(self.child_slots),
-            asks: Asks { signals },
+            signals: JobSignals { signals },
             site,
         };
         self.gate.begun(number.unwrap_or(0));

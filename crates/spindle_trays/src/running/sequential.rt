@@ -71,7 +71,7 @@ pub(crate) fn play_sequential<'a, J: Job, G: Gate, H: Threads + Wait + Sync>(
         buffers: mem::replace(buffers, Vec::new(alloc)),
         failed: pieces.count(),
     };
-    let work = leader.lead(rt, signals, pieces.task(true), work);
+    let work = leader.lead(rt, signals, pieces.published(true), work);
     *buffers = work.buffers;
     work.failed
 }
@@ -92,7 +92,7 @@ impl<'p, 'r, 'a, J: Job, G: Gate> Work<Bare> for SequentialWork<'p, 'r, 'a, J, G
         claimed: Claimed,
     ) -> u64 {
         let number = claimed.number() as usize;
-        let failed = self.run_piece(rt, number) && claimer.task.may_stop;
+        let failed = self.run_piece(rt, number) && claimer.published.may_stop;
         if failed {
             self.failed = number;
         }

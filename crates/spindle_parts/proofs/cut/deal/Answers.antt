@@ -1,4 +1,4 @@
--- Dealing: each hand has room for what it gets, and gets what is its own.
+-- Dealing: each list has room for what it gets, and gets what is its own.
 use Rattle.std.proofs.Common.{◌≡◌, ℕ, ◌+◌, ◌-◌, ◌*◌, ◌/◌, ◌<◌, ◌≤◌, [], ◌++◌, map, take, drop, set, min, reverse, replicate, get_or, List, Vec, Global, vec_len}
 use Rattle.std.proofs.Common.{vec_capacity, arith, rules, sym, ap, ◌∙◌, length, refl}
 use Rattle.std.proofs.lemmas.List.{get_or-map, length-map, length-drop, length-take, drop-drop, map-set, set-get_or, length-reverse, take_at, drop_all}
@@ -7,25 +7,25 @@ use Rattle.std.proofs.lemmas.Simd.{map-map}
 use Rattle.std.proofs.Math.Nat.{min-le_left}
 use Rattle.spindle_parts.specs.declared.cut.Piece.{Piece}
 use Rattle.spindle_parts.specs.Pieces.{counted, dealt, lengths_of}
-use Rattle.spindle_parts.proofs.Deals.{length-lengths_of, fits, own_run, own_left, hand_empty, hands_next, map-dealt_all, dealt_all}
+use Rattle.spindle_parts.proofs.Deals.{length-lengths_of, fits, own_run, own_left, list_empty, lists_next, map-dealt_all, dealt_all}
 use Rattle.spindle_parts.proofs.cut.deal.Goals as goal
 
--- as many hands as lengths
-count : {H : Type 0} (f : H → ℕ) (hands : List H) (len threads : ℕ) → 0 < threads → map f hands ≡ lengths_of len threads → length hands ≡ threads
-count f hands len threads h e = sym (length-map hands f) ∙ ap length e ∙ length-lengths_of len threads h
+-- as many lists as lengths
+count : {H : Type 0} (f : H → ℕ) (lists : List H) (len threads : ℕ) → 0 < threads → map f lists ≡ lengths_of len threads → length lists ≡ threads
+count f lists len threads h e = sym (length-map lists f) ∙ ap length e ∙ length-lengths_of len threads h
 
--- before its turn, a hand is empty
-empty : {H A : Type 0} (f : H → List A) (hands : List H) (F : ℕ → List A) (threads i : ℕ) (d : H) → i < length hands → i < threads
-    → map f hands ≡ map F (counted 0 i) ++ replicate (threads - i) [] → f (get_or hands i d) ≡ []
-empty f hands F threads i d h k e = sym (get_or-map f hands i d [] h) ∙ ap (λ z. get_or z i []) e ∙ hand_empty F threads i k
+-- before its turn, a list is empty
+empty : {H A : Type 0} (f : H → List A) (lists : List H) (F : ℕ → List A) (threads i : ℕ) (d : H) → i < length lists → i < threads
+    → map f lists ≡ map F (counted 0 i) ++ replicate (threads - i) [] → f (get_or lists i d) ≡ []
+empty f lists F threads i d h k e = sym (get_or-map f lists i d [] h) ∙ ap (λ z. get_or z i []) e ∙ list_empty F threads i k
 
 -- its room is the length of what it gets
-room : {H : Type 0} (f : H → ℕ) (hands : List H) (len threads i : ℕ) (d : H) → i < length hands → map f hands ≡ lengths_of len threads
-    → f (get_or hands i d) ≡ get_or (lengths_of len threads) i 0
-room f hands len threads i d h e = sym (get_or-map f hands i d 0 h) ∙ ap (λ z. get_or z i 0) e
+room : {H : Type 0} (f : H → ℕ) (lists : List H) (len threads i : ℕ) (d : H) → i < length lists → map f lists ≡ lengths_of len threads
+    → f (get_or lists i d) ≡ get_or (lengths_of len threads) i 0
+room f lists len threads i d h e = sym (get_or-map f lists i d 0 h) ∙ ap (λ z. get_or z i 0) e
 
-pub loop-hand-init : goal.loop-hand-init
-loop-hand-init g c =
+pub loop-list-init : goal.loop-list-init
+loop-list-init g c =
     let t = c.args.threads in
     let ps : List (Piece g.row.T.Denot) = c.args.pieces.now.items in
     let each = c.len-2.result / t in
@@ -34,8 +34,8 @@ loop-hand-init g c =
     record {
       own = rw (c.reverse.ensures.items, c.in_ok-rest.ensures.items, z) (reverse-reverse (take (each * t) ps));
       rest = rw (c.reverse-2.ensures.items, c.in_ok-rest.ensures.tail) (reverse-reverse (drop (each * t) ps));
-      hands = rw (c.deref_mut-hand-items.ensures.value, n) c.in_ok-hands.ensures.empty;
-      rooms = rw c.deref_mut-hand-items.ensures.value (c.in_ok-hands.ensures.rooms ∙ ap (λ n. lengths_of n t) c.len.ensures);
+      lists = rw (c.deref_mut-list-items.ensures.value, n) c.in_ok-lists.ensures.empty;
+      rooms = rw c.deref_mut-list-items.ensures.value (c.in_ok-lists.ensures.rooms ∙ ap (λ n. lengths_of n t) c.len.ensures);
     }
 
 pub move_last-requires : goal.move_last-requires
@@ -46,20 +46,20 @@ move_last-requires g c =
     let len = vec_len c.args.pieces.now in
     let each = c.len-2.result / t in
     let same : each ≡ len / t = ap (λ z. z / t) c.len-2.ensures in
-    let i = c.loop-hand.hand-index in
-    let hs : List H = c.loop-hand.hand-items in
-    let n : length hs ≡ t = count (λ (h : H). vec_capacity h) hs len t c.requires.threads c.loop-hand.invariant.rooms in
+    let i = c.loop-list.list-index in
+    let hs : List H = c.loop-list.list-items in
+    let n : length hs ≡ t = count (λ (h : H). vec_capacity h) hs len t c.requires.threads c.loop-list.invariant.rooms in
     let lt : i < length hs = search rules in
     let k : i < t = omega arith in
-    let hand : H = get_or hs i c.hand-item.result in
-    let none : hand.items ≡ [] = empty (λ (h : H). h.items) hs (dealt c.args.pieces.now.items t) t i c.hand-item.result lt k c.loop-hand.invariant.hands in
-    let cap : vec_capacity hand ≡ get_or (lengths_of len t) i 0 =
-    room (λ (h : H). vec_capacity h) hs len t i c.hand-item.result lt c.loop-hand.invariant.rooms in
+    let list : H = get_or hs i c.list-item.result in
+    let none : list.items ≡ [] = empty (λ (h : H). h.items) hs (dealt c.args.pieces.now.items t) t i c.list-item.result lt k c.loop-list.invariant.lists in
+    let cap : vec_capacity list ≡ get_or (lengths_of len t) i 0 =
+    room (λ (h : H). vec_capacity h) hs len t i c.list-item.result lt c.loop-list.invariant.rooms in
     let f : len / t + min 1 (len - len / t * t - i) ≤ get_or (lengths_of len t) i 0 = fits len t i (len - len / t * t - i) k refl in
-    record { room = omega (arith, hand.ok.0, ap length none, cap, f, min-le_left each (vec_len c.loop-hand.pieces), same) }
+    record { room = omega (arith, list.ok.0, ap length none, cap, f, min-le_left each (vec_len c.loop-list.pieces), same) }
 
-pub move_last-requires-in-loop-hand : goal.move_last-requires-in-loop-hand
-move_last-requires-in-loop-hand g c =
+pub move_last-requires-in-loop-list : goal.move_last-requires-in-loop-list
+move_last-requires-in-loop-list g c =
     let P : Type 0 = Piece g.row.T.Denot in
     let H : Type 0 = Vec P Global in
     let t = c.args.threads in
@@ -67,29 +67,29 @@ move_last-requires-in-loop-hand g c =
     let ps : List P = c.args.pieces.now.items in
     let each = c.len-2.result / t in
     let same : each ≡ len / t = ap (λ z. z / t) c.len-2.ensures in
-    let i = c.loop-hand.hand-index in
-    let hs : List H = c.loop-hand.hand-items in
-    let n : length hs ≡ t = count (λ (h : H). vec_capacity h) hs len t c.requires.threads c.loop-hand.invariant.rooms in
+    let i = c.loop-list.list-index in
+    let hs : List H = c.loop-list.list-items in
+    let n : length hs ≡ t = count (λ (h : H). vec_capacity h) hs len t c.requires.threads c.loop-list.invariant.rooms in
     let lt : i < length hs = search rules in
     let k : i < t = omega arith in
-    let hand : H = get_or hs i c.hand-item.result in
-    let none : hand.items ≡ [] = empty (λ (h : H). h.items) hs (dealt ps t) t i c.hand-item.result lt k c.loop-hand.invariant.hands in
-    let cap : vec_capacity hand ≡ get_or (lengths_of len t) i 0 =
-    room (λ (h : H). vec_capacity h) hs len t i c.hand-item.result lt c.loop-hand.invariant.rooms in
-    let run : List P = take each (reverse c.loop-hand.pieces.items) in
-    let got : length c.move_last.new.hand.items ≡ length run = rw none at (ap length c.move_last.ensures.hand) in
+    let list : H = get_or hs i c.list-item.result in
+    let none : list.items ≡ [] = empty (λ (h : H). h.items) hs (dealt ps t) t i c.list-item.result lt k c.loop-list.invariant.lists in
+    let cap : vec_capacity list ≡ get_or (lengths_of len t) i 0 =
+    room (λ (h : H). vec_capacity h) hs len t i c.list-item.result lt c.loop-list.invariant.rooms in
+    let run : List P = take each (reverse c.loop-list.pieces.items) in
+    let got : length c.move_last.new.list.items ≡ length run = rw none at (ap length c.move_last.ensures.list) in
     let short : length run ≤ each =
-    omega (arith, length-take each (reverse c.loop-hand.pieces.items), min-le_left each (length (reverse c.loop-hand.pieces.items))) in
-    let left : length c.loop-hand.rest.items ≡ length ps - each * t - i =
-    sym (length-reverse c.loop-hand.rest.items) ∙ ap length c.loop-hand.invariant.rest ∙ length-drop i (drop (each * t) ps)
+    omega (arith, length-take each (reverse c.loop-list.pieces.items), min-le_left each (length (reverse c.loop-list.pieces.items))) in
+    let left : length c.loop-list.rest.items ≡ length ps - each * t - i =
+    sym (length-reverse c.loop-list.rest.items) ∙ ap length c.loop-list.invariant.rest ∙ length-drop i (drop (each * t) ps)
     ∙ ap (λ z. z - i) (length-drop (each * t) ps) in
-    let left' : vec_len c.loop-hand.rest ≡ len - len / t * t - i =
-    rw (← same) (c.loop-hand.rest.ok.0 ∙ left ∙ ap (λ z. z - each * t - i) (sym c.args.pieces.now.ok.0)) in
-    let f : len / t + min 1 (vec_len c.loop-hand.rest) ≤ get_or (lengths_of len t) i 0 = fits len t i (vec_len c.loop-hand.rest) k left' in
-    record { room = omega (arith, c.move_last.new.hand.ok.0, got, short, cap, f, same, c.move_last.ensures.room) }
+    let left' : vec_len c.loop-list.rest ≡ len - len / t * t - i =
+    rw (← same) (c.loop-list.rest.ok.0 ∙ left ∙ ap (λ z. z - each * t - i) (sym c.args.pieces.now.ok.0)) in
+    let f : len / t + min 1 (vec_len c.loop-list.rest) ≤ get_or (lengths_of len t) i 0 = fits len t i (vec_len c.loop-list.rest) k left' in
+    record { room = omega (arith, c.move_last.new.list.ok.0, got, short, cap, f, same, c.move_last.ensures.room) }
 
-pub loop-hand-preserved : goal.loop-hand-preserved
-loop-hand-preserved g c =
+pub loop-list-preserved : goal.loop-list-preserved
+loop-list-preserved g c =
     let P : Type 0 = Piece g.row.T.Denot in
     let H : Type 0 = Vec P Global in
     let t = c.args.threads in
@@ -97,29 +97,29 @@ loop-hand-preserved g c =
     let ps : List P = c.args.pieces.now.items in
     let each = c.len-2.result / t in
     let same : each ≡ length ps / t = ap (λ z. z / t) (c.len-2.ensures ∙ c.args.pieces.now.ok.0) in
-    let i = c.loop-hand.hand-index in
-    let hs : List H = c.loop-hand.hand-items in
-    let n : length hs ≡ t = count (λ (h : H). vec_capacity h) hs len t c.requires.threads c.loop-hand.invariant.rooms in
+    let i = c.loop-list.list-index in
+    let hs : List H = c.loop-list.list-items in
+    let n : length hs ≡ t = count (λ (h : H). vec_capacity h) hs len t c.requires.threads c.loop-list.invariant.rooms in
     let lt : i < length hs = search rules in
     let k : i < t = omega arith in
-    let d : H = c.hand-item.result in
-    let hand : H = get_or hs i d in
-    let none : hand.items ≡ [] = empty (λ (h : H). h.items) hs (dealt ps t) t i d lt k c.loop-hand.invariant.hands in
-    let new : H = c.move_last-in-loop-hand.new.hand in
-    let own : take each (reverse c.loop-hand.pieces.items) ≡ take each (drop (each * i) ps) =
-    ap (take each) c.loop-hand.invariant.own ∙ own_run ps each t i k in
-    let rest : take 1 (reverse c.loop-hand.rest.items) ≡ take 1 (drop (each * t + i) ps) =
-    ap (take 1) (c.loop-hand.invariant.rest ∙ drop-drop i (each * t) ps) in
-    let items : new.items ≡ dealt ps t i = rw (← same) (c.move_last-in-loop-hand.ensures.hand ∙ rw (c.move_last.ensures.hand, none, own, rest) refl) in
-    let cap : vec_capacity new ≡ vec_capacity hand = c.move_last-in-loop-hand.ensures.room ∙ c.move_last.ensures.room in
+    let d : H = c.list-item.result in
+    let list : H = get_or hs i d in
+    let none : list.items ≡ [] = empty (λ (h : H). h.items) hs (dealt ps t) t i d lt k c.loop-list.invariant.lists in
+    let new : H = c.move_last-in-loop-list.new.list in
+    let own : take each (reverse c.loop-list.pieces.items) ≡ take each (drop (each * i) ps) =
+    ap (take each) c.loop-list.invariant.own ∙ own_run ps each t i k in
+    let rest : take 1 (reverse c.loop-list.rest.items) ≡ take 1 (drop (each * t + i) ps) =
+    ap (take 1) (c.loop-list.invariant.rest ∙ drop-drop i (each * t) ps) in
+    let items : new.items ≡ dealt ps t i = rw (← same) (c.move_last-in-loop-list.ensures.list ∙ rw (c.move_last.ensures.list, none, own, rest) refl) in
+    let cap : vec_capacity new ≡ vec_capacity list = c.move_last-in-loop-list.ensures.room ∙ c.move_last.ensures.room in
     record {
-      own = c.move_last.ensures.pieces ∙ ap (drop each) c.loop-hand.invariant.own ∙ own_left (take (each * t) ps) each i;
-      rest = c.move_last-in-loop-hand.ensures.pieces ∙ ap (drop 1) c.loop-hand.invariant.rest ∙ drop-drop 1 i (drop (each * t) ps);
-      hands = hands_next (λ (h : H). h.items) hs (dealt ps t) t i new k c.loop-hand.invariant.hands items;
+      own = c.move_last.ensures.pieces ∙ ap (drop each) c.loop-list.invariant.own ∙ own_left (take (each * t) ps) each i;
+      rest = c.move_last-in-loop-list.ensures.pieces ∙ ap (drop 1) c.loop-list.invariant.rest ∙ drop-drop 1 i (drop (each * t) ps);
+      lists = lists_next (λ (h : H). h.items) hs (dealt ps t) t i new k c.loop-list.invariant.lists items;
       rooms =
           map-set (λ (h : H). vec_capacity h) hs i new
           ∙ ap (λ z. set (map (λ (h : H). vec_capacity h) hs) i z) (cap ∙ sym (get_or-map (λ (h : H). vec_capacity h) hs i d 0 lt))
-          ∙ set-get_or (map (λ (h : H). vec_capacity h) hs) i 0 ∙ c.loop-hand.invariant.rooms;
+          ∙ set-get_or (map (λ (h : H). vec_capacity h) hs) i 0 ∙ c.loop-list.invariant.rooms;
     }
 
 pub returns-clause-dealt : goal.returns-clause-dealt
@@ -129,17 +129,17 @@ returns-clause-dealt g c =
     let t = c.args.threads in
     let len = vec_len c.args.pieces.now in
     let ps : List P = c.args.pieces.now.items in
-    let i = c.loop-hand.hand-index in
-    let hs : List H = c.loop-hand.hand-items in
-    let n : length hs ≡ t = count (λ (h : H). vec_capacity h) hs len t c.requires.threads c.loop-hand.invariant.rooms in
-    let m : length c.in_ok-hands.hands.items ≡ t =
-    count (λ (h : H). vec_capacity h) c.in_ok-hands.hands.items len t c.requires.threads (search (rules, c.in_ok-hands.ensures.rooms)) in
+    let i = c.loop-list.list-index in
+    let hs : List H = c.loop-list.list-items in
+    let n : length hs ≡ t = count (λ (h : H). vec_capacity h) hs len t c.requires.threads c.loop-list.invariant.rooms in
+    let m : length c.in_ok-lists.lists.items ≡ t =
+    count (λ (h : H). vec_capacity h) c.in_ok-lists.lists.items len t c.requires.threads (search (rules, c.in_ok-lists.ensures.rooms)) in
     let all : i ≡ t = omega arith in
-    let same : length hs ≡ c.in_ok-hands.hands.len = n ∙ sym m ∙ sym c.in_ok-hands.hands.ok.0 in
+    let same : length hs ≡ c.in_ok-lists.lists.len = n ∙ sym m ∙ sym c.in_ok-lists.lists.ok.0 in
     let z : t - i ≡ 0 = omega arith in
     let got : map (λ (h : H). h.items) hs ≡ map (dealt ps t) (counted 0 t) =
-    rw (z, all) at c.loop-hand.invariant.hands ∙ append-nil (map (dealt ps t) (counted 0 t)) in
-    rw (take_at hs (drop (length hs) c.in_ok-hands.hands.items) c.in_ok-hands.hands.len same) got
+    rw (z, all) at c.loop-list.invariant.lists ∙ append-nil (map (dealt ps t) (counted 0 t)) in
+    rw (take_at hs (drop (length hs) c.in_ok-lists.lists.items) c.in_ok-lists.lists.len same) got
 
 pub returns-clause-taken : goal.returns-clause-taken
 returns-clause-taken g c =
@@ -148,15 +148,15 @@ returns-clause-taken g c =
     let t = c.args.threads in
     let len = vec_len c.args.pieces.now in
     let each = c.len-2.result / t in
-    let i = c.loop-hand.hand-index in
-    let hs : List H = c.loop-hand.hand-items in
-    let n : length hs ≡ t = count (λ (h : H). vec_capacity h) hs len t c.requires.threads c.loop-hand.invariant.rooms in
+    let i = c.loop-list.list-index in
+    let hs : List H = c.loop-list.list-items in
+    let n : length hs ≡ t = count (λ (h : H). vec_capacity h) hs len t c.requires.threads c.loop-list.invariant.rooms in
     let all : i ≡ t = omega arith in
     let run : List P = take (each * t) c.args.pieces.now.items in
     let short : length run ≤ each * i =
     rw all (omega (arith, length-take (each * t) c.args.pieces.now.items, min-le_left (each * t) (length c.args.pieces.now.items))) in
-    nil_from_length c.loop-hand.pieces.items
-    (sym (length-reverse c.loop-hand.pieces.items) ∙ ap length (c.loop-hand.invariant.own ∙ drop_all (each * i) run short))
+    nil_from_length c.loop-list.pieces.items
+    (sym (length-reverse c.loop-list.pieces.items) ∙ ap length (c.loop-list.invariant.own ∙ drop_all (each * i) run short))
 
 pub returns-clause-numbers : goal.returns-clause-numbers
 returns-clause-numbers g c =
@@ -164,7 +164,7 @@ returns-clause-numbers g c =
     let number : P → ℕ = λ p. p.number in
     let t = c.args.threads in
     sym (map-map (map number) (λ (h : Vec P Global). h.items)
-    (take c.in_ok-hands.hands.len (c.loop-hand.hand-items ++ drop (length c.loop-hand.hand-items) c.in_ok-hands.hands.items)))
+    (take c.in_ok-lists.lists.len (c.loop-list.list-items ++ drop (length c.loop-list.list-items) c.in_ok-lists.lists.items)))
     ∙ ap (map (map number)) (returns-clause-dealt g c)
     ∙ map-dealt_all number c.args.pieces.now.items t (counted 0 t)
     ∙ ap (λ z. map (dealt z t) (counted 0 t)) c.requires.numbers

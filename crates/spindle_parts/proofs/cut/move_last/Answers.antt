@@ -1,4 +1,4 @@
--- Moving pieces to a hand: the last of the list is the next of it read backwards.
+-- Moving pieces to a list: the last of the list is the next of it read backwards.
 use Rattle.std.proofs.Common.{◌≡◌, ◌∷◌, ◌++◌, [], reverse, take, drop, length, min, List, arith, sym, ap, ◌∙◌, append_assoc}
 use Rattle.std.proofs.lemmas.List.{take_min, drop_min, length-reverse}
 use Rattle.spindle_parts.specs.declared.cut.Piece.{Piece}
@@ -14,12 +14,12 @@ loop-preserved g c =
     let e : drop n R ≡ c.take_last.result ∷ reverse left =
     sym c.loop.invariant.pieces ∙ ap reverse c.take_last.ensures.items ∙ reverse_snoc left c.take_last.result in
     record {
-      hand =
-          rw (c.push_reserved.ensures.items, c.loop.invariant.hand, taken_next R n c.take_last.result (reverse left) e)
-          (append_assoc c.args.hand.now.items (take n R) (c.take_last.result ∷ []));
+      list =
+          rw (c.push_reserved.ensures.items, c.loop.invariant.list, taken_next R n c.take_last.result (reverse left) e)
+          (append_assoc c.args.list.now.items (take n R) (c.take_last.result ∷ []));
       pieces = sym (dropped_next R n c.take_last.result (reverse left) e);
       len = omega arith;
-      hand_len = omega arith;
+      list_len = omega arith;
       room = omega arith;
     }
 
@@ -30,7 +30,7 @@ returns g c =
     let l = length-reverse c.args.pieces.now.items in
     omega (arith, c.loop.auto.counter-end, c.loop-test.false, c.min-end.ensures, c.len.ensures, c.args.pieces.now.ok.0, l) in
     record {
-      hand = c.loop.invariant.hand ∙ ap (λ k. c.args.hand.now.items ++ take k R) n ∙ ap (λ t. c.args.hand.now.items ++ t) (take_min c.args.count R);
+      list = c.loop.invariant.list ∙ ap (λ k. c.args.list.now.items ++ take k R) n ∙ ap (λ t. c.args.list.now.items ++ t) (take_min c.args.count R);
       pieces = c.loop.invariant.pieces ∙ ap (λ k. drop k R) n ∙ drop_min c.args.count R;
       room = c.loop.invariant.room;
     }

@@ -29,18 +29,18 @@ returns-then-is_exit_announced-clause-leader g c = c.loop.invariant.leader
 pub returns-then-is_exit_announced-clause-seat : goal.returns-then-is_exit_announced-clause-seat
 returns-then-is_exit_announced-clause-seat g c = c.loop.invariant.seat
 
-pub returns-in-Some-task-clause-turns : goal.returns-in-Some-task-clause-turns
-returns-in-Some-task-clause-turns g c = let t = c.loop.invariant.turns in
-    (t.0, account_of c.loop.signals, party_view c.loop.member.barrier, t.1, (c.if-is_exit_announced.ensures.read, c.in-Some-task.ensures.looked))
+pub returns-in-Some-published-clause-turns : goal.returns-in-Some-published-clause-turns
+returns-in-Some-published-clause-turns g c = let t = c.loop.invariant.turns in
+    (t.0, account_of c.loop.signals, party_view c.loop.member.barrier, t.1, (c.if-is_exit_announced.ensures.read, c.in-Some-published.ensures.looked))
 
-pub returns-in-Some-task-clause-member : goal.returns-in-Some-task-clause-member
-returns-in-Some-task-clause-member g c = let i = c.loop.invariant in let e = c.task.ensures.member in (e.0 ∙ i.tables, e.1 ∙ i.thread)
+pub returns-in-Some-published-clause-member : goal.returns-in-Some-published-clause-member
+returns-in-Some-published-clause-member g c = let i = c.loop.invariant in let e = c.published.ensures.member in (e.0 ∙ i.tables, e.1 ∙ i.thread)
 
-pub returns-in-Some-task-clause-leader : goal.returns-in-Some-task-clause-leader
-returns-in-Some-task-clause-leader g c = c.task.ensures.leader ∙ c.loop.invariant.leader
+pub returns-in-Some-published-clause-leader : goal.returns-in-Some-published-clause-leader
+returns-in-Some-published-clause-leader g c = c.published.ensures.leader ∙ c.loop.invariant.leader
 
-pub returns-in-Some-task-clause-seat : goal.returns-in-Some-task-clause-seat
-returns-in-Some-task-clause-seat g c = let i = c.loop.invariant.seat in let e = c.task.ensures.seat in (e.0 ∙ i.0, e.1 ∙ i.1)
+pub returns-in-Some-published-clause-seat : goal.returns-in-Some-published-clause-seat
+returns-in-Some-published-clause-seat g c = let i = c.loop.invariant.seat in let e = c.published.ensures.seat in (e.0 ∙ i.0, e.1 ∙ i.1)
 
 pub returns-then-requests_if-gt0-clause-turns : goal.returns-then-requests_if-gt0-clause-turns
 returns-then-requests_if-gt0-clause-turns g c = let i = c.loop.invariant in let t = i.turns in let n = c.requests_if.result in
@@ -54,7 +54,7 @@ returns-then-requests_if-gt0-clause-turns g c = let i = c.loop.invariant in let 
     )
 
 pub loop-preserved : goal.loop-preserved
-loop-preserved g c = let i = c.loop.invariant in let e = c.task.ensures in let n = c.requests_if.result in let none : n ≡ 0 = omega arith in
+loop-preserved g c = let i = c.loop.invariant in let e = c.published.ensures in let n = c.requests_if.result in let none : n ≡ 0 = omega arith in
     let look = looked c.loop.idle.waited n c.looks_at_requests.result _ _ c.requests_if.ensures.read _ (patience_of c.args.member.now.tables.now)
     i.patience c.looks_at_requests.ensures.late c.requests_if.ensures.unread in record {
       tables = e.member.0 ∙ i.tables;

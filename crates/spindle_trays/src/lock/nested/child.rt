@@ -9,7 +9,7 @@ use crate::job::Job;
 use crate::job::gate::NoGate;
 use crate::job::nest::{IsNest, Nest};
 use crate::lock::helper::help;
-use crate::lock::nested::child_lease::{ChildSlot, make_slots, serve_slots};
+use crate::lock::nested::child_lease::{ChildSlot, make_child_slots, serve_child_slots};
 use crate::lock::workspace::{Opens, TakesPart, Workspace};
 use spindle_parts::aarc_imp::Fits;
 use spindle_parts::fault::Fault;
@@ -102,7 +102,7 @@ impl<K: Job> Child<Nested<K>> {
     {
         let workspace = <K as Opens<Workspace<K>>>::open(alloc, counts.threads())?;
         let (round, seat) = Round::new(alloc, counts.threads())?;
-        let child_slots = K::Inner::slot_count(counts.threads());
+        let child_slots = K::Inner::child_slot_count(counts.threads());
         let (tables, mut seats) = Tables::new(alloc, counts, idling, child_slots, round, seat)?;
         let spare_seats = tables.spare_seats(alloc, &mut seats)?;
         let shared = Arc::new(
@@ -144,12 +144,12 @@ impl<K: Job> IsNest for Under<K> {}
 impl<K: Job> Nest for Under<K> {
     type ChildSlots = Vec<ChildSlot<Nested<K>>>;
 
-    fn slot_count(threads: usize) -> usize {
+    fn child_slot_count(threads: usize) -> usize {
         threads
     }
 
     fn make(alloc: Global, threads: usize) -> Result<Vec<ChildSlot<Nested<K>>>, Fault> {
-        make_slots(alloc, threads)
+        make_child_slots(alloc, threads)
     }
 
     fn serve<H: Threads + Wait + Sync>(
@@ -158,6 +158,6 @@ impl<K: Job> Nest for Under<K> {
         child_slots: &Vec<ChildSlot<Nested<K>>>,
         signals: &mut Signals<'_>,
     ) {
-        serve_slots(rt, alloc, child_slots, signals);
+        serve_child_slots(rt, alloc, child_slots, signals);
     }
 }

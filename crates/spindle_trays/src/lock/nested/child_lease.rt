@@ -39,7 +39,7 @@ impl<'a, N: Drop> ChildLease<'a, N> {
         request: HelperRequest<'a>,
         sleep: &Sleep,
     ) -> Option<ChildLease<'a, N>> {
-        let Some(slot) = find_slot(child_slots, child, request.child_slots()) else {
+        let Some(slot) = find_child_slot(child_slots, child, request.child_slots()) else {
             drop(request.withdraw());
             return None;
         };
@@ -65,7 +65,7 @@ impl<'a, N: Drop> ChildLease<'a, N> {
 // A lock of t threads has t slots, and so there is one: at most t - i threads look at slot i or have a lock there or behind it, since
 // a thread looks past slot i only while another thread's lock stands there, and has one lock in these slots at most. No type says so,
 // and a share may be refused too: None stands for both.
-fn find_slot<N: Drop>(
+fn find_child_slot<N: Drop>(
     child_slots: &Vec<ChildSlot<N>>,
     child: &Child<N>,
     places: usize,
@@ -83,7 +83,7 @@ fn find_slot<N: Drop>(
 }
 
 /// Free slots, as many as a lock has threads.
-pub fn make_slots<N>(alloc: Global, threads: usize) -> Result<Vec<ChildSlot<N>>, Fault>
+pub fn make_child_slots<N>(alloc: Global, threads: usize) -> Result<Vec<ChildSlot<N>>, Fault>
     ensures { OnErr result (IsErrOf result Fault.Memory) }
 {
     let mut child_slots = Vec::with_capacity(alloc, threads)?;
@@ -95,7 +95,7 @@ pub fn make_slots<N>(alloc: Global, threads: usize) -> Result<Vec<ChildSlot<N>>,
 
 /// A helper's walk over the slots, from the first to the last: where it gets a place it lives as a helper of the lock that stands
 /// there. Then its seat at the ledger is as before, and answers for no request.
-pub fn serve_slots<N: TakesHelpers, H: Threads + Wait + Sync>(
+pub fn serve_child_slots<N: TakesHelpers, H: Threads + Wait + Sync>(
     rt: &H,
     alloc: Global,
     child_slots: &Vec<ChildSlot<N>>,

@@ -77,7 +77,7 @@ impl<'a, K: Job> JobCx<'a, Under<K>> {
         ensures same { self.new ≡ self.old }
     {
         let mut outputs = Vec::with_capacity(alloc, items.len())?;
-        let mut context = JobCx::<K::Inner>::within(self.asks.signals.another(), &self.site);
+        let mut context = JobCx::<K::Inner>::within(self.signals.signals.another(), &self.site);
         run_each::<K, H>(rt, alloc, items.as_slice(), &mut context, &mut outputs);
         Ok(outputs)
     }
@@ -109,7 +109,7 @@ impl<'a, K: Job> JobCx<'a, Under<K>> {
         let sleep = self.site.sleep;
         if let Some(child_slots) = child_slots_for(self, counts) {
             let (child, seats) = Child::open(alloc, counts, sleep.idling())?;
-            let request = self.asks.ask(child.tables());
+            let request = self.signals.ask(child.tables());
             if let Some(child_lease) = ChildLease::take(rt, child_slots, &child, request, sleep) {
                 let mut leader = take_lead(rt, &child, &NoGate, seats);
                 let answer = f(&mut leader);

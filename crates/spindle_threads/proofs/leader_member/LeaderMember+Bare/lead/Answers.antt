@@ -20,8 +20,8 @@ last_after q n may_stop v u w last on next =
     (ap (λ z. z.0.laid) next.seat ∙ on.laid ∙ last.0, subst (IsDeed (Showed q n may_stop)) (sym same) last.1)
 
 pub returns-clause-played : goal.returns-clause-played
-returns-clause-played g c = let w = c.work-work.ensures in
-    played_after c.args.task.jobs c.args.task.may_stop c.args.self.now.member.barrier.seat.me.0 c.publish.new.barrier.seat.me.0 c.work-work.new.seat.me
+returns-clause-played g c = let w = c.work-work.ensures in let round = c.args.published in
+    played_after round.jobs round.may_stop c.args.self.now.member.barrier.seat.me.0 c.publish.new.barrier.seat.me.0 c.work-work.new.seat.me
     c.end_round.new.barrier.seat.me c.publish.ensures.published (rw c.seat.ensures.value at w.went.on) w.idle c.end_round.ensures.next
 
 pub returns-clause-keeps : goal.returns-clause-keeps
@@ -35,5 +35,6 @@ returns-clause-keeps g c = let u = c.work-work.new.seat.me in (
 )
 
 pub returns-clause-last : goal.returns-clause-last
-returns-clause-last g c = last_after _ c.args.task.jobs c.args.task.may_stop c.publish.new.barrier.seat.me.0 c.work-work.new.seat.me c.end_round.new.barrier.seat.me
+returns-clause-last g c = let round = c.args.published in
+    last_after _ round.jobs round.may_stop c.publish.new.barrier.seat.me.0 c.work-work.new.seat.me c.end_round.new.barrier.seat.me
     c.publish.ensures.last (rw c.seat.ensures.value at c.work-work.ensures.went.on) c.end_round.ensures.next

@@ -5,8 +5,8 @@ use Rattle.spindle_rounds.specs.RoundSteps.{round_of}
 use Rattle.spindle_rounds.specs.Working.{IsIdle}
 use Rattle.spindle_threads.proofs.leader_member.LeaderMember.part.Goals as goal
 
-pub returns-clause-stands : goal.returns-clause-stands
-returns-clause-stands g c = let p = c.args.self.member in let q = c.part.ensures in let u = ap (λ z. z.me.0.standing) q.seat in (
+pub returns-clause-leads : goal.returns-clause-leads
+returns-clause-leads g c = let p = c.args.self.member in let q = c.part.ensures in let u = ap (λ z. z.me.0.standing) q.seat in (
   ap (λ z. z.table_id) q.seat ∙ p.seated,
   ap (λ z. z.me.0.threads) q.seat ∙ p.sized,
   ap (λ z. z.me.0.leader) q.seat ∙ c.args.self.leads,

@@ -14,7 +14,7 @@ loop-place-preserved g c =
     let places = c.loop-place.tray.items in
     let k = c.loop-place.place in
     let number = c.number-number.result in
-    let length_is : c.hand_length-length.result ≡ length own = rw (← count) c.hand_length-length.ensures in
+    let length_is : c.dealt_length-length.result ≡ length own = rw (← count) c.dealt_length-length.ensures in
     let h : k < length own = omega (arith, length_is, c.loop-place-test.true) in
     let h' : k < length places = omega (arith, c.loop-place.invariant.enough, c.loop-place-test.true, c.loop-place.tray.small) in
     let at : slice_get own k ≡ Some number = rw (← count) c.number-number.ensures.number in
@@ -31,8 +31,8 @@ pub returns : goal.returns
 returns g c =
     let pieces = c.args.pieces.now in
     let own = dealt (counted 0 pieces.count) c.args.threads c.args.thread in
-    let length_is : c.hand_length-length.result ≡ length own = rw (← c.count-count.ensures.number) c.hand_length-length.ensures in
+    let length_is : c.dealt_length-length.result ≡ length own = rw (← c.count-count.ensures.number) c.dealt_length-length.ensures in
     record {
-      waits = all_wait (waiting pieces.items pieces.count) own c.loop-place.tray.items c.hand_length-length.result c.loop-place.place length_is
+      waits = all_wait (waiting pieces.items pieces.count) own c.loop-place.tray.items c.dealt_length-length.result c.loop-place.place length_is
           c.loop-place-test.false c.loop-place.auto.place-end c.loop-place.invariant.waits;
     }

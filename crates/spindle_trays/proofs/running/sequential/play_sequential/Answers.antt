@@ -10,13 +10,13 @@ use Rattle.spindle_trays.proofs.running.sequential.play_sequential.Goals as goal
 
 pub returns-clause-played : goal.returns-clause-played
 returns-clause-played g c = let old = c.args.leader.now.member.barrier.seat.me.0 in let new = c.lead-work.new.self.member.barrier.seat.me.0 in
-    let task = c.task.ensures in subst (λ (n : ℕ). PlayedRoundOf n true old new) task.jobs
-    (subst (λ (b : Bool). PlayedRoundOf c.task.result.jobs b old new) task.may_stop c.lead-work.ensures.played)
+    let published = c.published.ensures in subst (λ (n : ℕ). PlayedRoundOf n true old new) published.jobs
+    (subst (λ (b : Bool). PlayedRoundOf c.published.result.jobs b old new) published.may_stop c.lead-work.ensures.played)
 
 pub returns-clause-last : goal.returns-clause-last
 returns-clause-last g c = let q = round_of c.args.leader.now.member.barrier.seat.me.0.standing in let new = c.lead-work.new.self.member.barrier.seat.me.0 in
-    let task = c.task.ensures in subst (λ (n : ℕ). LastPublished q n true new) task.jobs
-    (subst (λ (b : Bool). LastPublished q c.task.result.jobs b new) task.may_stop c.lead-work.ensures.last)
+    let published = c.published.ensures in subst (λ (n : ℕ). LastPublished q n true new) published.jobs
+    (subst (λ (b : Bool). LastPublished q c.published.result.jobs b new) published.may_stop c.lead-work.ensures.last)
 
 pub returns-clause-fit : goal.returns-clause-fit
 returns-clause-fit g c = let w = c.lead-work.ensures in rw w.keeps.4.0 at w.holds.1.0

@@ -7,7 +7,7 @@ use Rattle.spindle_rounds.proofs.round.claimer.Claimer.put_back.Given as goal
 
 abbrev pub invariant-loop : goal.invariant-loop
 invariant-loop g l = record {
-  went : WentOn l.self.round.now l.self.task l.fn.seat l.seat;
+  went : WentOn l.self.round.now l.self.published l.fn.seat l.seat;
   may : MayPutBack l.seat.me.0;
   own : IsItsShare l.share l.seat.me.0;
   stops : StopsAsBefore l.fn.seat.me.0 l.seat.me.0;

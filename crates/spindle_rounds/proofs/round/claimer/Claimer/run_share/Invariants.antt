@@ -6,7 +6,7 @@ use Rattle.spindle_rounds.proofs.round.claimer.Claimer.run_share.Given as goal
 
 abbrev pub invariant-loop : goal.invariant-loop
 invariant-loop g l = record {
-  went : WentOn l.self.round.now l.self.task l.fn.seat l.seat;
+  went : WentOn l.self.round.now l.self.published l.fn.seat l.seat;
   idle : l.seat.me.0.claim ≡ None;
   own : IsItsShare l.share l.seat.me.0;
   over : l.is_over ≡ true → HasEmptiedAll l.seat.me.0;

@@ -2,20 +2,20 @@
 use Rattle.std.proofs.Common.{◌%◌, arith, refl, ap, sym, subst, ◌∙◌}
 use Rattle.spindle_rounds.specs.declared.round_table.view.Standing.TheVariants.{Inside}
 use Rattle.spindle_rounds.specs.RoundSteps.{round_of}
-use Rattle.spindle_threads.specs.SlotMembers.{StandsAt, HoldsEmpty}
+use Rattle.spindle_threads.specs.SlotMembers.{IsDetachedLeader, HoldsEmpty}
 use Rattle.spindle_slots.proofs.SlotMembers.{empty_hand}
 use Rattle.spindle_trays.proofs.TrayPlaces.{some_is}
 use Rattle.spindle_slots.proofs.leader_states.leader_state.SlotMember.new.Goals as goal
 
 pub hold_slots-requires-clause-leads : goal.hold_slots-requires-clause-leads
-hold_slots-requires-clause-leads g c = let r = c.args.leader_seats.stands in rw c.seat.ensures.value ((_, r.3), r.4)
+hold_slots-requires-clause-leads g c = let r = c.args.leader_seats.leads in rw c.seat.ensures.value ((_, r.3), r.4)
 
 pub invariant_of-result : goal.invariant_of-result
-invariant_of-result g c = let n = c.args.leader_seats in let r = n.stands in let h = rw c.seat.ensures.value at c.hold_slots.ensures in let me = h.step.1.2 in
+invariant_of-result g c = let n = c.args.leader_seats in let r = n.leads in let h = rw c.seat.ensures.value at c.hold_slots.ensures in let me = h.step.1.2 in
     let u = ap (λ z. z.0.standing) me in
     let f = ap (λ z. z.0.from) me in let t = ap (λ z. z.0.to) me in let i = r.5.1 in record {
       there = refl;
-      stands = λ s e. subst (λ z. StandsAt n.share.tables.value z) (some_is e) (
+      leads = λ s e. subst (λ z. IsDetachedLeader n.share.tables.value z) (some_is e) (
         h.seat.0 ∙ r.0,
         ap (λ z. z.0.threads) me ∙ r.1,
         ap (λ z. z.0.leader) me ∙ r.2,

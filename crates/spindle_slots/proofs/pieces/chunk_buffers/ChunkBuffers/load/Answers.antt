@@ -1,7 +1,7 @@
 -- One piece more is a chunk.
 use Rattle.std.proofs.Common.{◌≡◌, ◌≤◌, ◌/◌, ◌+◌, ◌-◌, ◌++◌, ◌∷◌, [], ℕ, suc, length, take, drop, refl, ap, sym, subst, ◌∙◌, arith, vec_len}
 use Rattle.std.proofs.lemmas.List.{take-take}
-use Rattle.spindle_slots.specs.InPlace.{HaveRoom, last_pieces}
+use Rattle.spindle_slots.specs.InPlace.{HaveCapacity, last_pieces}
 use Rattle.std.proofs.Math.Nat.{le_antisymm}
 use Rattle.spindle_trays.specs.PieceRuns.{piece_start, items_before, piece_at}
 use Rattle.spindle_trays.proofs.PieceRuns.{before_first}
@@ -27,7 +27,7 @@ load-requires-clause-room g c = let i = c.loop-done.invariant in let n : ℕ = c
     let len : ℕ = vec_len c.args.items.now in let m : ℕ = n - 1 - k in let next : n - k ≡ m + 1 = omega arith in
     let long : c.len-len.result ≡ len = omega arith in
     let less = room_less (len / n + 1) c.take_last-buffer.new.self.items c.take_last-buffer.result
-    (subst (HaveRoom (len / n + 1)) c.take_last-buffer.ensures.items i.buffers) in
+    (subst (HaveCapacity (len / n + 1)) c.take_last-buffer.ensures.items i.buffers) in
     let from = c.start-from.ensures.start ∙ ap (λ (l : ℕ). piece_start l n m) long in
     omega (arith, less.1, i.len ∙ ap (λ (j : ℕ). piece_start len n j) next, from, piece_short len n m)
 
@@ -40,7 +40,7 @@ loop-done-preserved g c = let i = c.loop-done.invariant in let old = c.args.item
     let same : len ≡ length old.items = old.ok.0 in let at : f ≡ piece_start (length old.items) n m = from ∙ ap (λ (l : ℕ). piece_start l n m) same in
     let was : c.loop-done.items.items ≡ items_before old.items n (m + 1) = i.items ∙ ap (λ (j : ℕ). items_before old.items n j) next in
     let less = room_less (len / n + 1) c.take_last-buffer.new.self.items c.take_last-buffer.result
-    (subst (HaveRoom (len / n + 1)) c.take_last-buffer.ensures.items i.buffers) in
+    (subst (HaveCapacity (len / n + 1)) c.take_last-buffer.ensures.items i.buffers) in
     let up : piece_start (length old.items) n m ≤ piece_start (length old.items) n (m + 1) = omega arith in
     let one : suc k ≡ k + 1 = omega arith in let last : n - suc k ≡ m = omega arith in record {
       items = c.load.ensures.left ∙ (ap (take f) was ∙ (ap (λ (j : ℕ). take j (items_before old.items n (m + 1))) at

@@ -1,6 +1,6 @@
 -- The last pieces are chunks, and the items before them are left.
 use Rattle.std.proofs.Common.{◌≡◌, ◌≤◌, ◌/◌, ◌+◌, ◌-◌, vec_len, vec_capacity}
-use Rattle.spindle_slots.specs.InPlace.{HaveRoom, last_pieces}
+use Rattle.spindle_slots.specs.InPlace.{HaveCapacity, last_pieces}
 use Rattle.spindle_trays.specs.PieceRuns.{piece_start, items_before}
 use Rattle.spindle_slots.proofs.pieces.chunk_buffers.ChunkBuffers.load.Given as goal
 
@@ -12,6 +12,6 @@ invariant-loop-done g l = let old = l.fn.items in record {
   chunks : l.self.chunks.items ≡ last_pieces old.items l.jobs l.done;
   room : l.jobs ≤ vec_capacity l.self.chunks;
   chunked : vec_len l.self.chunks ≡ l.done;
-  buffers : HaveRoom (vec_len old / l.jobs + 1) l.self.ready.items;
+  buffers : HaveCapacity (vec_len old / l.jobs + 1) l.self.ready.items;
   ready : vec_len l.self.ready + l.done ≡ l.jobs;
 }

@@ -23,7 +23,7 @@ fill_in_place-requires-clause-held g c = rw c.seat.ensures.value (subst (λ
 
 pub play_held-requires-clause-leads : goal.play_held-requires-clause-leads
 play_held-requires-clause-leads g c κs within = let f = rw c.seat.ensures.value at c.fill_in_place.ensures.seat in
-    still_leads c.args.self.now.tables.now c.args.barrier.now _ refl refl refl f.0 f.1 c.requires.leads.stands
+    still_leads c.args.self.now.tables.now c.args.barrier.now _ refl refl refl f.0 f.1 c.requires.leads.leads
 
 pub play_held-requires-clause-pieces : goal.play_held-requires-clause-pieces
 play_held-requires-clause-pieces g c κs within =
@@ -82,7 +82,7 @@ returns-clause-leads g c = let few = c.requires.counted in let old = c.args.item
     let R = g.J.Updates.updated in let i = c.loop-slot.invariant in let end : c.loop-slot.slot ≡ n = omega arith in
     let e = rw c.seat-2.ensures.value at c.turn_slots.ensures in
     let t = subst (λ (k : ℕ). Turning (Held R old n) IsEmpty s k c.loop-slot.barrier.seat.me.1) end i.hand in record {
-      stands = still_leads c.args.self.now.tables.now c.loop-slot.barrier _ refl refl refl e.seat (ap (λ m. m.0) e.turned) i.leads;
+      leads = still_leads c.args.self.now.tables.now c.loop-slot.barrier _ refl refl refl e.seat (ap (λ m. m.0) e.turned) i.leads;
       hand = subst (λ (k : ℕ). HoldsEach IsEmpty k c.turn_slots.new.seat.me.1) (sym c.args.self.now.many) (subst (λ m. HoldsEach IsEmpty s m.1) (sym e.turned)
           (settled (Held R old n) IsEmpty IsEmpty s n c.loop-slot.barrier.seat.me.1 t (λ k y le h. h.empty le) (λ k y lt e. e)));
     }

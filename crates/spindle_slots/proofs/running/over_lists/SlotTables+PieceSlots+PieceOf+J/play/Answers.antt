@@ -22,7 +22,7 @@ fill-requires-clause-held g c = rw c.seat.ensures.value (subst (λ
 
 pub play_held-requires-clause-leads : goal.play_held-requires-clause-leads
 play_held-requires-clause-leads g c κs within = let f = rw c.seat.ensures.value at c.fill.ensures.seat in
-    still_leads c.args.self.now.tables.now c.args.barrier.now _ refl refl refl f.0 f.1 c.requires.leads.stands
+    still_leads c.args.self.now.tables.now c.args.barrier.now _ refl refl refl f.0 f.1 c.requires.leads.leads
 
 pub play_held-requires-clause-pieces : goal.play_held-requires-clause-pieces
 play_held-requires-clause-pieces g c κs within = let all = g.S.FillsSlots.items c.args.items.now in let n : ℕ = g.S.FillsSlots.pieces c.args.items.now in
@@ -84,7 +84,7 @@ returns-clause-leads g c = let few = c.requires.few in let num = c.pieces-pieces
     let n : ℕ = c.pieces-pieces.result in let s : ℕ = c.args.self.now.slots in let M = g.J.Job.meets in let i = c.loop-slot.invariant in
     let end : c.loop-slot.slot ≡ n = omega arith in let e = rw c.seat-2.ensures.value at c.turn_slots.ensures in let b = c.loop-slot.barrier in
     let t = subst (λ (k : ℕ). Turning (Held M all n) IsEmpty s k b.seat.me.1) end i.hand in record {
-      stands = still_leads c.args.self.now.tables.now b _ refl refl refl e.seat (ap (λ m. m.0) e.turned) i.leads;
+      leads = still_leads c.args.self.now.tables.now b _ refl refl refl e.seat (ap (λ m. m.0) e.turned) i.leads;
       hand = subst (λ (k : ℕ). HoldsEach IsEmpty k c.turn_slots.new.seat.me.1) (sym c.args.self.now.many) (subst (λ m. HoldsEach IsEmpty s m.1) (sym e.turned)
           (settled (Held M all n) IsEmpty IsEmpty s n b.seat.me.1 t (λ k y le h. h.empty le) (λ k y lt e. e)));
     }

@@ -17,7 +17,7 @@ returns-in_err-hand_out g c = rw (passed_on c.from_residual.result c.from_residu
     (record { tallied = tt; memory = (refl, refl); lock = (refl, refl) })
 
 pub returns-then-threads-gt1 : goal.returns-then-threads-gt1
-returns-then-threads-gt1 g c = let p = c.play_in_trays.ensures in let m = c.mark_left.ensures in let t = c.task-task.ensures in
+returns-then-threads-gt1 g c = let p = c.play_in_trays.ensures in let m = c.mark_left.ensures in let t = c.published-published.ensures in
     let played = rw (t.jobs, t.may_stop) at p.played in let last = rw (t.jobs, t.may_stop) at p.last in
     let q = round_of (view_of c.args.self.now).standing in let marks = c.mark_left.new.marks.items in
     let v = party_view c.play_in_trays.new.leader.member.barrier in let w = party_view c.mark_left.new.self.member.barrier in
