@@ -29,6 +29,7 @@ pub use self::passes::{Passes, passes_until};
 pub use self::passing::{Note, Passing};
 pub use self::source::Source;
 pub(crate) use self::source::parts_of;
+pub(crate) use self::tasks::PIECES;
 pub use self::tasks::Task;
 pub use self::tries::{Failed, Trial, Trying, try_map};
 pub(crate) use self::updates::change_each;

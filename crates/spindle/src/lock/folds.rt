@@ -2,7 +2,7 @@
 ghost use Rattle.std.specs.Prelude.{◌≡◌, IfOk, IsOk, OnErr, IsErrOf, fold, length, map};
 ghost use Rattle.spindle.specs.Folds.{IsAssociative, IsNeutral, total_of};
 
-use crate::kernels::{Source, parts_of};
+use crate::kernels::{PIECES, Source, parts_of};
 use crate::lock::one_round::update_one;
 use spindle_parts::fault::Fault;
 use spindle_parts::lists::SharedList;
@@ -85,8 +85,8 @@ impl<C: Combine, S: Source<Item = C::Item>> Update for Folds<C, S> {
 }
 
 /// The total of a list by the operation C: one round of `n_jobs` jobs, each of which folds a piece, in a lock that is opened for
-/// it. The caller's thread combines what the jobs answer, in the order of the pieces. Where `n_jobs` is 0, there are as many jobs
-/// as the pool has threads. Memory is the only refusal.
+/// it. The caller's thread combines what the jobs answer, in the order of the pieces. Where `n_jobs` is 0, there are four jobs for
+/// each of the pool's threads. Memory is the only refusal.
 ///
 /// The pieces are those of `share_out_evenly`, and the lock is that of `update_one`. An empty list takes no memory and opens no lock.
 pub fn reduce<C: Combine + Send>(
@@ -124,8 +124,11 @@ where
         total ≡ total_of C.combine C.neutral C.of (S.items source.now)) }
     ensures memory { OnErr result (IsErrOf result Fault.Memory) }
 {
-    let threads = pool.max_num_threads();
-    let jobs = if n_jobs == 0 { threads } else { n_jobs };
+    let jobs = if n_jobs == 0 {
+        pool.max_num_threads().saturating_mul(PIECES)
+    } else {
+        n_jobs
+    };
     let parts = fold_parts::<C, S>(alloc, parts_of(alloc, source, jobs)?)?;
     let parts = update_one::<InPlace<Folds<C, S>>, G, H>(rt, alloc, pool, jobs, parts)?;
     Ok(combined::<C, S>(parts))
