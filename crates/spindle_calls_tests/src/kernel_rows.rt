@@ -9,8 +9,8 @@ use crate::chunks::LastOdd;
 use crate::jobs::{Calls, Counting};
 use spindle::lock::{Combine, Limits, LockOf, NoGate, Pool};
 use spindle::{
-    Change, Fault, Kernel, Shared, SharedList, TotalsOf, UpdatesOf, map, map_pairs, reduce_pairs,
-    update,
+    Change, Fault, Kernel, Shared, SharedList, TotalsOf, UpdatesOf, map, map_pairs, reduce,
+    reduce_pairs, update,
 };
 use std::alloc::Global;
 
@@ -176,6 +176,17 @@ fn pairs_are_combined_in_their_order(rt: HostRuntime) -> Result<(), Fault> {
         let last = reduce_pairs::<_, _, LastSecond>(&rt, alloc, &pool, jobs, &first, &second)?;
         is(&rt, last, 5);
     }
+    Ok(())
+}
+
+#[test]
+fn a_fold_has_four_jobs_a_thread(rt: HostRuntime) -> Result<(), Fault> {
+    let alloc = rt.alloc();
+    let calls = Calls::new();
+    let pool = Pool::new(2, Limits::new(), Counting { calls: &calls });
+    let list = SharedList::from_vec(alloc, eleven_numbers(alloc)?)?;
+    let last = reduce::<LastOdd>(&rt, alloc, &pool, 0, &list)?;
+    is(&rt, (last, calls.in_all()), (u32::MAX, (8, 8)));
     Ok(())
 }
 
