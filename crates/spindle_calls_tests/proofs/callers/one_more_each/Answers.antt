@@ -9,5 +9,5 @@ pub returns : goal.returns
 returns g c =
     let more : ℕ → ℕ = λ x. x + 1 in
     let all = subst (λ r. IsGathered c.in_ok-sums.sums.items r) c.in_ok-branch.was c.in_ok-gathered.ensures.answers in
-    gathered_map AllocError more c.in_ok-chunks.chunks.items c.in_ok-sums.sums.items c.in_ok-branch.field-0 c.in_ok-sums.ensures all
+    gathered_map AllocError more c.in_ok-chunks.chunks.items c.in_ok-sums.sums.items c.in_ok-branch.field-0 c.in_ok-sums.ensures.answer all
     ∙ ap (map more) (c.in_ok-chunks.ensures.joined ∙ search rules)
