@@ -1,7 +1,7 @@
 //! Cutting a list of items into numbered pieces, and dealing the pieces to threads.
 //!
 //! Runs of items move as blocks, from the back of the list: no item is moved or looked at by
-//! itself. Every growth that a call needs comes before what it lists out, and where one is refused
+//! itself. Every growth that a call needs comes before what it hands out, and where one is refused
 //! the list is put together again.
 ghost use Rattle.std.specs.Prelude.{◌≡◌, ◌+◌, ◌<◌, ◌≤◌, ◌++◌, [], length, map, min, reverse, replicate, take, drop, IfOk, OnOk, OnErr, IsOk, IsErrOf, vec_len};
 ghost use Rattle.std.specs.Prelude.{vec_capacity};

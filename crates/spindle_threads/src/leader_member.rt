@@ -53,7 +53,7 @@ impl<'a, D: SlotContents> LeaderMember<'a, D> {
 }
 
 impl<'a> LeaderMember<'a, Bare> {
-    /// A leader's round: it publishes it, does this work in it, and waits until the round has ended. The work comes back.
+    /// A leader's round: it publishes the round, does this work in it, and waits until it has ended. The work comes back.
     pub fn lead<W: Work<Bare> + Drop, H: Threads + Wait + Sync>(
         &mut self,
         rt: &H,
