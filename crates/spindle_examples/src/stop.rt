@@ -10,10 +10,8 @@ pub enum Stop {
     Refused(Fault),
     /// The clock, the words or the output could not be read or written.
     System(io::Error),
-    /// What was played or timed after the last line answered something wrong.
+    /// What was timed after the last line answered something wrong.
     Wrong,
-    /// For how long to play is no number.
-    Seconds,
 }
 
 impl From<Fault> for Stop {

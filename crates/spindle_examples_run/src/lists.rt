@@ -5,7 +5,6 @@
 //! three that warm up. `rayon` has threads by its own rule.
 ghost use Rattle.std.specs.Prelude.{◌≡◌};
 
-use crate::soak::Machine;
 use rayon::prelude::*;
 use spindle::prelude::*;
 use spindle_examples::stop::Stop;
@@ -13,6 +12,11 @@ use spindle_examples::vectors;
 use std::mem;
 use std::rt::Clock;
 use std::time::Instant;
+
+/// What is needed of the runtime.
+pub trait Machine: Threads + Wait + Sync + Clock + Print + Alloc<A = Global> {}
+
+impl<H: Threads + Wait + Sync + Clock + Print + Alloc<A = Global>> Machine for H {}
 
 /// The numbers of each list.
 const NUMBERS: u32 = 1048576;

@@ -1,16 +1,13 @@
 //! The program of the examples: it runs each once over fixed numbers, and prints what comes out. Where the variable TRACE is set, it
 //! also prints who ran which job of recorded rounds when, which differs from run to run.
 //!
-//! With the words `soak SECONDS` it plays uneven jobs for so long, 15 where no number stands there, and checks each answer (`soak`).
 //! With the word `lists` it times calls over whole lists (`lists`).
 //!
 //! The file `stdout` has what it must print. What comes out is proved; that no call is refused memory, nor answers none, is shown here.
 #![tactic(auto)]
 
 mod lists;
-mod soak;
 
-use crate::soak::soak;
 use spindle::SharedList;
 use spindle::lock::{NoGate, Pool};
 use spindle_examples::batch::{self, Order};
@@ -28,10 +25,8 @@ use std::thread::Threads;
 fn main(rt: HostRuntime) -> Result<(), Stop> {
     let alloc = rt.alloc();
     let pool = Pool::of_machine(&rt);
-    match env::args(&rt)?.nth(1).as_deref() {
-        Some("soak") => return soak(&rt, seconds(env::args(&rt)?.nth(2).as_deref())?),
-        Some("lists") => return lists::time(&rt, &pool),
-        _ => {}
+    if env::args(&rt)?.nth(1).as_deref() == Some("lists") {
+        return lists::time(&rt, &pool);
     }
     batches(&rt, alloc, &pool)?;
     calls(&rt, alloc, &pool)?;
@@ -42,15 +37,7 @@ fn main(rt: HostRuntime) -> Result<(), Stop> {
     if env::var(&rt, "TRACE").is_ok() {
         trace::print(&rt, alloc)?;
     }
-    // A round in each kind of lock.
-    soak(&rt, 0)
-}
-
-// For how many seconds a text asks.
-fn seconds(text: Option<&str>) -> Result<u64, Stop> {
-    text.unwrap_or("15")
-        .parse::<u64>()
-        .map_err(|_| Stop::Seconds)
+    Ok(())
 }
 
 // Two batches of orders: one in which each order has its bill, and one that stops where an order comes to too much.

@@ -1,17 +1,21 @@
 //! Rounds of uneven jobs by the thousand, in each kind of lock and in locks that jobs open, with few threads and with 64, without
 //! a pause before sleep and with the default limits. Each answer is checked; a wrong one ends the program.
 //!
-//! A line a kind has its rounds, how long the longest took, and the memory that the program has then.
+//! Its word says for how many seconds it plays in all. A line a kind has its rounds, how long the longest took, and the memory that the
+//! program has then. With no word it plays a round in each lock, and prints nothing.
+#![tactic(auto)]
+
 mod kinds;
 mod rounds;
+mod stop;
 
-use crate::soak::kinds::{InSlots, InTrays, Places, Turns};
-use crate::soak::rounds::{Seen, in_place, in_slots, in_trays};
+use crate::kinds::{InSlots, InTrays, Places, Turns};
+use crate::rounds::{Seen, in_place, in_slots, in_trays};
+use crate::stop::Stop;
 use spindle::prelude::*;
-use spindle_examples::stop::Stop;
-use std::fs;
 use std::rt::{Clock, Files};
 use std::time::Duration;
+use std::{env, fs};
 
 /// The kinds of locks, each with those that its jobs open.
 const KINDS: [&str; 6] = [
@@ -28,8 +32,14 @@ pub trait Machine: Threads + Wait + Sync + Clock + Print + Files + Alloc<A = Glo
 
 impl<H: Threads + Wait + Sync + Clock + Print + Files + Alloc<A = Global>> Machine for H {}
 
-/// Plays all kinds for so many seconds in all. With 0 a round is played in each lock, and nothing is printed.
-pub fn soak<H: Machine>(rt: &H, seconds: u64) -> Result<(), Stop> {
+fn main(rt: HostRuntime) -> Result<(), Stop> {
+    let word = env::args(&rt)?.nth(1);
+    let seconds = word.as_deref().unwrap_or("0").parse::<u64>();
+    soak(&rt, seconds.map_err(|_| Stop::Seconds)?)
+}
+
+// Plays all kinds for so many seconds in all. With 0 a round is played in each lock, and nothing is printed.
+fn soak<H: Machine>(rt: &H, seconds: u64) -> Result<(), Stop> {
     let share = Duration::from_millis(seconds.saturating_mul(1000) / 36);
     for kind in KINDS {
         let seen = in_each_pool(rt, kind, share)?;

@@ -2,11 +2,11 @@
 ghost use Rattle.std.specs.Prelude.{◌≡◌, ◌<◌, IfOk};
 ghost use denote.Param.Send.{IsSync};
 
-use crate::soak::Machine;
+use crate::Machine;
+use crate::stop::Stop;
 use spindle::lock::{Nest, PlaysInPlace, Updates};
 use spindle::prelude::*;
 use spindle::with_slots_in_place;
-use spindle_examples::stop::Stop;
 use std::io;
 use std::rt::Clock;
 use std::time::{Duration, Instant};
@@ -161,7 +161,7 @@ impl Seen {
     }
 
     // The jobs of the next round, and its numbers, one after the other.
-    fn next_round(&mut self, alloc: Global) -> Result<(usize, Vec<u64>), AllocError>
+    fn next_round(&mut self, alloc: Global) -> Result<(usize, Vec<u64>), Fault>
         ensures { IfOk result (λ round. 0 < round.0) }
     {
         let x = self.random ^ (self.random << 13);
