@@ -94,7 +94,10 @@ format() {
 #: figures              lines of code, specs and proofs of each crate, its edits, and what is longest in it
 figures() { .ci/figures; }
 
+#: costs CRATE          what the crate's functions cost in its last check from nothing by one job, the dearest first
+costs() { .ci/costs "${1:?which crate}"; }
+
 case ${1:-} in
-  prove | add-to | check | test | soak | edits | bench | format | figures) "$@" ;;
+  prove | add-to | check | test | soak | edits | bench | format | figures | costs) "$@" ;;
   *) sed -n 's|^#: |./do |p' do && exit 2 ;;
 esac

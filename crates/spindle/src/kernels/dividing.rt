@@ -182,7 +182,7 @@ fn advance_all<K: Division + Again, G: Gate, H: Threads + Wait + Sync>(
 {
     let mut tasks = tasks_of(alloc, kernel, branches)?;
     let jobs = tasks.len();
-    leader.update_each(rt, alloc, jobs, &mut tasks)?;
+    leader.update_all(rt, alloc, jobs, &mut tasks)?;
     Ok(parts_in(alloc, tasks)?)
 }
 

@@ -33,13 +33,13 @@ pub type UpdatesOf<K> = InPlace<Updating<Shared<K>>>;
 /// The kind of job of a lock whose leader passes over lists by the kernel K, opened by `LockOf::<PassesOf<K>>::with_slots_in_place`.
 pub type PassesOf<K> = InPlace<Passing<Shared<K>>>;
 
-impl<'a, K: Change + Drop, G: Gate> PlaceLeader<'a, Updating<Shared<K>>, G> {
+impl<'a, K: Change + Again, G: Gate> PlaceLeader<'a, Updating<K>, G> {
     /// Changes each item of the list by the kernel: a round of this lock. A refusal gives the items up.
     pub fn update<H: Threads + Wait + Sync>(
         &mut self,
         rt: &H,
         alloc: Global,
-        kernel: &Shared<K>,
+        kernel: &K,
         mut list: Vec<K::Item>,
     ) -> Result<Vec<K::Item>, Fault>
         ensures answer { IfOk result (λ new. AllZip (K.changes kernel.now) list.items new.items) }
@@ -49,7 +49,7 @@ impl<'a, K: Change + Drop, G: Gate> PlaceLeader<'a, Updating<Shared<K>>, G> {
     {
         let jobs = self.max_num_threads().saturating_mul(PIECES);
         let mut tasks = tasks_of(alloc, kernel, cut(alloc, &mut list, jobs)?)?;
-        self.update_each(rt, alloc, jobs, &mut tasks)?;
+        self.update_all(rt, alloc, jobs, &mut tasks)?;
         append_items(tasks, &mut list)?;
         Ok(list)
     }
@@ -107,7 +107,7 @@ impl<'a, C: Combine, S: Source<Item = C::Item>, G: Gate> PlaceLeader<'a, Folds<C
     {
         let jobs = self.max_num_threads().saturating_mul(PIECES);
         let mut parts = fold_parts::<C, S>(alloc, parts_of(alloc, source, jobs)?)?;
-        self.update_each(rt, alloc, jobs, &mut parts)?;
+        self.update_all(rt, alloc, jobs, &mut parts)?;
         Ok(combined::<C, S>(parts))
     }
 }
@@ -118,9 +118,9 @@ pub type MapsOf<K> = InPlace<Mapping<Shared<K>, ListRun<<K as Kernel>::In>>>;
 /// The kind of job of a lock whose leader computes the pairs of two lists by the kernel K.
 pub type PairMapsOf<A, B, K> = InPlace<Mapping<Shared<K>, PairRun<A, B>>>;
 
-impl<'a, K, S, G> PlaceLeader<'a, Mapping<Shared<K>, S>, G>
+impl<'a, K, S, G> PlaceLeader<'a, Mapping<K, S>, G>
 where
-    K: Kernel + Drop,
+    K: Kernel + Again,
     S: Source<Item = K::In>,
     G: Gate,
 {
@@ -130,7 +130,7 @@ where
         &mut self,
         rt: &H,
         alloc: Global,
-        kernel: &Shared<K>,
+        kernel: &K,
         source: &S,
     ) -> Result<Vec<K::Out>, Fault>
         ensures answer { IfOk result (λ outputs.
@@ -142,7 +142,7 @@ where
         let jobs = self.max_num_threads().saturating_mul(PIECES);
         let parts = parts_of(alloc, source, jobs)?;
         let mut tasks = map_tasks(alloc, kernel, parts, source.count())?;
-        self.update_each(rt, alloc, jobs, &mut tasks)?;
+        self.update_all(rt, alloc, jobs, &mut tasks)?;
         let mut outputs = Vec::new(alloc);
         append_outputs(tasks, &mut outputs)?;
         Ok(outputs)
@@ -152,11 +152,11 @@ where
 /// The kind of job of a lock whose leader tries lists by the kernel K, opened by `LockOf::<TriesOf<K, V, E>>::with_slots_in_place`.
 pub type TriesOf<K, V, E> = InPlace<Trying<Shared<K>, V, E>>;
 
-impl<'a, V, E, K, G> PlaceLeader<'a, Trying<Shared<K>, V, E>, G>
+impl<'a, V, E, K, G> PlaceLeader<'a, Trying<K, V, E>, G>
 where
     V: Drop,
     E: Drop,
-    K: Kernel<Out = Result<V, E>> + Drop,
+    K: Kernel<Out = Result<V, E>> + Again,
     G: Gate,
 {
     /// What the kernel computes of each item of a run of a list, or the first failure, as `spindle::try_map` does, by a round of this
@@ -165,7 +165,7 @@ where
         &mut self,
         rt: &H,
         alloc: Global,
-        kernel: &Shared<K>,
+        kernel: &K,
         run: &ListRun<K::In>,
     ) -> Result<Result<Vec<V>, Failed<V, E>>, Fault>
         ensures answer { IfOk result (λ tried. IsTried (K.computes kernel.now) run.now tried) }
@@ -175,7 +175,7 @@ where
     {
         let jobs = self.max_num_threads().saturating_mul(PIECES);
         let mut tasks = trials_of(alloc, kernel, parts_of(alloc, run, jobs)?, run.len())?;
-        self.update_each(rt, alloc, jobs, &mut tasks)?;
+        self.update_all(rt, alloc, jobs, &mut tasks)?;
         let tried = gathered_trials(kernel, tasks, Vec::new(alloc))?;
         Ok(tried)
     }

@@ -135,12 +135,12 @@ impl<'a, J: Job, G: Gate> PlaceLeader<'a, Attempting<J>, G> {
         ensures slots { lock_slots self.new ≡ lock_slots self.old }
     {
         let mut attempts = attempts_of(alloc, items, n_jobs)?;
-        self.update_each(rt, alloc, n_jobs, &mut attempts)?;
+        self.update_all(rt, alloc, n_jobs, &mut attempts)?;
         if is_over::<J>(attempts.as_slice()) {
             return Ok(attempts);
         }
         unstop(&mut attempts);
-        self.update_each(rt, alloc, 1, &mut attempts)?;
+        self.update_all(rt, alloc, 1, &mut attempts)?;
         Ok(attempts)
     }
 }

@@ -1,13 +1,13 @@
 //! Locks whose rounds are played in place: a job is given its item by value, and answers what becomes of it.
-ghost use Rattle.std.specs.Prelude.{◌≡◌, ◌<◌, OnOk, OnErr, vec_len};
+ghost use Rattle.std.specs.Prelude.{◌≡◌, ◌<◌, OnOk, OnErr, IsErrOf, vec_len};
 ghost use Rattle.std.specs.List.{AllZip};
 ghost use Rattle.spindle_parts.specs.Strips.{told};
-ghost use Rattle.spindle.specs.SlotLeaders.{slot_jobs, GoesOn, IsForMemory, PlayedAs};
+ghost use Rattle.spindle.specs.SlotLeaders.{lock_slots, slot_jobs, threads_of, GoesOn, IsForMemory, PlayedAs};
 
 use crate::lock::slot_leader::SlotLeader;
 use spindle_parts::fault::Fault;
 use spindle_parts::lists::{Strip, tell_neighbours};
-use spindle_slots::job::update::{InPlace, Updates};
+use spindle_slots::job::update::{InPlace, Update, Updates};
 use spindle_slots::running::in_place::{PlaceLeaderState, PlaysInPlace};
 use spindle_trays::job::gate::Gate;
 use std::alloc::Global;
@@ -79,5 +79,25 @@ where
     {
         tell_neighbours(strips.as_mut_slice(), edge);
         self.update_each(rt, alloc, strips.len(), strips)
+    }
+}
+
+impl<'a, M: Update, G: Gate> PlaceLeader<'a, M, G> {
+    // A round of `update_each`, and of what that promises what callers with a kind M of their own ask for. A proof that names such a
+    // kind and calls `update_each` is dear, and this one names none.
+    pub(crate) fn update_all<H: Threads + Wait + Sync>(
+        &mut self,
+        rt: &H,
+        alloc: Global,
+        n_jobs: usize,
+        items: &mut Vec<M::Item>,
+    ) -> Result<(), Fault>
+        requires jobs { 0 < vec_len items.old → 0 < n_jobs }
+        ensures updated { OnOk result (AllZip M.updated items.old.items items.new.items) }
+        ensures memory { OnErr result (IsErrOf result Fault.Memory) }
+        ensures lock { threads_of self.new ≡ threads_of self.old }
+        ensures slots { lock_slots self.new ≡ lock_slots self.old }
+    {
+        self.update_each(rt, alloc, n_jobs, items)
     }
 }

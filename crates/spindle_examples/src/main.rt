@@ -1,21 +1,40 @@
-//! The program of the examples: it runs each once over fixed numbers, and prints what comes out. Where the variable TRACE is set, it
-//! also prints who ran which job of recorded rounds when, which differs from run to run.
+//! Examples of the users' fields, each a few dozen lines over the public calls of `spindle`, with its contract in its own
+//! terms: a batch that loses nothing, one that a failure stops, prefix sums in two rounds, a matrix product and the greatest sum of a
+//! run by divide and conquer, a stencil of many passes, in place too, a solver that runs until nothing changes, keys looked up in a
+//! table that all jobs are lent, and a game evaluated by rounds in rounds.
 //!
-//! With the word `lists` it times calls over whole lists (`lists`).
-//!
-//! The file `stdout` has what it must print. What comes out is proved; that no call is refused memory, nor answers none, is shown here.
+//! The program runs each once over fixed numbers, and prints what comes out: the file `stdout` has it. What comes out is proved; that
+//! no call is refused memory, nor answers none, is shown here. Where the variable TRACE is set, it also prints who ran which job of
+//! recorded rounds when (`trace`), which differs from run to run. With the word `lists` it times calls over whole lists (`lists`).
 #![tactic(auto)]
 
+mod batch;
+mod checked;
+mod chomp;
+mod clocked;
+mod decimals;
+mod entries;
+mod evaluator;
 mod lists;
+mod prefix;
+mod product;
+mod ranks;
+mod recurse;
+mod runs;
+mod solver;
+mod stencil;
+mod stop;
+mod sums;
+mod trace;
+mod vectors;
 
+use crate::batch::Order;
+use crate::checked::Checked;
+use crate::chomp::Board;
+use crate::evaluator::{Evaluate, Recurse};
+use crate::stop::Stop;
 use spindle::SharedList;
 use spindle::lock::{NoGate, Pool};
-use spindle_examples::batch::{self, Order};
-use spindle_examples::checked::{self, Checked};
-use spindle_examples::chomp::Board;
-use spindle_examples::evaluator::{self, Evaluate, Recurse};
-use spindle_examples::stop::Stop;
-use spindle_examples::{decimals, prefix, product, ranks, runs, solver, stencil, trace, vectors};
 use std::alloc::Global;
 use std::env;
 use std::io::Print;
@@ -31,7 +50,7 @@ fn main(rt: HostRuntime) -> Result<(), Stop> {
     batches(&rt, alloc, &pool)?;
     calls(&rt, alloc, &pool)?;
     greatest(&rt)?;
-    sums(&rt, alloc, &pool)?;
+    sums_and_product(&rt, alloc, &pool)?;
     passes(&rt, alloc, &pool)?;
     game(&rt, alloc, &pool)?;
     if env::var(&rt, "TRACE").is_ok() {
@@ -96,7 +115,7 @@ fn greatest<H: Threads + Wait + AllocGlobal + Sync + Print>(rt: &H) -> Result<()
 }
 
 // Sums up to each value of a table, and the product of two matrices.
-fn sums<H: Threads + Wait + Sync + Print>(
+fn sums_and_product<H: Threads + Wait + Sync + Print>(
     rt: &H,
     alloc: Global,
     pool: &Pool<NoGate>,

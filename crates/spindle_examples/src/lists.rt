@@ -5,10 +5,10 @@
 //! three that warm up. `rayon` has threads by its own rule.
 ghost use Rattle.std.specs.Prelude.{◌≡◌};
 
+use crate::stop::Stop;
+use crate::vectors;
 use rayon::prelude::*;
 use spindle::prelude::*;
-use spindle_examples::stop::Stop;
-use spindle_examples::vectors;
 use std::mem;
 use std::rt::Clock;
 use std::time::Instant;

@@ -4,20 +4,20 @@ use Rattle.std.specs.List.{AllZip}
 use Rattle.std.proofs.lemmas.Simd.{map-map}
 use Rattle.spindle_parts.specs.Pieces.{joined}
 use Rattle.spindle.proofs.KernelLists.{joined_tasks}
-use Rattle.spindle.proofs.kernels.leaders.PlaceLeader+Mapping+Shared+K+S+G.map.Goals as goal
+use Rattle.spindle.proofs.kernels.leaders.PlaceLeader+Mapping+K+S+G.map.Goals as goal
 
 pub returns-clause-answer : goal.returns-clause-answer
 returns-clause-answer g c =
     let R = g.K.Kernel.computes in
     let kernel = c.args.kernel.now in
     let old = c.in_ok-tasks.tasks.items in
-    let new = c.update_each.new.items.items in
+    let new = c.update_all.new.items.items in
     let items = g.S.Source.items in
     let whole : joined (map (λ task. items task.part.source) old) ≡ items c.args.source.now =
     ap joined (sym (map-map items (λ task. task.part.source) old) ∙ ap (map items) c.in_ok-tasks.ensures.parts) ∙ c.in_ok-parts.ensures.joined in
     let mapped : AllZip (R kernel) (joined (map (λ task. items task.part.source) old)) (joined (map (λ task. task.part.outputs.items) new)) =
     joined_tasks R kernel (λ task. task.kernel) (λ task. items task.part.source)
-    (λ task. task.part.outputs.items) old new c.in_ok-tasks.ensures.kernel c.in_ok-update_each.ensures.updated in
+    (λ task. task.part.outputs.items) old new c.in_ok-tasks.ensures.kernel c.in_ok-update_all.ensures.updated in
     let outputs : c.append_outputs.new.all.items ≡ joined (map (λ task. task.part.outputs.items) new) = search rules in
     subst (λ t. AllZip (R kernel) (items c.args.source.now) t) (sym outputs)
     (subst (λ t. AllZip (R kernel) t (joined (map (λ task. task.part.outputs.items) new))) whole mapped)
