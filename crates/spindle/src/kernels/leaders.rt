@@ -12,7 +12,7 @@ use crate::kernels::pairs::PairRun;
 use crate::kernels::passes::Passes;
 use crate::kernels::passing::{Passing, append_strips, play_passes, strips_of};
 use crate::kernels::source::{Source, parts_of};
-use crate::kernels::tasks::{PIECES, tasks_of};
+use crate::kernels::tasks::tasks_of;
 use crate::kernels::tries::{Failed, Trying, gathered_trials, trials_of};
 use crate::kernels::updates::{Updating, append_items};
 use crate::kernels::{Change, Kernel, Stencil};
@@ -47,7 +47,7 @@ impl<'a, K: Change + Again, G: Gate> PlaceLeader<'a, Updating<K>, G> {
         ensures lock { threads_of self.new ≡ threads_of self.old }
         ensures slots { lock_slots self.new ≡ lock_slots self.old }
     {
-        let jobs = self.max_num_threads().saturating_mul(PIECES);
+        let jobs = self.piece_count();
         let mut tasks = tasks_of(alloc, kernel, cut(alloc, &mut list, jobs)?)?;
         self.update_all(rt, alloc, jobs, &mut tasks)?;
         append_items(tasks, &mut list)?;
@@ -73,7 +73,7 @@ impl<'a, K: Stencil + Again, G: Gate> PlaceLeader<'a, Passing<K>, G> {
         ensures lock { threads_of self.new ≡ threads_of self.old }
         ensures slots { lock_slots self.new ≡ lock_slots self.old }
     {
-        let jobs = self.max_num_threads().saturating_mul(PIECES);
+        let jobs = self.piece_count();
         let mut strips = strips_of(alloc, kernel, cut(alloc, &mut list, jobs)?, edge)?;
         let ended = play_passes::<K, G, H>(rt, alloc, self, &mut strips, edge, most)?;
         append_strips(strips, &mut list)?;
@@ -105,7 +105,7 @@ impl<'a, C: Combine, S: Source<Item = C::Item>, G: Gate> PlaceLeader<'a, Folds<C
         ensures lock { threads_of self.new ≡ threads_of self.old }
         ensures slots { lock_slots self.new ≡ lock_slots self.old }
     {
-        let jobs = self.max_num_threads().saturating_mul(PIECES);
+        let jobs = self.piece_count();
         let mut parts = fold_parts::<C, S>(alloc, parts_of(alloc, source, jobs)?)?;
         self.update_all(rt, alloc, jobs, &mut parts)?;
         Ok(combined::<C, S>(parts))
@@ -139,7 +139,7 @@ where
         ensures lock { threads_of self.new ≡ threads_of self.old }
         ensures slots { lock_slots self.new ≡ lock_slots self.old }
     {
-        let jobs = self.max_num_threads().saturating_mul(PIECES);
+        let jobs = self.piece_count();
         let parts = parts_of(alloc, source, jobs)?;
         let mut tasks = map_tasks(alloc, kernel, parts, source.count())?;
         self.update_all(rt, alloc, jobs, &mut tasks)?;
@@ -173,7 +173,7 @@ where
         ensures lock { threads_of self.new ≡ threads_of self.old }
         ensures slots { lock_slots self.new ≡ lock_slots self.old }
     {
-        let jobs = self.max_num_threads().saturating_mul(PIECES);
+        let jobs = self.piece_count();
         let mut tasks = trials_of(alloc, kernel, parts_of(alloc, run, jobs)?, run.len())?;
         self.update_all(rt, alloc, jobs, &mut tasks)?;
         let tried = gathered_trials(kernel, tasks, Vec::new(alloc))?;

@@ -4,6 +4,7 @@ ghost use Rattle.std.specs.List.{AllZip};
 ghost use Rattle.spindle_parts.specs.Strips.{told};
 ghost use Rattle.spindle.specs.SlotLeaders.{lock_slots, slot_jobs, threads_of, GoesOn, IsForMemory, PlayedAs};
 
+use crate::kernels::PIECES;
 use crate::lock::slot_leader::SlotLeader;
 use spindle_parts::fault::Fault;
 use spindle_parts::lists::{Strip, tell_neighbours};
@@ -82,9 +83,17 @@ where
     }
 }
 
+// What callers with a kind M of their own ask for. A proof that names such a kind and calls what its leader has is dear; these name
+// none.
 impl<'a, M: Update, G: Gate> PlaceLeader<'a, M, G> {
-    // A round of `update_each`, and of what that promises what callers with a kind M of their own ask for. A proof that names such a
-    // kind and calls `update_each` is dear, and this one names none.
+    // The pieces of a list: some a thread, so that a thread that is done early finds more.
+    pub(crate) fn piece_count(&self) -> usize
+        ensures { 0 < result }
+    {
+        self.max_num_threads().saturating_mul(PIECES)
+    }
+
+    // A round of `update_each`.
     pub(crate) fn update_all<H: Threads + Wait + Sync>(
         &mut self,
         rt: &H,
