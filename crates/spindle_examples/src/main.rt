@@ -51,7 +51,7 @@ fn main(rt: HostRuntime) -> Result<(), Stop> {
     calls(&rt, alloc, &pool)?;
     greatest(&rt)?;
     sums_and_product(&rt, alloc, &pool)?;
-    passes(&rt, alloc, &pool)?;
+    passes_and_ranks(&rt, alloc, &pool)?;
     game(&rt, alloc, &pool)?;
     if env::var(&rt, "TRACE").is_ok() {
         trace::print(&rt, alloc)?;
@@ -131,7 +131,7 @@ fn sums_and_product<H: Threads + Wait + Sync + Print>(
 }
 
 // Passes over values, and keys looked up in a table.
-fn passes<H: Threads + Wait + Sync + Print>(
+fn passes_and_ranks<H: Threads + Wait + Sync + Print>(
     rt: &H,
     alloc: Global,
     pool: &Pool<NoGate>,
