@@ -27,19 +27,11 @@ size_choice T true x y e f = e
 size_choice T false x y e f = f
 
 same_size : (m : Configuration) (e : Step) → length (effect m e).counters ≡ length m.counters
-same_size m (Join p) = refl
 same_size m (Publish p n) = length-replicate (length m.counters) (own m n)
 same_size m (PublishTry p n) = length-replicate (length m.counters) (own m n)
 same_size m (Claim p t) = length-set m.counters t (counter m t - 1)
-same_size m (Rest p) = refl
-same_size m (Finish p) = refl
-same_size m (Stop p) = refl
-same_size m (See p) = refl
-same_size m (Arrive p) = refl
-same_size m (Leave p) = refl
 same_size m (Exit p) = size_choice (length m.counters) _ _ _ refl refl
-same_size m (Clear p) = refl
-same_size m (End p) = refl
+same_size m e = refl
 
 -- the machine shows the state that a run ends in
 pub record Follows (m : Configuration) (es : List Event) : Type 0 where
@@ -145,34 +137,12 @@ memory_last false false false = refl
 
 refused_for_memory : (m : Configuration) (e : Step) → IsRefusedForMemory m e
 refused_for_memory m (Join p) = memory_last _ _ _
-refused_for_memory m (Publish p n) = refl
-refused_for_memory m (PublishTry p n) = refl
-refused_for_memory m (Claim p t) = refl
-refused_for_memory m (Rest p) = refl
-refused_for_memory m (Finish p) = refl
-refused_for_memory m (Stop p) = refl
-refused_for_memory m (See p) = refl
-refused_for_memory m (Arrive p) = refl
-refused_for_memory m (Leave p) = refl
-refused_for_memory m (Exit p) = refl
-refused_for_memory m (Clear p) = refl
-refused_for_memory m (End p) = refl
+refused_for_memory m e = refl
 
 -- an accepted step isn't answered by a refusal
 pub no_refusal : (m : Configuration) (e : Step) (why : Why) → answer m e ≢ Refused why
 no_refusal m (Join p) why e = cc
-no_refusal m (Publish p n) why e = cc
-no_refusal m (PublishTry p n) why e = cc
-no_refusal m (Claim p t) why e = cc
-no_refusal m (Rest p) why e = cc
-no_refusal m (Finish p) why e = cc
-no_refusal m (Stop p) why e = cc
-no_refusal m (See p) why e = cc
-no_refusal m (Arrive p) why e = cc
-no_refusal m (Leave p) why e = cc
-no_refusal m (Exit p) why e = cc
-no_refusal m (Clear p) why e = cc
-no_refusal m (End p) why e = cc
+no_refusal m e why is = cc
 
 refused_by : (m : Configuration) (e : Step) (why : Why) (o : Option Why) → (judged o m e).1 ≡ Refused why → (o ≡ Some why) × ((judged o m e).0 ≡ m)
 refused_by m e why None z = absurd (no_refusal m e why z)

@@ -8,8 +8,7 @@ use Rattle.spindle_parts.specs.Contents.{Contents, contents, configuration, IsFi
 use Rattle.spindle_parts.specs.Entries.{KeepsKnown}
 use Rattle.spindle_parts.specs.Serving.{Serves, Replies, IsServed}
 use Rattle.spindle_parts.specs.declared.steps.Step.{Step}
-use Rattle.spindle_parts.specs.declared.steps.Step.TheVariants.{Join, Publish, PublishTry, Claim, Rest, Finish, Stop, See}
-use Rattle.spindle_parts.specs.declared.steps.Step.TheVariants.{Arrive, Leave, Exit, Clear, End}
+use Rattle.spindle_parts.specs.declared.steps.Step.TheVariants.{Join}
 use Rattle.spindle_parts.specs.declared.steps.Why.{Why}
 use Rattle.spindle_parts.specs.declared.steps.Why.TheVariants.{Memory}
 use Rattle.spindle_parts.specs.declared.steps.Reply.{Reply}
@@ -68,18 +67,7 @@ never (t ∷ ts) s e = go t.0 t.1 (and_left _ _ s) (never ts (and_right _ _ s)) 
 granted_never : (m : Configuration) (e : Step) → first (tests m true e) ≢ Some Memory
 unfolding is_memory spared
 granted_never m (Join p) = never (tests m true (Join p)) refl
-granted_never m (Publish p n) = never (tests m true (Publish p n)) refl
-granted_never m (PublishTry p n) = never (tests m true (PublishTry p n)) refl
-granted_never m (Claim p t) = never (tests m true (Claim p t)) refl
-granted_never m (Rest p) = never (tests m true (Rest p)) refl
-granted_never m (Finish p) = never (tests m true (Finish p)) refl
-granted_never m (Stop p) = never (tests m true (Stop p)) refl
-granted_never m (See p) = never (tests m true (See p)) refl
-granted_never m (Arrive p) = never (tests m true (Arrive p)) refl
-granted_never m (Leave p) = never (tests m true (Leave p)) refl
-granted_never m (Exit p) = never (tests m true (Exit p)) refl
-granted_never m (Clear p) = never (tests m true (Clear p)) refl
-granted_never m (End p) = never (tests m true (End p)) refl
+granted_never m e = never (tests m true e) refl
 
 -- a call on the registers, from r to r', is this step
 pub record Makes {T : Type 0} (r r' : Registers) (g : Bool) (e : Step) (o : Result T Why) : Type 0 where

@@ -4,8 +4,8 @@ use Rattle.std.proofs.Common.{if◌then◌else◌, ne_eqb}
 use mathlib.Core.Logic.{dite}
 use native.Mathlib.Decide.{ℕ_discrete}
 use Rattle.spindle_parts.specs.State.{Out, In, Arrived, Party, Round, State, members, now, party}
-use Rattle.spindle_parts.specs.Steps.{Allowed, after, arrived, Event, Join, Publish, PublishTry, Take, Begin, Finish, Stop, See, PutBack}
-use Rattle.spindle_parts.specs.Steps.{Arrive, Leave, Exit, Clear, End}
+use Rattle.spindle_parts.specs.Steps.{Allowed, after, arrived, Event, Begin}
+use Rattle.spindle_parts.specs.Steps.{Exit, End}
 use Rattle.spindle_parts.specs.Runs.{state, IsRun}
 use Rattle.spindle_parts.specs.EveryRun.{AtEach, BeginsWithin, EndsCleared, NoneBy, sense_shown, Waits, IsWhole, EveryRun}
 use Rattle.spindle_parts.proofs.Parties.{moved, next_round, inside_le_members}
@@ -81,20 +81,9 @@ exit_cleared s h p ok turns = let ps : List Party = moved s p Out in dite (ℕ_d
     (λ n. absurd (turns (ap (λ (b : Bool). (if b then next_round s ps s.closer else arrived s p ps).round) (ne_eqb (members ps) 0 n))))
 
 cleared_at : (s : State) (h : Sound s) (e : Event) → Allowed s e → (after s e).round ≢ s.round → s.published ≡ None
-cleared_at s h (Join p) ok turns = absurd (turns refl)
-cleared_at s h (Publish p n) ok turns = absurd (turns refl)
-cleared_at s h (PublishTry p n) ok turns = absurd (turns refl)
-cleared_at s h (Take p some) ok turns = absurd (turns refl)
-cleared_at s h (Begin p k) ok turns = absurd (turns refl)
-cleared_at s h (Finish p) ok turns = absurd (turns refl)
-cleared_at s h (Stop p) ok turns = absurd (turns refl)
-cleared_at s h (See p) ok turns = absurd (turns refl)
-cleared_at s h (PutBack p) ok turns = absurd (turns refl)
-cleared_at s h (Arrive p) ok turns = absurd (turns refl)
-cleared_at s h (Leave p) ok turns = absurd (turns refl)
 cleared_at s h (Exit p) ok turns = exit_cleared s h p ok turns
-cleared_at s h (Clear p) ok turns = absurd (turns refl)
 cleared_at s h (End p) ok turns = ok.1
+cleared_at s h e ok turns = absurd (turns refl)
 
 pub ends_cleared : (es : List Event) → IsRun es → AtEach EndsCleared es
 ends_cleared = at_each EndsCleared (λ es e h ok. cleared_at (state es) h e ok)
