@@ -247,14 +247,7 @@ module _ (fate : ℕ → Fate) (r : Round) (ps : List Party) (w : Work fate r ps
   -- the round is stopped, or the party sees that it is
   pub see_work : (st : Bool) → (r.stopped ≡ true → st ≡ true)
       → (st ≡ true → (r.stoppable ≡ true) × (0 < r.jobs)) → st ≡ true → Work fate (record r { stopped = st; seen = put r.seen p true }) ps
-  see_work st more ok on = record {
-    begun = w.begun;
-    finished = w.finished;
-    fits = w.fits;
-    below = w.below;
-    stops = ok;
-    saw = λ q h. on;
-  }
+  see_work st more ok on = record { begun = w.begun; finished = w.finished; fits = w.fits; below = w.below; stops = ok; saw = λ q h. on }
 
 open_or : (f : Fate) → (f ≡ Open) ⊎ (f ≢ Open)
 open_or Open = inl refl

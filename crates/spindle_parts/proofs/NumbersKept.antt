@@ -269,19 +269,9 @@ takes t slots id me n word below none_yet unset s r d at fits =
       keeps,
       tt,
       subst (After won) (sym (eq-eqb x word hit)) (subst P hit (takes_free t s r id me at n below none_yet still_unset)),
-      (
-        refl,
-        (λ _ u asks. ap (λ (j : ℕ). taking j x me.0) (one_asked n u word asks.0 (sym sum ∙ asks.1))),
-        λ miss. absurd (miss hit),
-      ),
+      (refl, (λ _ u asks. ap (λ (j : ℕ). taking j x me.0) (one_asked n u word asks.0 (sym sum ∙ asks.1))), λ miss. absurd (miss hit)),
     ))
-    (λ miss. (
-      lost,
-      keeps,
-      tt,
-      subst (After lost) (sym (ne_eqb x word miss)) (quiet t s r i id me lost at refl),
-      (refl, (λ hit. absurd (miss hit)), λ _. refl),
-    ))
+    (λ miss. (lost, keeps, tt, subst (After lost) (sym (ne_eqb x word miss)) (quiet t s r i id me lost at refl), (refl, (λ hit. absurd (miss hit)), λ _. refl)))
 
 pub gives : (t slots id : ℕ) (me : Sat) (n : ℕ) → n < t → me.0.holding ≡ Has n
     → let k : ℕ = bit_not w64 (mask_of n) in

@@ -93,15 +93,8 @@ module _ {T : Type 0} (r r' : Registers) (g : Bool) (e : Step) (f : T → ℕ �
   stepped (Ok x) k a form =
       let judge = ap (λ (o : Option Why). judged o (shown r) e) k.served.0 in
       let reply : b ≡ answer (shown r) e = a ∙ (ap (λ (m : Configuration). f x (word m)) k.served.1 ∙ form) in record {
-        steady = record {
-          reached = reached_by (shown r) (shown r') g e before.reached k.range k.served.0 k.served.1;
-          tidy = k.tidy;
-        };
-        served = (
-          g,
-          k.served.1 ∙ sym (ap (λ (p : Configuration × Reply). p.0) judge),
-          reply ∙ sym (ap (λ (p : Configuration × Reply). p.1) judge),
-        );
+        steady = record { reached = reached_by (shown r) (shown r') g e before.reached k.range k.served.0 k.served.1; tidy = k.tidy };
+        served = (g, k.served.1 ∙ sym (ap (λ (p : Configuration × Reply). p.0) judge), reply ∙ sym (ap (λ (p : Configuration × Reply). p.1) judge));
         refused = λ why z. absurd (no_refusal (shown r) e why (sym reply ∙ z));
         memory = λ z. absurd (no_refusal (shown r) e Memory (sym reply ∙ z));
         known = k.known;
@@ -110,11 +103,7 @@ module _ {T : Type 0} (r r' : Registers) (g : Bool) (e : Step) (f : T → ℕ �
       let judge = ap (λ (o : Option Why). judged o (shown r) e) k.served.0 in
       let same : shown r' ≡ shown r = ap configuration k.served.1 in record {
         steady = record { reached = subst IsReached (sym same) before.reached; tidy = k.tidy };
-        served = (
-          g,
-          same ∙ sym (ap (λ (p : Configuration × Reply). p.0) judge),
-          a ∙ sym (ap (λ (p : Configuration × Reply). p.1) judge),
-        );
+        served = (g, same ∙ sym (ap (λ (p : Configuration × Reply). p.0) judge), a ∙ sym (ap (λ (p : Configuration × Reply). p.1) judge));
         refused = λ _ _. k.served.1;
         memory = λ z. k.first (let same : why ≡ Memory = cc in ap (λ (w : Why). let o : Result T Why = Err w in o) same);
         known = k.known;

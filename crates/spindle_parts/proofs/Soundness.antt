@@ -276,14 +276,7 @@ clears : (s : State) → Sound s → (p : ℕ) → s.closer ≡ Some p → Sound
 clears s h p is = let g = h.gate in record {
   fate = h.fate;
   work = h.work;
-  gate = record {
-    closing = g.closing;
-    going = g.going;
-    few = g.few;
-    shown = λ n e. absurd cc;
-    hidden = λ _ e. absurd cc;
-    led = g.led;
-  };
+  gate = record { closing = g.closing; going = g.going; few = g.few; shown = λ n e. absurd cc; hidden = λ _ e. absurd cc; led = g.led };
   spent = h.spent;
   later = h.later;
   ended = h.ended;

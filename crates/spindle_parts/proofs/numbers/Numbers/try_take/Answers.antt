@@ -12,10 +12,7 @@ use Rattle.spindle_parts.proofs.numbers.Numbers.try_take.Goals.{else-unused-lt-B
 use Rattle.spindle_parts.proofs.numbers.Numbers.try_take.Goals.{else-unused-lt-BITS-via-else-unused-lt-BITS}
 
 pub loop-index-init : goal.loop-index-init
-loop-index-init c = record {
-  seat = record { table = refl; id = refl; slots = refl };
-  read = ((λ _. 0), (λ k small lt. absurd (omega arith)), refl);
-}
+loop-index-init c = record { seat = record { table = refl; id = refl; slots = refl }; read = ((λ _. 0), (λ k small lt. absurd (omega arith)), refl) }
 
 pub load-word-requires : goal.load-word-requires
 load-word-requires c = (search rules, omega (arith, c.self.invariant), loads _ _ _ _ _)
