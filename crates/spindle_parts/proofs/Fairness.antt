@@ -1,44 +1,44 @@
 -- The machine's tests of a step all fail exactly where the definitions allow it.
-use Rattle.std.proofs.Common.{◌≡◌, ◌≢◌, ◌⊎◌, inl, inr, ⊎_elim, ℕ, ◌+◌, ◌*◌, ◌-◌, ◌<◌, ◌≤◌, Bool, true, false, not, ◌&&◌, eq-eqb, ne_eqb, ltb as nat_lt}
-use Rattle.std.proofs.Common.{length, sum, sym, refl, ap, ◌∙◌, arith, Option, Some, None, is_some, ◌==◌}
+use Rattle.std.proofs.Common.{◌≡◌, ◌≢◌, ◌⊎◌, inl, inr, ⊎_elim, ℕ, ◌+◌, ◌*◌, ◌-◌, ◌<◌, ◌≤◌, Bool, true, false, not, ◌&&◌, eq-eqb, ne_eqb, ltb as nat_lt, length}
+use Rattle.std.proofs.Common.{sum, sym, refl, ap, ◌∙◌, arith, Option, Some, None, is_some, ◌==◌}
 use mathlib.Core.Logic.{dite}
 use native.Mathlib.Decide.{dec_le}
 use Rattle.std.proofs.lemmas.Bool.{lt-ltb, ltb-true, le-ltb, ltb-false}
 use Rattle.spindle_parts.specs.State.{Status, In, State, now, party, Free}
 use Rattle.spindle_parts.specs.Machine.{Configuration, is_out, is_inside, is_waiting, is_party, status, is_running, counter, own, left, tests, claim_tests}
 use Rattle.spindle_parts.specs.Machine.{publish_tests}
-use Rattle.spindle_parts.specs.EverySchedule.{MayBegin, IsFair, IsInRange}
+use Rattle.spindle_parts.specs.EverySchedule.{Shows, MayBegin, IsFair, IsInRange}
 use Rattle.spindle_parts.specs.declared.steps.Step.{Step}
 use Rattle.spindle_parts.specs.declared.steps.Step.TheVariants.{Join, Publish, PublishTry, Claim, Rest, Finish, Stop, See, Arrive, Leave, Exit, Clear, End}
 use Rattle.spindle_parts.proofs.Soundness.{Sound, no_closer, no_jobs}
 use Rattle.spindle_parts.proofs.Shares.{none_stands, some_part}
-use Rattle.spindle_parts.proofs.Tests.{AllFail, not_false, not_true, out_by, in_by, waiting_by, none_by, some_by, is_some_of, party_by, is_party_of}
-use Rattle.spindle_parts.proofs.Tests.{equal_by, differ_by, and_left, and_right, unless}
-use Rattle.spindle_parts.proofs.Following.{Agrees}
+use Rattle.spindle_parts.proofs.Tests.{AllFail, not_false, not_true, out_by, in_by, waiting_by, none_by, some_by, is_some_of, party_by, is_party_of, equal_by}
+use Rattle.spindle_parts.proofs.Tests.{differ_by, and_left, and_right, unless}
+use Rattle.spindle_parts.proofs.Following.{tally}
 use Rattle.spindle_parts.proofs.Claiming.{claimed_left, rested_left}
 
 second_false : (a b : Bool) → (a && b) ≡ false → a ≡ true → b ≡ false
 second_false true b e t = e
 second_false false b e t = absurd cc
 
-module _ (m : Configuration) (s : State) (a : Agrees m s (now s)) (h : Sound s) (some : 0 < length m.counters) (p : ℕ) where
+module _ (m : Configuration) (s : State) (a : Shows m s) (h : Sound s) (some : 0 < length m.counters) (p : ℕ) where
   at_in : not (is_inside (status m p)) ≡ false → (party s p).status ≡ In
-  at_in f = sym (a.seats p).status ∙ in_by (status m p) (not_false (is_inside (status m p)) f)
+  at_in f = sym (a.status p) ∙ in_by (status m p) (not_false (is_inside (status m p)) f)
 
   in_passes : (party s p).status ≡ In → not (is_inside (status m p)) ≡ false
-  in_passes e = ap (λ (t : Status). not (is_inside t)) ((a.seats p).status ∙ e)
+  in_passes e = ap (λ (t : Status). not (is_inside t)) (a.status p ∙ e)
 
   idle : is_running m p ≡ false → (party s p).running ≡ None
-  idle f = sym (a.seats p).running ∙ none_by (m.seat p).running f
+  idle f = sym (a.running p) ∙ none_by (m.seat p).running f
 
   idle_passes : (party s p).running ≡ None → is_running m p ≡ false
-  idle_passes e = ap is_some ((a.seats p).running ∙ e)
+  idle_passes e = ap is_some (a.running p ∙ e)
 
   runs : not (is_running m p) ≡ false → (k : ℕ) × ((party s p).running ≡ Some k)
-  runs f = let x = some_by (m.seat p).running (not_false (is_running m p) f) in (x.0, sym (a.seats p).running ∙ x.1)
+  runs f = let x = some_by (m.seat p).running (not_false (is_running m p) f) in (x.0, sym (a.running p) ∙ x.1)
 
   runs_passes : (k : ℕ) × ((party s p).running ≡ Some k) → not (is_running m p) ≡ false
-  runs_passes x = ap (λ (o : Option ℕ). not (is_some o)) ((a.seats p).running ∙ x.1)
+  runs_passes x = ap (λ (o : Option ℕ). not (is_some o)) (a.running p ∙ x.1)
 
   hidden : is_some m.published ≡ false → s.published ≡ None
   hidden f = sym a.published ∙ none_by m.published f
@@ -71,20 +71,20 @@ module _ (m : Configuration) (s : State) (a : Agrees m s (now s)) (h : Sound s) 
   stays_passes free = unless (p == 0) (is_some m.published) (λ t. hidden_passes (free (equal_by p 0 t)))
 
   may : AllFail (claim_tests m p) → MayBegin s p
-  may f = record { published = is_shown f.1.0; is_in = at_in f.0; idle = idle f.1.1.0; unseen = sym (a.seats p).seen ∙ f.1.1.1.0 }
+  may f = record { published = is_shown f.1.0; is_in = at_in f.0; idle = idle f.1.1.0; unseen = sym (a.seen p) ∙ f.1.1.1.0 }
 
   -- where nothing is left, nothing is free
   nothing_free : (n : ℕ) → s.published ≡ Some n → sum m.counters + m.remainder ≡ 0 → (k : ℕ) → Free s k → ⊥
-  nothing_free n e z k free = none_stands (length m.counters) (own m n) m.counters m.remainder n k refl z ((a.tally n e).unbegun k free.0 free.1)
+  nothing_free n e z k free = none_stands (length m.counters) (own m n) m.counters m.remainder n k refl z ((tally m s a n e).unbegun k free.0 free.1)
 
   -- where something is left, something is free
   some_free : (n : ℕ) → s.published ≡ Some n → 0 < sum m.counters + m.remainder → (k : ℕ) × Free s k
   some_free n e lt = dite (dec_le 1 m.remainder)
-      (λ pos. let f = rested_left m.counters m.remainder m.finished (now s).jobs (now s).begun (now s).finished n some (a.tally n e) (omega arith) in
-      (n - m.remainder, (f.0, f.1, λ q. (a.seats q).untaken (n - m.remainder))))
+      (λ pos. let f = rested_left m.counters m.remainder m.finished (now s).jobs (now s).begun (now s).finished n some (tally m s a n e) (omega arith) in
+      (n - m.remainder, (f.0, f.1, λ q. a.untaken q (n - m.remainder))))
       (λ no. let x = some_part m.counters (omega arith) in
-      let f = claimed_left m.counters m.remainder m.finished (now s).jobs (now s).begun (now s).finished n some (a.tally n e) x.0 x.1 x.2 in
-      (own m n * x.0 + own m n - counter m x.0, (f.0, f.1, λ q. (a.seats q).untaken (own m n * x.0 + own m n - counter m x.0))))
+      let f = claimed_left m.counters m.remainder m.finished (now s).jobs (now s).begun (now s).finished n some (tally m s a n e) x.0 x.1 x.2 in
+      (own m n * x.0 + own m n - counter m x.0, (f.0, f.1, λ q. a.untaken q (own m n * x.0 + own m n - counter m x.0))))
 
   abbrev Used : Type 0
   Used = s.published ≢ None → ((k : ℕ) → Free s k → ⊥) ⊎ ((now s).stopped ≡ true)
@@ -124,11 +124,11 @@ module _ (m : Configuration) (s : State) (a : Agrees m s (now s)) (h : Sound s) 
   above_passes : (k : ℕ) → 0 < k → (k == 0) ≡ false
   above_passes k lt = ne_eqb k 0 (λ e. omega arith)
 
-module _ (m : Configuration) (s : State) (a : Agrees m s (now s)) (h : Sound s) (some : 0 < length m.counters) where
+module _ (m : Configuration) (s : State) (a : Shows m s) (h : Sound s) (some : 0 < length m.counters) where
   -- where no test refuses the step it is fair
   pub fair : (granted : Bool) (e : Step) → IsInRange e → AllFail (tests m granted e) → IsFair m s e
   fair g (Join p) range f = (
-    sym (a.seats p).status ∙ out_by (status m p) (not_false (is_out (status m p)) f.0),
+    sym (a.status p) ∙ out_by (status m p) (not_false (is_out (status m p)) f.0),
     unclosed m s a h some p f.1.1.0,
     let n =
         differ_by m.members 32767 f.1.0 in let few = h.gate.few in let i = a.members in omega arith,
@@ -144,25 +144,25 @@ module _ (m : Configuration) (s : State) (a : Agrees m s (now s)) (h : Sound s) 
   fair g (Finish p) range f = runs m s a h some p f.0
   fair g (Stop p) range f = (runs m s a h some p f.0, sym a.stoppable ∙ not_false m.stoppable f.1.0)
   fair g (See p) range f = (at_in m s a h some p f.0, sym a.stopped ∙ not_false m.stopped f.1.1.0)
-  fair g (Arrive p) range f = (at_in m s a h some p f.0, ((a.seats p).untaken, idle m s a h some p f.1.0), used m s a h some p m.stopped refl f.1.1.0)
+  fair g (Arrive p) range f = (at_in m s a h some p f.0, (a.untaken p, idle m s a h some p f.1.0), used m s a h some p m.stopped refl f.1.1.0)
   fair g (Leave p) range f = (
-    sym (a.seats p).status
+    sym (a.status p)
         ∙ waiting_by (status m p) (not_false (is_waiting (status m p)) f.0),
     unclosed m s a h some p f.1.0,
     stays m s a h some p f.1.1.0,
   )
-  fair g (Exit p) range f = (at_in m s a h some p f.0, ((a.seats p).untaken, idle m s a h some p f.1.0), stays m s a h some p f.1.1.0)
+  fair g (Exit p) range f = (at_in m s a h some p f.0, (a.untaken p, idle m s a h some p f.1.0), stays m s a h some p f.1.1.0)
   fair g (Clear p) range f = closer_is m s a h some p f.0
   fair g (End p) range f = (closer_is m s a h some p f.0, hidden m s a h some p f.1.0)
 
   claim_passes : (p : ℕ) → MayBegin s p → AllFail (claim_tests m p)
   claim_passes p y =
-      (in_passes m s a h some p y.is_in, (shown_passes m s a h some p y.published, (idle_passes m s a h some p y.idle, ((a.seats p).seen ∙ y.unseen, tt))))
+      (in_passes m s a h some p y.is_in, (shown_passes m s a h some p y.published, (idle_passes m s a h some p y.idle, (a.seen p ∙ y.unseen, tt))))
 
   -- no test refuses a fair step
   pub fails : (e : Step) → IsFair m s e → AllFail (tests m true e)
   fails (Join p) ok = (
-    ap (λ (t : Status). not (is_out t)) ((a.seats p).status ∙ ok.0),
+    ap (λ (t : Status). not (is_out t)) (a.status p ∙ ok.0),
     (ne_eqb m.members 32767 (λ e. let lt = ok.2 in let i = a.members in omega arith), (unclosed_passes m s a h some p ok.1, (refl, tt))),
   )
   fails (Publish p n) ok = publish_fails m s a h some p n ok
@@ -176,7 +176,7 @@ module _ (m : Configuration) (s : State) (a : Agrees m s (now s)) (h : Sound s) 
       (in_passes m s a h some p ok.0, (shown_passes m s a h some p (stopped_shown m s a h some p ok.0 ok.1), (not_true m.stopped (a.stopped ∙ ok.1), tt)))
   fails (Arrive p) ok = (in_passes m s a h some p ok.0, (idle_passes m s a h some p ok.1.1, (used_passes m s a h some p ok.2, tt)))
   fails (Leave p) ok =
-      (ap (λ (t : Status). not (is_waiting t)) ((a.seats p).status ∙ ok.0), (unclosed_passes m s a h some p ok.1, (stays_passes m s a h some p ok.2, tt)))
+      (ap (λ (t : Status). not (is_waiting t)) (a.status p ∙ ok.0), (unclosed_passes m s a h some p ok.1, (stays_passes m s a h some p ok.2, tt)))
   fails (Exit p) ok = (in_passes m s a h some p ok.0, (idle_passes m s a h some p ok.1.1, (stays_passes m s a h some p ok.2, tt)))
   fails (Clear p) ok = (closer_passes m s a h some p ok, tt)
   fails (End p) ok = (closer_passes m s a h some p ok.0, (hidden_passes m s a h some p ok.1, tt))

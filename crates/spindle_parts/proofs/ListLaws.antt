@@ -1,9 +1,7 @@
 -- Lists: one more at the end, reversing, sums, and the lengths of pieces.
 use Rattle.std.proofs.Common.{◌≡◌, ℕ, ◌+◌, ◌<◌, List, [], ◌∷◌, ◌++◌, length, take, drop, get_or, map, refl, ap, sym, ◌∙◌, append_assoc, zero-add, add_assoc}
-use Rattle.std.proofs.Common.{replicate, ◌*◌, ◌-◌, ◌/◌, ◌%◌, ◌≤◌, zero, suc, arith, add-zero, add-one}
-use Rattle.std.proofs.lemmas.List.{reverse-append, map-append}
-use Rattle.std.proofs.Common.{reverse}
-use Rattle.std.proofs.lemmas.List.{take_more, drop_more, length-drop, append-nil}
+use Rattle.std.proofs.Common.{replicate, ◌*◌, ◌-◌, ◌/◌, ◌%◌, ◌≤◌, zero, suc, arith, add-zero, add-one, reverse}
+use Rattle.std.proofs.lemmas.List.{reverse-append, map-append, take_more, drop_more, length-drop, append-nil}
 use Rattle.std.specs.List.{AllZip}
 use Rattle.spindle_parts.specs.Pieces.{joined, counted, total, lengths_of}
 

@@ -1,6 +1,6 @@
 -- Each step on a numbers table keeps its rule.
-use Rattle.std.proofs.Common.{◌≡◌, ◌≢◌, ⊎_elim, ℕ, zero, suc, ◌*◌, ◌%◌, ◌^◌, ◌<◌, ◌≤◌, List, [], ◌∷◌, ◌++◌, length, get_or, set, length-set, replicate}
-use Rattle.std.proofs.Common.{get_or-set_same, get_or-set_other, Bool, eqb, eq-eqb, ne_eqb, sym, refl, ap, ◌∙◌, subst, arith, Some, None, bit_and, bit_or}
+use Rattle.std.proofs.Common.{◌≡◌, ◌≢◌, ⊎_elim, ℕ, zero, suc, ◌*◌, ◌%◌, ◌^◌, ◌<◌, ◌≤◌, List, [], ◌∷◌, ◌++◌, length, get_or, set, length-set, replicate, Bool}
+use Rattle.std.proofs.Common.{get_or-set_same, get_or-set_other, eqb, eq-eqb, ne_eqb, sym, refl, ap, ◌∙◌, subst, arith, Some, None, bit_and, bit_or}
 use mathlib.Core.Logic.{dite}
 use mathlib.Core.Option.{none, some, some-injective, some-ne-none}
 use native.Mathlib.Decide.{ℕ_discrete}
@@ -17,8 +17,8 @@ use Rattle.atomic_table.proofs.Lists.{at_set, at_snoc, at_longer, set_again, set
 use Rattle.spindle_parts.specs.declared.numbers.plays.Holding.TheVariants.{Nothing, Leads, Has}
 use Rattle.spindle_parts.specs.declared.numbers.plays.View.{View}
 use Rattle.spindle_parts.proofs.NumberBits.{own_bit, other_bit, still_narrow, mask_of, or_adds, one_asked}
-use Rattle.spindle_parts.specs.ThreadNumbers.{word_count, place_of, IsSet, number_of, HasNumber, IsNumbering, leader_view, outsider_view, loading, missing}
-use Rattle.spindle_parts.specs.ThreadNumbers.{taking, giving, loaded, taken, given, Sat}
+use Rattle.spindle_parts.specs.ThreadNumbers.{word_count, place_of, IsSet, number_of, HasNumber, IsNumbering, leader_view, outsider_view, loading, missing, Sat}
+use Rattle.spindle_parts.specs.ThreadNumbers.{taking, giving, loaded, taken, given}
 
 -- ---- views
 

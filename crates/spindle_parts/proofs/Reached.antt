@@ -1,14 +1,13 @@
 -- What holds of a configuration that some schedule leads to: each subtraction and sum of the next step fits.
-use Rattle.std.proofs.Common.{◌≡◌, ◌≢◌, ℕ, zero, suc, inr, ◌+◌, ◌<◌, ◌≤◌, Bool, true, false, ◌||◌, eqb, ne_eqb, List, [], ◌∷◌, ◌++◌, length, length-append}
-use Rattle.std.proofs.Common.{sym, refl, ap, ◌∙◌, subst, arith, Option, Some, None}
+use Rattle.std.proofs.Common.{◌≡◌, ◌≢◌, ℕ, zero, suc, inr, ◌+◌, ◌<◌, ◌≤◌, Bool, true, false, ◌||◌, eqb, ne_eqb, List, [], ◌∷◌, ◌++◌, length, length-append, sym}
+use Rattle.std.proofs.Common.{refl, ap, ◌∙◌, subst, arith, Option, Some, None}
 use mathlib.Core.Logic.{dite}
 use native.Mathlib.Decide.{ℕ_discrete}
 use Rattle.std.proofs.Math.Nat.{mod-le}
 use Rattle.std.specs.List.{list_any, IsDistinct, AllByRecursion}
 use Rattle.std.proofs.lemmas.Map.Keys.{IsDistinct-cons}
 use Rattle.std.proofs.lemmas.Map.Steps.{length-le_from_distinct_below}
-use Rattle.spindle_parts.specs.State.{Out, In, Party, Round, State, times, is_in, is_member, weight_in, weight_member, party_of, put_party}
-use Rattle.spindle_parts.specs.State.{now, party}
+use Rattle.spindle_parts.specs.State.{Out, In, Party, Round, State, times, is_in, is_member, weight_in, weight_member, party_of, put_party, now, party}
 use Rattle.spindle_parts.specs.State as state
 use Rattle.spindle_parts.specs.Steps.{Event, Finish, ended_by, with_status}
 use Rattle.spindle_parts.specs.Runs.{state, IsRun}

@@ -1,6 +1,6 @@
 -- From what a step of the registers does to what the machine's step does: its answer, and that a schedule leads on.
-use Rattle.std.proofs.Common.{◌≡◌, ◌≢◌, ℕ, ◌<◌, ◌≤◌, Bool, true, false, not, ◌&&◌, List, [], ◌∷◌, sym, refl, ap, ◌∙◌, subst}
-use Rattle.std.proofs.Common.{Option, Some, None, Result, Ok, Err, IfOk, if◌then◌else◌}
+use Rattle.std.proofs.Common.{◌≡◌, ◌≢◌, ℕ, ◌<◌, ◌≤◌, Bool, true, false, not, ◌&&◌, List, [], ◌∷◌, sym, refl, ap, ◌∙◌, subst, Option, Some, None, Result, Ok}
+use Rattle.std.proofs.Common.{Err, IfOk, if◌then◌else◌}
 use Rattle.spindle_parts.specs.Machine.{Configuration, initial, word, first, judged, tests, effect, answer, serve}
 use Rattle.spindle_parts.specs.EverySchedule.{IsInRange}
 use Rattle.spindle_parts.specs.Registers.{shown, IsReached, IsTidy, IsSteady}

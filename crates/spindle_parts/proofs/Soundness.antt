@@ -1,12 +1,12 @@
 -- Each event keeps what is true of the rounds.
-use Rattle.std.proofs.Common.{◌≡◌, ◌≢◌, ◌⊎◌, inl, inr, ⊎_elim, ℕ, ◌+◌, ◌<◌, ◌≤◌, Bool, true, false, ◌||◌, eq-eqb, ne_eqb, List, [], ◌∷◌, ◌++◌, sym, refl}
-use Rattle.std.proofs.Common.{ap, ◌∙◌, subst, arith, Option, Some, None, if◌then◌else◌, ◌==◌}
+use Rattle.std.proofs.Common.{◌≡◌, ◌≢◌, ◌⊎◌, inl, inr, ⊎_elim, ℕ, ◌+◌, ◌<◌, ◌≤◌, Bool, true, false, ◌||◌, eq-eqb, ne_eqb, List, [], ◌∷◌, ◌++◌, sym, refl, ap}
+use Rattle.std.proofs.Common.{◌∙◌, subst, arith, Option, Some, None, if◌then◌else◌, ◌==◌}
 use mathlib.Core.Logic.{dite}
 use native.Mathlib.Decide.{ℕ_discrete, dec_le}
-use Rattle.spindle_parts.specs.State.{Status, Out, In, Arrived, Party, Round, State, put, blank, fresh, no_set, party_of, put_party, times, is_in}
-use Rattle.spindle_parts.specs.State.{is_member, weight_in, weight_member, inside, members, waking, wake, now, party, change, change_round, Free}
-use Rattle.spindle_parts.specs.Steps.{with_status, Allowed, IsIdle, after, arrived, publish, ended_by, Event, Join, Publish, PublishTry, Take, Begin}
-use Rattle.spindle_parts.specs.Steps.{Finish, Stop, See, PutBack, Arrive, Leave, Exit, Clear, End}
+use Rattle.spindle_parts.specs.State.{Status, Out, In, Arrived, Party, Round, State, put, blank, fresh, no_set, party_of, put_party, times, is_in, is_member}
+use Rattle.spindle_parts.specs.State.{weight_in, weight_member, inside, members, waking, wake, now, party, change, change_round, Free}
+use Rattle.spindle_parts.specs.Steps.{with_status, Allowed, IsIdle, after, arrived, publish, ended_by, Event, Join, Publish, PublishTry, Take, Begin, Finish}
+use Rattle.spindle_parts.specs.Steps.{Stop, See, PutBack, Arrive, Leave, Exit, Clear, End}
 use Rattle.spindle_parts.specs.Runs.{state, IsRun, IsOnce}
 use Rattle.spindle_parts.proofs.Parties.{moved, with_parties, next_round, put_here, put_else, put_all, put_again, look_here, look_else, total_put, total_at}
 use Rattle.spindle_parts.proofs.Parties.{inside_le_members, look_wake, inside_wake, members_wake}

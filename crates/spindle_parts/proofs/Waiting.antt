@@ -1,11 +1,10 @@
 -- What a run says of a party that takes no step in it, and of each of its events.
-use Rattle.std.proofs.Common.{◌≡◌, ◌≢◌, ◌⊎◌, inl, inr, ⊎_elim, ℕ, ◌+◌, ◌%◌, ◌<◌, Bool, List, [], ◌∷◌, ◌++◌, sym, refl, ap, ◌∙◌, subst, arith, None}
-use Rattle.std.proofs.Common.{if◌then◌else◌, ne_eqb}
+use Rattle.std.proofs.Common.{◌≡◌, ◌≢◌, ◌⊎◌, inl, inr, ⊎_elim, ℕ, ◌+◌, ◌%◌, ◌<◌, Bool, List, [], ◌∷◌, ◌++◌, sym, refl, ap, ◌∙◌, subst, arith, None, ne_eqb}
+use Rattle.std.proofs.Common.{if◌then◌else◌}
 use mathlib.Core.Logic.{dite}
 use native.Mathlib.Decide.{ℕ_discrete}
 use Rattle.spindle_parts.specs.State.{Out, In, Arrived, Party, Round, State, members, now, party}
-use Rattle.spindle_parts.specs.Steps.{Allowed, after, arrived, Event, Begin}
-use Rattle.spindle_parts.specs.Steps.{Exit, End}
+use Rattle.spindle_parts.specs.Steps.{Allowed, after, arrived, Event, Begin, Exit, End}
 use Rattle.spindle_parts.specs.Runs.{state, IsRun}
 use Rattle.spindle_parts.specs.EveryRun.{AtEach, BeginsWithin, EndsCleared, NoneBy, sense_shown, Waits, IsWhole, EveryRun}
 use Rattle.spindle_parts.proofs.Parties.{moved, next_round, inside_le_members}

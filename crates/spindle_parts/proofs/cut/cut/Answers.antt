@@ -1,6 +1,6 @@
 -- Cutting from the back: what is cut joined with what is left is the list, and the pieces count down.
-use Rattle.std.proofs.Common.{◌≡◌, ℕ, ◌+◌, ◌≤◌, ◌<◌, ◌-◌, ◌++◌, ◌∷◌, [], length, take, drop, arith, rules, vec_len, sym, map, get_or, List, ◌∙◌, ap}
-use Rattle.std.proofs.Common.{append_assoc, length-append, min, reverse, refl, add-one}
+use Rattle.std.proofs.Common.{◌≡◌, ℕ, ◌+◌, ◌≤◌, ◌<◌, ◌-◌, ◌++◌, ◌∷◌, [], length, take, drop, arith, rules, vec_len, sym, map, get_or, List, ◌∙◌, ap, min, refl}
+use Rattle.std.proofs.Common.{append_assoc, length-append, reverse, add-one}
 use Rattle.std.proofs.lemmas.List.{take-append-drop, take_all, drop_all, drop_more, get_or_default, append-nil, nil_from_length}
 use Rattle.spindle_parts.specs.declared.cut.Piece.{Piece}
 use Rattle.spindle_parts.specs.Pieces.{joined, counted, total, cut_lengths}

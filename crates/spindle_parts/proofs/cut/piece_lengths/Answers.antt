@@ -1,6 +1,5 @@
 -- The lengths: one more of the first kind, and then of the second kind.
-use Rattle.std.proofs.Common.{◌≡◌, ℕ, ◌+◌, ◌-◌, ◌≤◌, ◌++◌, ◌∷◌, [], length, length-append, replicate, append_assoc, arith, rules, sym, ap, ◌∙◌}
-use Rattle.std.proofs.Common.{vec_len}
+use Rattle.std.proofs.Common.{◌≡◌, ℕ, ◌+◌, ◌-◌, ◌≤◌, ◌++◌, ◌∷◌, [], length, length-append, replicate, append_assoc, arith, rules, sym, ap, ◌∙◌, vec_len}
 use Rattle.std.proofs.lemmas.List.{replicate_more, length-replicate, append-nil}
 use Rattle.spindle_parts.proofs.cut.piece_lengths.Goals as goal
 

@@ -6,8 +6,8 @@ use Rattle.spindle_parts.specs.Serving.{granted_by}
 use Rattle.spindle_parts.specs.declared.steps.Step.TheVariants as steps
 use Rattle.spindle_parts.proofs.Serving.{always, plain, Stepped, by_word, by_job}
 use Rattle.spindle_parts.proofs.steps.Machine.step.Goals as goal
-use Rattle.spindle_parts.proofs.steps.Machine.step.Goals.{in-Join, in-Publish, in-PublishTry, in-Claim, in-Rest, in-Finish, in-Stop, in-See, in-Arrive}
-use Rattle.spindle_parts.proofs.steps.Machine.step.Goals.{in-Leave, in-Exit, in-Clear, in-End}
+use Rattle.spindle_parts.proofs.steps.Machine.step.Goals.{in-Join, in-Publish, in-PublishTry, in-Claim, in-Rest, in-Finish, in-Stop, in-See, in-Arrive, in-Exit}
+use Rattle.spindle_parts.proofs.steps.Machine.step.Goals.{in-Leave, in-Clear, in-End}
 
 stepped : (c : goal.Joined-step) → Stepped c.args.self.now c.args.step c.match-step.self-inside c.match-step.result
 stepped c =

@@ -1,6 +1,6 @@
 -- The counter read is above 0 and at most its thread's own jobs, so the job claimed is one of these.
-use Rattle.std.proofs.Common.{◌≡◌, ◌≢◌, ℕ, ◌<◌, ◌≤◌, ◌+◌, ◌*◌, ◌-◌, ◌/◌, List, length, get_or, set, sym, ap, ◌∙◌, arith, Option, Some, None, unwrap_or}
-use Rattle.std.proofs.Common.{ne_eqb, Bool, not, ltb, ◌==◌, [], ◌∷◌}
+use Rattle.std.proofs.Common.{◌≡◌, ◌≢◌, ℕ, ◌<◌, ◌≤◌, ◌+◌, ◌*◌, ◌-◌, ◌/◌, List, length, get_or, set, sym, ap, ◌∙◌, arith, Option, Some, None, unwrap_or, ne_eqb}
+use Rattle.std.proofs.Common.{Bool, not, ltb, ◌==◌, [], ◌∷◌}
 use Rattle.std.proofs.lemmas.Grind.{get_or_default_zero}
 use Rattle.std.proofs.lemmas.Bool.{lt-ltb}
 use Rattle.std.proofs.lemmas.List.Sums.{sum_by-set}
