@@ -1,11 +1,11 @@
 -- What each number of a round is, and how one party's change leaves the others.
 use Rattle.std.proofs.Common.{◌≡◌, ◌≢◌, ◌⊎◌, inl, inr, ⊎_elim, ℕ, ◌<◌, ◌≤◌, Bool, true, false, ◌||◌, List, [], ◌∷◌, ◌++◌, sym, refl, ap, ◌∙◌, subst, arith}
-use Rattle.std.proofs.Common.{Option, Some, None, if◌then◌else◌}
+use Rattle.std.proofs.Common.{Some, None, if◌then◌else◌}
 use mathlib.Core.Logic.{dite}
 use native.Mathlib.Decide.{ℕ_discrete}
 use Rattle.spindle_parts.specs.State.{Status, In, Party, Round, put, no_set, blank, party_of, put_party, times}
 use Rattle.spindle_parts.specs.Steps.{with_status}
-use Rattle.spindle_parts.proofs.Parties.{put_here, put_else, put_all, look_here, look_else, times_same, times_else}
+use Rattle.spindle_parts.proofs.Parties.{by_option, put_here, put_else, put_all, look_here, look_else, times_same, times_else}
 
 pub data Fate : Type 0 where
   Open : Fate
@@ -16,14 +16,11 @@ pub data Fate : Type 0 where
 abbrev pub started : Fate → ℕ
 started Open = 0
 started (Held p) = 0
-started (Ran p) = 1
-started Done = 1
+started f = 1
 
 abbrev pub over : Fate → ℕ
-over Open = 0
-over (Held p) = 0
-over (Ran p) = 0
 over Done = 1
+over f = 0
 
 pub record Fits (fate : ℕ → Fate) (p : ℕ) (x : Party) : Type 0 where
   pub held : (k : ℕ) → x.taken k ≡ true → fate k ≡ Held p
@@ -47,6 +44,10 @@ pub record Complete (r : Round) : Type 0 where
   pub below : (k : ℕ) → 0 < times k r.begun → k < r.jobs
   pub full : r.stopped ≡ false → (k : ℕ) → k < r.jobs → times k r.begun ≡ 1
   pub stops : r.stopped ≡ true → r.stoppable ≡ true
+
+pub not_true : (b : Bool) → (b ≡ true → ⊥) → b ≡ false
+not_true true n = absurd (n refl)
+not_true false n = refl
 
 -- f is not of the party q
 abbrev pub Foreign : ℕ → Fate → Type 0
@@ -74,9 +75,6 @@ fits_put fate fate' ps p y mine spared f q = dite (ℕ_discrete q p)
     (λ same. subst (λ (z : ℕ). Fits fate' z (party_of (put_party ps p y) z)) (sym same) (subst (Fits fate' p) (sym (look_here ps p y)) mine))
     (λ other. subst (Fits fate' q) (sym (look_else ps p y q other)) (others_fit fate fate' q (party_of ps q) (λ k. spared q k other) (f q)))
 
-same_fits : (fate : ℕ → Fate) (q k : ℕ) → Spared fate fate q k
-same_fits fate q k = inl refl
-
 -- a new status, where it stays `in` or has nothing
 pub with_status_fits : (fate : ℕ → Fate) (p : ℕ) (x : Party) (t : Status)
     → (t ≡ In) ⊎ (((k : ℕ) → x.taken k ≡ false) × (x.running ≡ None)) → Fits fate p x → Fits fate p (with_status t x)
@@ -90,20 +88,17 @@ with_status_fits fate p x t ok f = record {
 }
 
 module _ (fate : ℕ → Fate) (r : Round) (ps : List Party) (w : Work fate r ps) (p : ℕ) where
-  x : Party
-  x = party_of ps p
+  -- the party p becomes y, in a round with other numbers begun and finished
+  party_work : (fate' : ℕ → Fate) (b f : List ℕ) (y : Party) → ((k : ℕ) → times k b ≡ started (fate' k)) → ((k : ℕ) → times k f ≡ over (fate' k))
+      → Fits fate' p y → ((q k : ℕ) → q ≢ p → Spared fate fate' q k) → ((k : ℕ) → fate' k ≢ Open → k < r.jobs)
+      → Work fate' (record r { begun = b; finished = f }) (put_party ps p y)
+  party_work fate' b f y begun finished fits spared below =
+      record { begun = begun; finished = finished; fits = fits_put fate fate' ps p y fits spared w.fits; below = below; stops = w.stops; saw = w.saw }
 
   pub status_work : (t : Status) → (t ≡ In) ⊎ (((k : ℕ) → (party_of ps p).taken k ≡ false) × ((party_of ps p).running ≡ None))
       → Work fate r (put_party ps p (with_status t (party_of ps p)))
-  status_work t ok = record {
-    begun = w.begun;
-    finished = w.finished;
-    fits = fits_put fate fate ps p (with_status t (party_of ps p)) (with_status_fits fate p (party_of ps p) t ok (w.fits p))
-        (λ q k _. same_fits fate q k) w.fits;
-    below = w.below;
-    stops = w.stops;
-    saw = w.saw;
-  }
+  status_work t ok = party_work fate r.begun r.finished (with_status t (party_of ps p)) w.begun w.finished
+      (with_status_fits fate p (party_of ps p) t ok (w.fits p)) (λ q k _. inl refl) w.below
 
   -- one number, from the fate f to g, which concern p alone
   spared_at : (k : ℕ) (g : Fate) → ((q : ℕ) → q ≢ p → Foreign q (fate k) × Foreign q g) → (q j : ℕ) → q ≢ p → Spared fate (put fate k g) q j
@@ -115,64 +110,43 @@ module _ (fate : ℕ → Fate) (r : Round) (ps : List Party) (w : Work fate r ps
   pub begin_work : (k : ℕ) → (party_of ps p).status ≡ In → (party_of ps p).running ≡ None → (party_of ps p).taken k ≡ true
       → Work (put fate k (Ran p))
       (record r { begun = r.begun ++ k ∷ [] }) (put_party ps p (record (party_of ps p) { running = Some k; taken = put (party_of ps p).taken k false }))
-  begin_work k is_in idle mine = let was : fate k ≡ Held p = (w.fits p).held k mine in
-      let fate' : ℕ → Fate = put fate k (Ran p) in let here : fate' k ≡ Ran p = put_here fate k (Ran p) in
-      let f = w.fits p in record {
-        begun = λ j. dite (ℕ_discrete j k)
-            (λ e. subst (λ (z : ℕ). times z (r.begun ++ k ∷ []) ≡ started (fate' z)) (sym e)
-            (let a = w.begun k in let b = ap started was in let c = ap started here in let d = times_same k r.begun in omega arith))
-            (λ n. times_else j r.begun k n ∙ (w.begun j ∙ sym (ap started (put_else fate k (Ran p) j n))));
-        finished = λ j. dite (ℕ_discrete j k)
-            (λ e. subst (λ (z : ℕ). times z r.finished ≡ over (fate' z)) (sym e) (w.finished k ∙ (ap over was ∙ sym (ap over here))))
-            (λ n. w.finished j ∙ sym (ap over (put_else fate k (Ran p) j n)));
-        fits = fits_put fate fate' ps p (record (party_of ps p) { running = Some k; taken = put (party_of ps p).taken k false })
-            record {
-              held = λ j h. dite (ℕ_discrete j k)
-                  (λ e. let a = put_here (party_of ps p).taken k false in let b = ap (put (party_of ps p).taken k false) e in absurd cc)
-                  (λ n. put_else fate k (Ran p) j n ∙ f.held j (sym (put_else (party_of ps p).taken k false j n) ∙ h));
-              holds = λ j h. dite (ℕ_discrete j k) (λ e. let b = ap fate' e in absurd cc)
-                  (λ n. put_else (party_of ps p).taken k false j n ∙ f.holds j (sym (put_else fate k (Ran p) j n) ∙ h));
-              ran = λ j h. let e : k ≡ j = cc in subst (λ (z : ℕ). fate' z ≡ Ran p) e here;
-              runs = λ j h. dite (ℕ_discrete j k)
-                  (λ e. ap (λ (z : ℕ). Some z) (sym e)) (λ n. let a = f.runs j (sym (put_else fate k (Ran p) j n) ∙ h) in absurd cc);
-              within = λ j h. is_in;
-            }
-            (spared_at k (Ran p) (λ q other. let e : Foreign q (fate k) = (
-              (λ h. let a : Held p ≡ Held q = sym was ∙ h in let b : p ≡ q = cc in
-                  other (sym b)),
-              (λ h. let a : Held p ≡ Ran q = sym was ∙ h in cc),
-            ) in (e, ((λ h. cc), (λ h. let b : p ≡ q = cc in other (sym b)))))) w.fits;
-        below = λ j h. dite (ℕ_discrete j k) (λ e. subst (λ (z : ℕ). z < r.jobs) (sym e) (w.below k (λ z. let a : Held p ≡ Open = sym was ∙ z in cc)))
-            (λ n. w.below j (λ z. h (put_else fate k (Ran p) j n ∙ z)));
-        stops = w.stops;
-        saw = w.saw;
+  begin_work k is_in idle mine = let f = w.fits p in let was : fate k ≡ Held p = f.held k mine in
+      party_work (put fate k (Ran p)) (r.begun ++ k ∷ []) r.finished (record (party_of ps p) { running = Some k; taken = put (party_of ps p).taken k false })
+      (put_all (λ j g. times j (r.begun ++ k ∷ []) ≡ started g) fate k (Ran p)
+      (let a = w.begun k in let b = ap started was in let d = times_same k r.begun in omega arith) (λ j n. times_else j r.begun k n ∙ w.begun j))
+      (put_all (λ j g. times j r.finished ≡ over g) fate k (Ran p) (w.finished k ∙ ap over was) (λ j _. w.finished j))
+      record {
+        held = λ j h. dite (ℕ_discrete j k)
+            (λ e. let a = put_here (party_of ps p).taken k false in let b = ap (put (party_of ps p).taken k false) e in absurd cc)
+            (λ n. put_else fate k (Ran p) j n ∙ f.held j (sym (put_else (party_of ps p).taken k false j n) ∙ h));
+        holds = put_all (λ j g. g ≡ Held p → put (party_of ps p).taken k false j ≡ true) fate k (Ran p) (λ h. absurd cc)
+            (λ j n h. put_else (party_of ps p).taken k false j n ∙ f.holds j h);
+        ran = λ j h. let e : k ≡ j = cc in subst (λ (z : ℕ). put fate k (Ran p) z ≡ Ran p) e (put_here fate k (Ran p));
+        runs = put_all (λ j g. g ≡ Ran p → Some k ≡ Some j) fate k (Ran p) (λ _. refl) (λ j _ h. let a = f.runs j h in absurd cc);
+        within = λ j h. is_in;
       }
+      (spared_at k (Ran p) (λ q other. (((λ h. let a = was in let b : p ≡ q = cc in other (sym b)), (λ h. let a = was in cc)),
+      ((λ h. cc), (λ h. let b : p ≡ q = cc in other (sym b))))))
+      (put_all (λ j g. g ≢ Open → j < r.jobs) fate k (Ran p) (λ _. w.below k (λ z. let a = was in cc)) (λ j _. w.below j))
 
   pub finish_work : (k : ℕ) → (party_of ps p).running ≡ Some k
       → Work (put fate k Done) (record r { finished = r.finished ++ k ∷ [] }) (put_party ps p (record (party_of ps p) { running = None }))
-  finish_work k runs = let f = w.fits p in let was : fate k ≡ Ran p = f.ran k runs in let fate' : ℕ → Fate = put fate k Done in
-      let only : (j : ℕ) → fate j ≡ Ran p → j ≡ k = λ j h. let a = f.runs j h in cc in record {
-        begun = put_all (λ j g. times j r.begun ≡ started g) fate k Done (w.begun k ∙ ap started was) (λ j _. w.begun j);
-        finished = put_all (λ j g. times j (r.finished ++ k ∷ []) ≡ over g) fate k Done (let a = times_same k r.finished in
-            let b = w.finished k in let c = ap over was in omega arith) (λ j n. times_else j r.finished k n ∙ w.finished j);
-        fits = fits_put fate fate' ps p (record (party_of ps p) { running = None })
-            record {
-              held = λ j h. let a = f.held j h in put_else fate k Done j (λ e. let b = ap fate e in let c = was in absurd cc) ∙ a;
-              holds = put_all (λ j g. g ≡ Held p → (party_of ps p).taken j ≡ true) fate k Done (λ h. absurd cc) (λ j _. f.holds j);
-              ran = λ j h. absurd cc;
-              runs = put_all (λ j g. g ≡ Ran p → None ≡ Some j) fate k Done (λ h. absurd cc) (λ j n h. absurd (n (only j h)));
-              within = put_all (λ j g. (g ≡ Held p) ⊎ (g ≡ Ran p) → (party_of ps p).status ≡ In) fate k Done (⊎_elim (λ h. absurd cc) (λ h. absurd cc))
-                  (λ j _. f.within j);
-            }
-            (spared_at k Done
-            (λ q other. (((λ h. let a = was in cc), (λ h. let a = was in let b : p ≡ q = cc in other (sym b))), ((λ h. cc), (λ h. cc))))) w.fits;
-        below = put_all (λ j g. g ≢ Open → j < r.jobs) fate k Done (λ _. w.below k (λ z. let a = was in cc)) (λ j _. w.below j);
-        stops = w.stops;
-        saw = w.saw;
+  finish_work k runs = let f = w.fits p in let was : fate k ≡ Ran p = f.ran k runs in
+      let only : (j : ℕ) → fate j ≡ Ran p → j ≡ k = λ j h. let a = f.runs j h in cc in
+      party_work (put fate k Done) r.begun (r.finished ++ k ∷ []) (record (party_of ps p) { running = None })
+      (put_all (λ j g. times j r.begun ≡ started g) fate k Done (w.begun k ∙ ap started was) (λ j _. w.begun j))
+      (put_all (λ j g. times j (r.finished ++ k ∷ []) ≡ over g) fate k Done (let a = times_same k r.finished in
+      let b = w.finished k in let c = ap over was in omega arith) (λ j n. times_else j r.finished k n ∙ w.finished j))
+      record {
+        held = λ j h. let a = f.held j h in put_else fate k Done j (λ e. let b = ap fate e in let c = was in absurd cc) ∙ a;
+        holds = put_all (λ j g. g ≡ Held p → (party_of ps p).taken j ≡ true) fate k Done (λ h. absurd cc) (λ j _. f.holds j);
+        ran = λ j h. absurd cc;
+        runs = put_all (λ j g. g ≡ Ran p → None ≡ Some j) fate k Done (λ h. absurd cc) (λ j n h. absurd (n (only j h)));
+        within = put_all (λ j g. (g ≡ Held p) ⊎ (g ≡ Ran p) → (party_of ps p).status ≡ In) fate k Done (⊎_elim (λ h. absurd cc) (λ h. absurd cc))
+            (λ j _. f.within j);
       }
-
-  taking : (ℕ → Bool) → (ℕ → Fate)
-  taking some k = if some k then Held p else fate k
+      (spared_at k Done (λ q other. (((λ h. let a = was in cc), (λ h. let a = was in let b : p ≡ q = cc in other (sym b))), ((λ h. cc), (λ h. cc)))))
+      (put_all (λ j g. g ≢ Open → j < r.jobs) fate k Done (λ _. w.below k (λ z. let a = was in cc)) (λ j _. w.below j))
 
   -- a whole set goes from one fate to another
   bulk : (P : ℕ → Fate → Type 0) (some : ℕ → Bool) (g : Fate)
@@ -183,10 +157,15 @@ module _ (fate : ℕ → Fate) (r : Round) (ps : List Party) (w : Work fate r ps
       go true a b = a refl
       go false a b = b refl
 
-  spared_bulk : (some : ℕ → Bool) (g : Fate)
-      → ((k q : ℕ) → some k ≡ true → q ≢ p → Foreign q (fate k) × Foreign q g) → (q k : ℕ) → q ≢ p → Spared fate (λ j. if some j then g else fate j) q k
-  spared_bulk some g alone q k other =
-      bulk (λ j h. (h ≡ fate j) ⊎ (Foreign q (fate j) × Foreign q h)) some g (λ j e. inr (alone j q e other)) (λ j e. inl refl) k
+  bulk_work : (some : ℕ → Bool) (g : Fate) (y : Party)
+      → ((k : ℕ) → some k ≡ true → started (fate k) ≡ started g) → ((k : ℕ) → some k ≡ true → over (fate k) ≡ over g)
+      → Fits (λ k. if some k then g else fate k) p y → ((k q : ℕ) → some k ≡ true → q ≢ p → Foreign q (fate k) × Foreign q g)
+      → ((k : ℕ) → some k ≡ true → g ≢ Open → k < r.jobs) → Work (λ k. if some k then g else fate k) r (put_party ps p y)
+  bulk_work some g y begun finished fits alone below = party_work (λ k. if some k then g else fate k) r.begun r.finished y
+      (bulk (λ k h. times k r.begun ≡ started h) some g (λ k e. w.begun k ∙ begun k e) (λ k _. w.begun k))
+      (bulk (λ k h. times k r.finished ≡ over h) some g (λ k e. w.finished k ∙ finished k e) (λ k _. w.finished k)) fits
+      (λ q k other. bulk (λ j h. (h ≡ fate j) ⊎ (Foreign q (fate j) × Foreign q h)) some g (λ j e. inr (alone j q e other)) (λ j e. inl refl) k)
+      (bulk (λ k h. h ≢ Open → k < r.jobs) some g below (λ k _. w.below k))
 
   or_true : (a b : Bool) → (a || b) ≡ true → (a ≡ true) ⊎ (b ≡ true)
   or_true true b e = inl refl
@@ -202,58 +181,60 @@ module _ (fate : ℕ → Fate) (r : Round) (ps : List Party) (w : Work fate r ps
 
   pub take_work : (some : ℕ → Bool) → (party_of ps p).status ≡ In → ((k : ℕ) → some k ≡ true → (fate k ≡ Open) × (k < r.jobs))
       → Work (λ k. if some k then Held p else fate k) r (put_party ps p (record (party_of ps p) { taken = λ k. (party_of ps p).taken k || some k }))
-  take_work some is_in is_open = let f = w.fits p in record {
-    begun = bulk (λ k g. times k r.begun ≡ started g) some (Held p) (λ k e. w.begun k ∙ ap started (is_open k e).0) (λ k _. w.begun k);
-    finished = bulk (λ k g. times k r.finished ≡ over g) some (Held p) (λ k e. w.finished k ∙ ap over (is_open k e).0) (λ k _. w.finished k);
-    fits = fits_put fate (λ k. if some k then Held p else fate k) ps p (record (party_of ps p) { taken = λ k. (party_of ps p).taken k || some k })
-        record {
-          held = λ k h. bulk (λ j g. ((party_of ps p).taken j || some j) ≡ true → g ≡ Held p) some (Held p)
-              (λ j e _. refl) (λ j e t. ⊎_elim (f.held j) (λ a. absurd cc) (or_true ((party_of ps p).taken j) (some j) t)) k h;
-          holds = bulk (λ j g. g ≡ Held p → ((party_of ps p).taken j || some j) ≡ true) some (Held p)
-              (λ j e _. or_right ((party_of ps p).taken j) (some j) e) (λ j e t. or_left ((party_of ps p).taken j) (some j) (f.holds j t));
-          ran = λ k h. bulk (λ j g. (party_of ps p).running ≡ Some j → g ≡ Ran p) some (Held p)
-              (λ j e t. let a = f.ran j t in let b = (is_open j e).0 in absurd cc) (λ j _. f.ran j) k h;
-          runs = bulk (λ j g. g ≡ Ran p → (party_of ps p).running ≡ Some j) some (Held p) (λ j e h. absurd cc) (λ j _. f.runs j);
-          within = λ k _. is_in;
-        }
-        (spared_bulk some (Held p)
-        (λ k q e other. let a = (is_open k e).0 in (((λ h. cc), (λ h. cc)), ((λ h. let b : p ≡ q = cc in other (sym b)), (λ h. cc))))) w.fits;
-    below = bulk (λ k g. g ≢ Open → k < r.jobs) some (Held p) (λ k e _. (is_open k e).1) (λ k _. w.below k);
-    stops = w.stops;
-    saw = w.saw;
-  }
+  take_work some is_in is_open = let f = w.fits p in bulk_work some (Held p) (record (party_of ps p) { taken = λ k. (party_of ps p).taken k || some k })
+      (λ k e. ap started (is_open k e).0) (λ k e. ap over (is_open k e).0)
+      record {
+        held = λ k h. bulk (λ j g. ((party_of ps p).taken j || some j) ≡ true → g ≡ Held p) some (Held p)
+            (λ j e _. refl) (λ j e t. ⊎_elim (f.held j) (λ a. absurd cc) (or_true ((party_of ps p).taken j) (some j) t)) k h;
+        holds = bulk (λ j g. g ≡ Held p → ((party_of ps p).taken j || some j) ≡ true) some (Held p)
+            (λ j e _. or_right ((party_of ps p).taken j) (some j) e) (λ j e t. or_left ((party_of ps p).taken j) (some j) (f.holds j t));
+        ran = λ k h. bulk (λ j g. (party_of ps p).running ≡ Some j → g ≡ Ran p) some (Held p)
+            (λ j e t. let a = f.ran j t in let b = (is_open j e).0 in absurd cc) (λ j _. f.ran j) k h;
+        runs = bulk (λ j g. g ≡ Ran p → (party_of ps p).running ≡ Some j) some (Held p) (λ j e h. absurd cc) (λ j _. f.runs j);
+        within = λ k _. is_in;
+      }
+      (λ k q e other. let a = (is_open k e).0 in (((λ h. cc), (λ h. cc)), ((λ h. let b : p ≡ q = cc in other (sym b)), (λ h. cc))))
+      (λ k e _. (is_open k e).1)
 
   pub put_back_work : Work (λ k. if (party_of ps p).taken k then Open else fate k) r (put_party ps p (record (party_of ps p) { taken = no_set }))
-  put_back_work = let f = w.fits p in let some : ℕ → Bool = (party_of ps p).taken in record {
-    begun = bulk (λ k g. times k r.begun ≡ started g) some Open (λ k e. w.begun k ∙ ap started (f.held k e)) (λ k _. w.begun k);
-    finished = bulk (λ k g. times k r.finished ≡ over g) some Open (λ k e. w.finished k ∙ ap over (f.held k e)) (λ k _. w.finished k);
-    fits = fits_put fate (λ k. if some k then Open else fate k) ps p (record (party_of ps p) { taken = no_set })
-        record {
-          held = λ k h. absurd cc;
-          holds = bulk (λ j g. g ≡ Held p → false ≡ true) some Open (λ j e h. absurd cc) (λ j e h. let a = f.holds j h in absurd cc);
-          ran = λ k h. bulk (λ j g. (party_of ps p).running ≡ Some j → g ≡ Ran p) some Open
-              (λ j e t. let a = f.ran j t in let b = f.held j e in absurd cc) (λ j _. f.ran j) k h;
-          runs = bulk (λ j g. g ≡ Ran p → (party_of ps p).running ≡ Some j) some Open (λ j e h. absurd cc) (λ j _. f.runs j);
-          within = bulk (λ j g. (g ≡ Held p) ⊎ (g ≡ Ran p) → (party_of ps p).status ≡ In) some Open
-              (λ j e. ⊎_elim (λ h. absurd cc) (λ h. absurd cc)) (λ j _. f.within j);
-        }
-        (spared_bulk some Open
-        (λ k q e other. let a = f.held k e in (((λ h. let b : p ≡ q = cc in other (sym b)), (λ h. cc)), ((λ h. cc), (λ h. cc))))) w.fits;
-    below = bulk (λ k g. g ≢ Open → k < r.jobs) some Open (λ k e h. absurd (h refl)) (λ k _. w.below k);
-    stops = w.stops;
-    saw = w.saw;
-  }
+  put_back_work = let f = w.fits p in let some : ℕ → Bool = (party_of ps p).taken in bulk_work some Open (record (party_of ps p) { taken = no_set })
+      (λ k e. ap started (f.held k e)) (λ k e. ap over (f.held k e))
+      record {
+        held = λ k h. absurd cc;
+        holds = bulk (λ j g. g ≡ Held p → false ≡ true) some Open (λ j e h. absurd cc) (λ j e h. let a = f.holds j h in absurd cc);
+        ran = λ k h. bulk (λ j g. (party_of ps p).running ≡ Some j → g ≡ Ran p) some Open
+            (λ j e t. let a = f.ran j t in let b = f.held j e in absurd cc) (λ j _. f.ran j) k h;
+        runs = bulk (λ j g. g ≡ Ran p → (party_of ps p).running ≡ Some j) some Open (λ j e h. absurd cc) (λ j _. f.runs j);
+        within = bulk (λ j g. (g ≡ Held p) ⊎ (g ≡ Ran p) → (party_of ps p).status ≡ In) some Open
+            (λ j e. ⊎_elim (λ h. absurd cc) (λ h. absurd cc)) (λ j _. f.within j);
+      }
+      (λ k q e other. let a = f.held k e in (((λ h. let b : p ≡ q = cc in other (sym b)), (λ h. cc)), ((λ h. cc), (λ h. cc)))) (λ k e h. absurd (h refl))
 
   -- the round is stopped, or the party sees that it is
   pub see_work : (st : Bool) → (r.stopped ≡ true → st ≡ true)
       → (st ≡ true → (r.stoppable ≡ true) × (0 < r.jobs)) → st ≡ true → Work fate (record r { stopped = st; seen = put r.seen p true }) ps
   see_work st more ok on = record { begun = w.begun; finished = w.finished; fits = w.fits; below = w.below; stops = ok; saw = λ q h. on }
 
+-- no party has a number, and none was begun
+pub open_work : (qs : List Party) → ((q : ℕ) → ((k : ℕ) → (party_of qs q).taken k ≡ false) × ((party_of qs q).running ≡ None)) → Work (λ _. Open) blank qs
+open_work qs idle = record {
+  begun = λ _. refl;
+  finished = λ _. refl;
+  fits = λ q. let i = idle q in record {
+    held = λ k t. let a = i.0 k in absurd cc;
+    holds = λ k t. absurd cc;
+    ran = λ k t. let a = i.1 in absurd cc;
+    runs = λ k t. absurd cc;
+    within = λ k. ⊎_elim (λ t. absurd cc) (λ t. absurd cc);
+  };
+  below = λ k n. absurd (n refl);
+  stops = λ e. absurd cc;
+  saw = λ q e. absurd cc;
+}
+
 open_or : (f : Fate) → (f ≡ Open) ⊎ (f ≢ Open)
 open_or Open = inl refl
-open_or (Held p) = inr (λ e. cc)
-open_or (Ran p) = inr (λ e. cc)
-open_or Done = inr (λ e. cc)
+open_or f = inr (λ e. cc)
 
 module _ (fate : ℕ → Fate) (r : Round) (ps : List Party) (w : Work fate r ps) where
   -- with no party in it each number is open or done
@@ -275,24 +256,6 @@ module _ (fate : ℕ → Fate) (r : Round) (ps : List Party) (w : Work fate r ps
     below = λ k some. ⊎_elim (λ e. let a = w.begun k in let b = ap started e in absurd (omega arith)) (λ e. w.below k (λ o. cc)) (settled none_in k);
     full = λ going k lt. ⊎_elim (λ all. ⊎_elim (λ e. absurd (all k lt e)) (λ e. w.begun k ∙ ap started e) (settled none_in k)) (λ st. absurd cc) spent;
     stops = λ e. (w.stops e).0;
-  }
-
-  -- the next round, for the same parties with other statuses
-  pub restarts : ((q : ℕ) → (party_of ps q).status ≢ In)
-      → (qs : List Party) → ((q : ℕ) → (t : Status) × (party_of qs q ≡ with_status t (party_of ps q))) → Work (λ _. Open) blank qs
-  restarts none_in qs as_before = record {
-    begun = λ _. refl;
-    finished = λ _. refl;
-    fits = λ q. let e = (as_before q).1 in record {
-      held = λ k t. absurd (none_in q ((w.fits q).within k (inl ((w.fits q).held k (sym (ap (λ (x : Party). x.taken k) e) ∙ t)))));
-      holds = λ k t. absurd cc;
-      ran = λ k t. absurd (none_in q ((w.fits q).within k (inr ((w.fits q).ran k (sym (ap (λ (x : Party). x.running) e) ∙ t)))));
-      runs = λ k t. absurd cc;
-      within = λ k. ⊎_elim (λ t. absurd cc) (λ t. absurd cc);
-    };
-    below = λ k n. absurd (n refl);
-    stops = λ e. absurd cc;
-    saw = λ q e. absurd cc;
   }
 
   pub none_begun : r.jobs ≡ 0 → (k : ℕ) → fate k ≡ Open
@@ -317,17 +280,18 @@ module _ (fate : ℕ → Fate) (r : Round) (ps : List Party) (w : Work fate r ps
       go (Ran q) e = let a = w.begun k in let b = ap started e in absurd (omega arith)
       go Done e = let a = w.begun k in let b = ap started e in absurd (omega arith)
 
-  pub not_true : (b : Bool) → (b ≡ true → ⊥) → b ≡ false
-  not_true true n = absurd (n refl)
-  not_true false n = refl
-
   pub open_is_free : (k : ℕ) → fate k ≡ Open → (times k r.begun ≡ 0) × ((p : ℕ) → (party_of ps p).taken k ≡ false)
   open_is_free k e = (w.begun k ∙ ap started e, λ p. not_true ((party_of ps p).taken k) (λ t. let a = (w.fits p).held k t in cc))
 
   -- who is not in has nothing
   pub idle_out : (p : ℕ) → (party_of ps p).status ≢ In → ((k : ℕ) → (party_of ps p).taken k ≡ false) × ((party_of ps p).running ≡ None)
-  idle_out p n = ((λ k. not_true ((party_of ps p).taken k) (λ t. n ((w.fits p).within k (inl ((w.fits p).held k t))))), go (party_of ps p).running refl)
-    where
-      go : (o : Option ℕ) → (party_of ps p).running ≡ o → (party_of ps p).running ≡ None
-      go None e = e
-      go (Some k) e = absurd (n ((w.fits p).within k (inr ((w.fits p).ran k e))))
+  idle_out p n = (
+    (λ k. not_true ((party_of ps p).taken k) (λ t. n ((w.fits p).within k (inl ((w.fits p).held k t))))),
+    by_option (party_of ps p).running (λ e. e) (λ k e. absurd (n ((w.fits p).within k (inr ((w.fits p).ran k e))))),
+  )
+
+  -- the next round, for the same parties with other statuses
+  pub restarts : ((q : ℕ) → (party_of ps q).status ≢ In)
+      → (qs : List Party) → ((q : ℕ) → (t : Status) × (party_of qs q ≡ with_status t (party_of ps q))) → Work (λ _. Open) blank qs
+  restarts none_in qs as_before = open_work qs
+      (λ q. subst (λ (x : Party). ((k : ℕ) → x.taken k ≡ false) × (x.running ≡ None)) (sym (as_before q).1) (idle_out q (none_in q)))
