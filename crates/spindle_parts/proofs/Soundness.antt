@@ -8,10 +8,10 @@ use Rattle.spindle_parts.specs.State.{weight_in, weight_member, inside, members,
 use Rattle.spindle_parts.specs.Steps.{with_status, Allowed, IsIdle, after, arrived, publish, ended_by, Event, Join, Publish, PublishTry, Take, Begin, Finish}
 use Rattle.spindle_parts.specs.Steps.{Stop, See, PutBack, Arrive, Leave, Exit, Clear, End}
 use Rattle.spindle_parts.specs.Runs.{state, IsRun, IsOnce}
-use Rattle.spindle_parts.proofs.Parties.{moved, with_parties, next_round, put_here, put_else, put_all, put_again, look_here, look_else, total_put, total_at}
+use Rattle.spindle_parts.proofs.Parties.{by_zero, by_option, moved, with_parties, next_round, put_here, put_else, put_all, put_again, look_here, look_else, total_put, total_at}
 use Rattle.spindle_parts.proofs.Parties.{inside_le_members, look_wake, inside_wake, members_wake}
 use Rattle.spindle_parts.proofs.Fates.{Fate, Open, Held, Ran, Done, started, over, Work, status_work, begin_work, finish_work, take_work, put_back_work}
-use Rattle.spindle_parts.proofs.Fates.{see_work, completes, restarts, publish_work, free_is_open, open_is_free, idle_out, Complete}
+use Rattle.spindle_parts.proofs.Fates.{see_work, completes, restarts, publish_work, free_is_open, open_is_free, idle_out, open_work, Complete}
 
 pub record Gate (closer published : Option ℕ) (i m jobs : ℕ) (leader : Status) : Type 0 where
   pub closing : (c : ℕ) → closer ≡ Some c → (i ≡ 0) × (0 < m)
@@ -20,6 +20,10 @@ pub record Gate (closer published : Option ℕ) (i m jobs : ℕ) (leader : Statu
   pub shown : (n : ℕ) → published ≡ Some n → (jobs ≡ n) × (2 ≤ n) × (n ≤ 4294967295)
   pub hidden : published ≡ None → closer ≡ None → jobs ≡ 0
   pub led : 0 < jobs → leader ≢ Out
+
+gate : {c o : Option ℕ} {i m jobs : ℕ} {t : Status} → ((q : ℕ) → c ≡ Some q → (i ≡ 0) × (0 < m)) → (c ≡ None → 0 < m → 0 < i) → m ≤ 32767
+    → ((n : ℕ) → o ≡ Some n → (jobs ≡ n) × (2 ≤ n) × (n ≤ 4294967295)) → (o ≡ None → c ≡ None → jobs ≡ 0) → (0 < jobs → t ≢ Out) → Gate c o i m jobs t
+gate closing going few shown hidden led = record { closing = closing; going = going; few = few; shown = shown; hidden = hidden; led = led }
 
 abbrev pub Used : (ℕ → Fate) → ℕ → Bool → Type 0
 Used fate jobs stopped = ((k : ℕ) → k < jobs → fate k ≢ Open) ⊎ (stopped ≡ true)
@@ -48,21 +52,27 @@ module _ (s : State) (h : Sound s) (p : ℕ) where
       ∙ (ap (λ (z : Party). z.status) (look_here s.parties p y) ∙ (e ∙ ap (λ (z : ℕ). (party s z).status) (sym i))))
       (λ n. ap (λ (z : Party). z.status) (look_else s.parties p y q n))
 
+  -- the round's record becomes r
+  round_step : (r : Round) (ps : List Party) (o : Option ℕ) (g : ℕ → Fate) → Work g r ps
+      → Gate s.closer o (inside ps) (members ps) r.jobs (party_of ps 0).status → Spent g r.jobs r.stopped (party_of ps 0).status
+      → Sound (record { round = s.round; parties = ps; closer = s.closer; published = o; rounds = put s.rounds s.round r })
+  round_step r ps o g w gate spent = let is = sym (put_here s.rounds s.round r) in record {
+    fate = g;
+    work = subst (λ (z : Round). Work g z ps) is w;
+    gate = subst (λ (z : Round). Gate s.closer o (inside ps) (members ps) z.jobs (party_of ps 0).status) is gate;
+    spent = subst (λ (z : Round). Spent g z.jobs z.stopped (party_of ps 0).status) is spent;
+    later = λ q lt. put_else s.rounds s.round r q (λ e. omega arith) ∙ h.later q lt;
+    ended = λ q lt. subst Complete (sym (put_else s.rounds s.round r q (λ e. omega arith))) (h.ended q lt);
+  }
+
   -- a step in the work, to the round r and the fates g
   work_step : (r : Round) (ps : List Party) (g : ℕ → Fate) → inside ps ≡ inside s.parties
       → members ps ≡ members s.parties → (party_of ps 0).status ≡ (party s 0).status → r.jobs ≡ (now s).jobs → ((now s).stopped ≡ true → r.stopped ≡ true)
       → ((k : ℕ) → h.fate k ≢ Open → g k ≢ Open) ⊎ (r.stopped ≡ true) → Work g r ps → Sound (with_parties s ps s.closer (put s.rounds s.round r))
-  work_step r ps g ins mem led jobs stopped grows w = let now_is : put s.rounds s.round r s.round ≡ r = put_here s.rounds s.round r in record {
-    fate = g;
-    work = subst (λ (z : Round). Work g z ps) (sym now_is) w;
-    gate = subst (λ (z : ℕ × ℕ × ℕ × Status). Gate s.closer s.published z.0 z.1 z.2 z.3)
-        (λ i. (sym ins i, sym mem i, sym (ap (λ (z : Round). z.jobs) now_is ∙ jobs) i, sym led i)) h.gate;
-    spent = subst (λ (z : Round × Status). Spent g z.0.jobs z.0.stopped z.1) (λ i. (sym now_is i, sym led i))
-        (λ some at. ⊎_elim (λ a. ⊎_elim (λ b. inl (λ k lt. b k (a k (let c = jobs in omega arith)))) inr grows)
-        (λ a. inr (stopped a)) (h.spent (let c = jobs in omega arith) at));
-    later = λ q lt. put_else s.rounds s.round r q (λ e. omega arith) ∙ h.later q lt;
-    ended = λ q lt. subst Complete (sym (put_else s.rounds s.round r q (λ e. omega arith))) (h.ended q lt);
-  }
+  work_step r ps g ins mem led jobs stopped grows w = round_step r ps s.published g w
+      (subst (λ (z : ℕ × ℕ × ℕ × Status). Gate s.closer s.published z.0 z.1 z.2 z.3) (λ i. (sym ins i, sym mem i, sym jobs i, sym led i)) h.gate)
+      (subst (Spent g r.jobs r.stopped) (sym led) (λ some at. ⊎_elim (λ a. ⊎_elim (λ b. inl (λ k lt. b k (a k (omega arith)))) inr grows)
+      (λ a. inr (stopped a)) (h.spent (omega arith) at)))
 
   -- the same for one party, which keeps its status
   party_step : (r : Round) (y : Party) (g : ℕ → Fate) → y.status ≡ (party s p).status → r.jobs ≡ (now s).jobs
@@ -76,101 +86,82 @@ module _ (s : State) (h : Sound s) (p : ℕ) where
   lone_step y g st grows w = subst (λ (z : ℕ → Round). Sound (with_parties s (put_party s.parties p y) s.closer z)) (put_again s.rounds s.round)
       (party_step (now s) y g st refl (λ a. a) grows w)
 
-  counts : (t : Status) → (inside (moved s p t) + is_in (party s p).status ≡ inside s.parties + is_in t)
-      × (members (moved s p t) + is_member (party s p).status ≡ members s.parties + is_member t)
-  counts t = (total_put weight_in refl s.parties p (with_status t (party s p)), total_put weight_member refl s.parties p (with_status t (party s p)))
+  counts : (t u : Status) → (party s p).status ≡ u
+      → (inside (moved s p t) + is_in u ≡ inside s.parties + is_in t) × (members (moved s p t) + is_member u ≡ members s.parties + is_member t)
+  counts t u e = let a = ap is_in e in let b = ap is_member e in let c₀ = total_put weight_in refl s.parties p (with_status t (party s p)) in
+      let c₁ = total_put weight_member refl s.parties p (with_status t (party s p)) in (omega arith, omega arith)
 
   leads : (P : Status → Type 0) (t : Status) → (p ≡ 0 → P t) → (p ≢ 0 → P (party s 0).status) → P (party_of (moved s p t) 0).status
   leads P t mine other = dite (ℕ_discrete p 0) (λ e. subst (λ (z : ℕ). P (party_of (moved s p t) z).status) e
       (subst (λ (z : Party). P z.status) (sym (look_here s.parties p (with_status t (party s p)))) (mine e)))
       (λ n. subst (λ (z : Party). P z.status) (sym (look_else s.parties p (with_status t (party s p)) 0 (λ e. n (sym e)))) (other n))
 
-  status_step : (t : Status) (c : Option ℕ)
-      → (t ≡ In) ⊎ IsIdle s p → Gate c s.published (inside (moved s p t)) (members (moved s p t)) (now s).jobs (party_of (moved s p t) 0).status
-      → Spent h.fate (now s).jobs (now s).stopped (party_of (moved s p t) 0).status
-      → Sound (with_parties s (moved s p t) c s.rounds)
-  status_step t c ok gate spent = record {
+  status_step : (t : Status) (c : Option ℕ) → (t ≡ In) ⊎ IsIdle s p → ((q : ℕ) → c ≡ Some q → (inside (moved s p t) ≡ 0) × (0 < members (moved s p t)))
+      → (c ≡ None → 0 < members (moved s p t) → 0 < inside (moved s p t)) → members (moved s p t) ≤ 32767
+      → (s.published ≡ None → c ≡ None → (now s).jobs ≡ 0) → (p ≡ 0 → 0 < (now s).jobs → t ≢ Out)
+      → (p ≡ 0 → 0 < (now s).jobs → t ≡ Arrived → Used h.fate (now s).jobs (now s).stopped) → Sound (with_parties s (moved s p t) c s.rounds)
+  status_step t c ok closing going few hidden led spent = record {
     fate = h.fate;
     work = status_work h.fate (now s) s.parties h.work p t ok;
-    gate = gate;
-    spent = spent;
+    gate = gate closing going few h.gate.shown hidden (λ some. leads (λ z. z ≢ Out) t (λ e. led e some) (λ _. h.gate.led some));
+    spent = λ some. leads (λ z. z ≡ Arrived → Used h.fate (now s).jobs (now s).stopped) t (λ e. spent e some) (λ _. h.spent some);
     later = h.later;
     ended = h.ended;
   }
 
   -- while a member is in there is no closer
   pub no_closer : (party s p).status ≡ In → s.closer ≡ None
-  no_closer e = go s.closer refl
-    where
-      go : (c : Option ℕ) → s.closer ≡ c → s.closer ≡ None
-      go None z = z
-      go (Some c) z = let a = (h.gate.closing c z).0 in let b = total_at weight_in refl s.parties p in let d = ap is_in e in absurd (omega arith)
+  no_closer e = by_option s.closer (λ z. z)
+      (λ c z. let a = (h.gate.closing c z).0 in let b = total_at weight_in refl s.parties p in let d = ap is_in e in absurd (omega arith))
 
   pub no_jobs : s.published ≡ None → s.closer ≡ None → (now s).jobs ≡ 0
   no_jobs = h.gate.hidden
 
+pub out_of : (t : Status) → is_member t ≡ 0 → t ≡ Out
+out_of Out z = refl
+out_of t z = absurd (omega arith)
+
+-- while the leader is out nothing is published
+pub hidden_out : (s : State) → Sound s → (party s 0).status ≡ Out → s.published ≡ None
+hidden_out s h out = by_option s.published (λ e. e)
+    (λ n e. let a = h.gate.shown n e in let a₀ = a.0 in let a₁ = a.1 in absurd (h.gate.led (omega arith) out))
+
+-- where the last member goes, nothing is published
+pub alone_hidden : (s : State) (h : Sound s) (p : ℕ)
+    → (party s p).status ≡ In → (p ≡ 0 → s.published ≡ None) → members (moved s p Out) ≡ 0 → s.published ≡ None
+alone_hidden s h p at_in fine z = dite (ℕ_discrete p 0) fine
+    (λ n. hidden_out s h (sym (ap (λ (x : Party). x.status) (look_else s.parties p (with_status Out (party s p)) 0 (λ e. n (sym e))))
+    ∙ out_of (party_of (moved s p Out) 0).status (let a = total_at weight_member refl (moved s p Out) 0 in omega arith)))
+
 joins : (s : State) → Sound s → (p : ℕ) → Allowed s (Join p) → Sound (after s (Join p))
-joins s h p ok = let c = counts s h p In in
-    let c₀ = c.0 in let c₁ = c.1 in let few = ok.2 in let was₀ = ap is_in ok.0 in let was₁ = ap is_member ok.0 in let g = h.gate in
-    status_step s h p In s.closer (inl refl) record {
-      closing = λ q e. let z = ok.1 in absurd cc;
-      going = λ _ _. omega arith;
-      few = omega arith;
-      shown = g.shown;
-      hidden = g.hidden;
-      led = λ some. leads s h p (λ z. z ≢ Out) In (λ _ e. cc) (λ _. g.led some);
-    }
-    (λ some. leads s h p (λ z. z ≡ Arrived → Used h.fate (now s).jobs (now s).stopped) In (λ _ e. absurd cc) (λ _. h.spent some))
+joins s h p ok = let c = counts s h p In Out ok.0 in let c₀ = c.0 in let c₁ = c.1 in let few = ok.2 in status_step s h p In s.closer (inl refl)
+    (λ q e. let z = ok.1 in absurd cc) (λ _ _. omega arith) (omega arith) h.gate.hidden (λ _ _ e. cc) (λ _ _ e. absurd cc)
 
 leaves : (s : State) → Sound s → (p : ℕ) → Allowed s (Leave p) → Sound (after s (Leave p))
-leaves s h p ok = let c = counts s h p Out in let c₀ = c.0 in let c₁ = c.1 in let was₀ = ap is_in ok.0 in
-    let was₁ = ap is_member ok.0 in let g = h.gate in let idle : IsIdle s p = idle_out h.fate (now s) s.parties h.work p (λ e. let z = ok.0 in cc) in
-    status_step s h p Out s.closer (inr idle) record {
-      closing = λ q e. let z = ok.1 in absurd cc;
-      going = λ n some. let a = g.going n (omega arith) in omega arith;
-      few = let a = g.few in omega arith;
-      shown = g.shown;
-      hidden = g.hidden;
-      led = λ some. leads s h p (λ z. z ≢ Out) Out (λ e. let z = no_jobs s h p (ok.2 e) ok.1 in absurd (omega arith)) (λ _. g.led some);
-    }
-    (λ some. leads s h p (λ z. z ≡ Arrived → Used h.fate (now s).jobs (now s).stopped) Out (λ _ e. absurd cc) (λ _. h.spent some))
+leaves s h p ok = let c = counts s h p Out Arrived ok.0 in let c₀ = c.0 in let c₁ = c.1 in let few = h.gate.few in
+    status_step s h p Out s.closer (inr (idle_out h.fate (now s) s.parties h.work p (λ e. let z = ok.0 in cc))) (λ q e. let z = ok.1 in absurd cc)
+    (λ n some. let a = h.gate.going n (omega arith) in omega arith) (omega arith) h.gate.hidden
+    (λ e some. let z = no_jobs s h p (ok.2 e) ok.1 in absurd (omega arith)) (λ _ _ e. absurd cc)
 
 -- where a test of the count decides the closer
 pub closers : (P : Option ℕ → Type 0) (i p : ℕ) (c : Option ℕ) → (i ≡ 0 → P (Some p)) → (i ≢ 0 → P c) → P (if i == 0 then Some p else c)
 closers P i p c none_in some_in = dite (ℕ_discrete i 0) (λ e. subst (λ (b : Bool). P (if b then Some p else c)) (sym (eq-eqb i 0 e)) (none_in e))
     (λ n. subst (λ (b : Bool). P (if b then Some p else c)) (sym (ne_eqb i 0 n)) (some_in n))
 
-arrives : (s : State) → Sound s → (p : ℕ) → Allowed s (Arrive p) → Sound (after s (Arrive p))
-arrives s h p ok = let c = counts s h p Arrived in
-    let c₀ = c.0 in let c₁ = c.1 in let was₀ = ap is_in ok.0 in let was₁ = ap is_member ok.0 in let g = h.gate in let open_now = no_closer s h p ok.0 in
-    closers (λ z. Sound (with_parties s (moved s p Arrived) z s.rounds)) (inside (moved s p Arrived)) p s.closer
-    (λ none_in. let m = total_at weight_member refl s.parties p in status_step s h p Arrived (Some p) (inr ok.1) record {
-      closing = λ q e. (none_in, omega arith);
-      going = λ e. absurd cc;
-      few = let a = g.few in omega arith;
-      shown = g.shown;
-      hidden = λ _ e. absurd cc;
-      led = λ some. leads s h p (λ z. z ≢ Out) Arrived (λ _ e. cc) (λ _. g.led some);
-    } used)
-    (λ some_in. status_step s h p Arrived s.closer (inr ok.1) record {
-      closing = λ q e. absurd cc;
-      going = λ _ _. omega arith;
-      few = let a = g.few in omega arith;
-      shown = g.shown;
-      hidden = g.hidden;
-      led = λ some. leads s h p (λ z. z ≢ Out) Arrived (λ _ e. cc) (λ _. g.led some);
-    } used)
-  where
-    used : Spent h.fate (now s).jobs (now s).stopped (party_of (moved s p Arrived) 0).status
-    used some = leads s h p (λ z. z ≡ Arrived → Used h.fate (now s).jobs (now s).stopped) Arrived
-        (λ _ _. ⊎_elim (λ (n : (k : ℕ) → Free s k → ⊥). inl
-        (λ k lt e. n k (lt, (open_is_free h.fate (now s) s.parties h.work k e).0, (open_is_free h.fate (now s) s.parties h.work k e).1))) inr
-        (ok.2 (λ e. let z = no_jobs s h p e (no_closer s h p ok.0) in absurd (omega arith)))) (λ _. h.spent some)
+-- who was in goes, and a member is left
+goes : (s : State) (h : Sound s) (p : ℕ) (t : Status) → (party s p).status ≡ In → is_member t ≤ 1 → IsIdle s p → 0 < members (moved s p t)
+    → (p ≡ 0 → 0 < (now s).jobs → t ≢ Out) → (p ≡ 0 → 0 < (now s).jobs → t ≡ Arrived → Used h.fate (now s).jobs (now s).stopped)
+    → Sound (arrived s p (moved s p t))
+goes s h p t at_in one idle left led spent = let c = counts s h p t In at_in in let c₁ = c.1 in let few = h.gate.few in let open_now = no_closer s h p at_in in
+    closers (λ z. Sound (with_parties s (moved s p t) z s.rounds)) (inside (moved s p t)) p s.closer
+    (λ none_in. status_step s h p t (Some p) (inr idle) (λ q e. (none_in, left)) (λ e. absurd cc) (omega arith) (λ _ e. absurd cc) led spent)
+    (λ some_in. status_step s h p t s.closer (inr idle) (λ q e. absurd cc) (λ _ _. omega arith) (omega arith) h.gate.hidden led spent)
 
-pub out_of : (t : Status) → is_member t ≡ 0 → t ≡ Out
-out_of Out z = refl
-out_of In z = absurd (omega arith)
-out_of Arrived z = absurd (omega arith)
+arrives : (s : State) → Sound s → (p : ℕ) → Allowed s (Arrive p) → Sound (after s (Arrive p))
+arrives s h p ok = let c = counts s h p Arrived In ok.0 in let c₁ = c.1 in let b = ap is_member ok.0 in let m = total_at weight_member refl s.parties p in
+    goes s h p Arrived ok.0 (omega arith) ok.1 (omega arith) (λ _ _ e. cc) (λ _ some _. ⊎_elim (λ (n : (k : ℕ) → Free s k → ⊥). inl
+    (λ k lt e. n k (lt, (open_is_free h.fate (now s) s.parties h.work k e).0, (open_is_free h.fate (now s) s.parties h.work k e).1))) inr
+    (ok.2 (λ e. let z = no_jobs s h p e (no_closer s h p ok.0) in absurd (omega arith))))
 
 arrived_of : (t : Status) → t ≢ Out → t ≢ In → t ≡ Arrived
 arrived_of Out a b = absurd (a refl)
@@ -188,14 +179,8 @@ ends : (s : State) (h : Sound s) (ps qs : List Party) → Work h.fate (now s) ps
 ends s h ps qs w z used same going few hidden = let next : s.rounds (s.round + 1) ≡ blank = h.later (s.round + 1) (omega arith) in record {
   fate = λ _. Open;
   work = subst (λ (r : Round). Work (λ _. Open) r qs) (sym next) (restarts h.fate (now s) ps w (none_in ps z) qs same);
-  gate = subst (λ (r : Round). Gate None s.published (inside qs) (members qs) r.jobs (party_of qs 0).status) (sym next) record {
-    closing = λ q e. absurd cc;
-    going = λ _. going;
-    few = few;
-    shown = λ n e. absurd cc;
-    hidden = λ _ _. refl;
-    led = λ lt. absurd (omega arith);
-  };
+  gate = subst (λ (r : Round). Gate None s.published (inside qs) (members qs) r.jobs (party_of qs 0).status) (sym next)
+      (gate (λ q e. absurd cc) (λ _. going) few (λ n e. absurd cc) (λ _ _. refl) (λ lt. absurd (omega arith)));
   spent = subst (λ (r : Round). Spent (λ _. Open) r.jobs r.stopped (party_of qs 0).status) (sym next) (λ lt. absurd (omega arith));
   later = λ q lt. h.later q (omega arith);
   ended = λ q lt. dite (ℕ_discrete q s.round)
@@ -203,48 +188,15 @@ ends s h ps qs w z used same going few hidden = let next : s.rounds (s.round + 1
 }
 
 exits : (s : State) → Sound s → (p : ℕ) → Allowed s (Exit p) → Sound (after s (Exit p))
-exits s h p ok = let c = counts s h p Out in let c₀ = c.0 in let c₁ = c.1 in let was₀ = ap is_in ok.0 in
-    let was₁ = ap is_member ok.0 in let g = h.gate in let open_now = no_closer s h p ok.0 in let ps : List Party = moved s p Out in
-    dite (ℕ_discrete (members ps) 0)
-    (λ none_left. subst (λ (b : Bool). Sound (if b then next_round s ps s.closer else arrived s p ps)) (sym (eq-eqb (members ps) 0 none_left))
-    (let z = no_jobs_left none_left in let few = inside_le_members ps in subst (λ (d : Option ℕ). Sound (next_round s ps d)) (sym open_now)
+exits s h p ok = let c = counts s h p Out In ok.0 in let c₁ = c.1 in let few = h.gate.few in let open_now = no_closer s h p ok.0 in
+    let ps : List Party = moved s p Out in let le = inside_le_members ps in
+    by_zero (λ b. Sound (if b then next_round s ps s.closer else arrived s p ps)) (members ps)
+    (λ none_left. let hidden = alone_hidden s h p ok.0 ok.2 none_left in let z = no_jobs s h p hidden open_now in
+    subst (λ (d : Option ℕ). Sound (next_round s ps d)) (sym open_now)
     (ends s h ps ps (status_work h.fate (now s) s.parties h.work p Out (inr ok.1)) (omega arith) (inl (λ k lt. absurd (omega arith)))
-    (λ q. ((party_of ps q).status, refl)) (λ lt. absurd (omega arith)) (omega arith) (hidden z))))
-    (λ some_left. subst (λ (b : Bool). Sound (if b then next_round s ps s.closer else arrived s p ps)) (sym (ne_eqb (members ps) 0 some_left))
-    (closers (λ z. Sound (with_parties s ps z s.rounds)) (inside ps) p s.closer
-    (λ none_in. status_step s h p Out (Some p) (inr ok.1) record {
-      closing = λ q e. (none_in, omega arith);
-      going = λ e. absurd cc;
-      few = let a = g.few in omega arith;
-      shown = g.shown;
-      hidden = λ _ e. absurd cc;
-      led = led;
-    } used)
-    (λ some_in. status_step s h p Out s.closer (inr ok.1) record {
-      closing = λ q e. absurd cc;
-      going = λ _ _. omega arith;
-      few = let a = g.few in omega arith;
-      shown = g.shown;
-      hidden = g.hidden;
-      led = led;
-    } used)))
-  where
-    led : 0 < (now s).jobs → (party_of (moved s p Out) 0).status ≢ Out
-    led some = leads s h p (λ z. z ≢ Out) Out (λ e. let z = no_jobs s h p (ok.2 e) (no_closer s h p ok.0) in absurd (omega arith)) (λ _. h.gate.led some)
-
-    used : Spent h.fate (now s).jobs (now s).stopped (party_of (moved s p Out) 0).status
-    used some = leads s h p (λ z. z ≡ Arrived → Used h.fate (now s).jobs (now s).stopped) Out (λ _ e. absurd cc) (λ _. h.spent some)
-
-    no_jobs_left : members (moved s p Out) ≡ 0 → (now s).jobs ≡ 0
-    no_jobs_left z = dite (ℕ_discrete (now s).jobs 0) (λ e. e) (λ n. absurd
-        (led (omega arith) (out_of (party_of (moved s p Out) 0).status (let a = total_at weight_member refl (moved s p Out) 0 in omega arith))))
-
-    hidden : (now s).jobs ≡ 0 → s.published ≡ None
-    hidden z = go s.published refl
-      where
-        go : (o : Option ℕ) → s.published ≡ o → s.published ≡ None
-        go None e = e
-        go (Some n) e = let a = h.gate.shown n e in let a₀ = a.0 in let a₁ = a.1 in absurd (omega arith)
+    (λ q. ((party_of ps q).status, refl)) (λ lt. absurd (omega arith)) (omega arith) hidden))
+    (λ some_left. goes s h p Out ok.0 (omega arith) ok.1 (omega arith)
+    (λ e some. let z = no_jobs s h p (ok.2 e) open_now in absurd (omega arith)) (λ _ _ e. absurd cc))
 
 closes : (s : State) → Sound s → (p : ℕ) → Allowed s (End p) → Sound (after s (End p))
 closes s h p ok = let g = h.gate in let c = g.closing p ok.0 in
@@ -255,32 +207,15 @@ closes s h p ok = let g = h.gate in let c = g.closing p ok.0 in
     (let b = members_wake s.parties in let d = g.few in omega arith) ok.1
 
 publishes : (s : State) → Sound s → (b : Bool) (n : ℕ) → (party s 0).status ≡ In → s.published ≡ None → 2 ≤ n → n ≤ 4294967295 → Sound (publish s b n)
-publishes s h b n at_in hidden low high = let g = h.gate in let z = no_jobs s h 0 hidden (no_closer s h 0 at_in) in
-    let r : Round = record (now s) { jobs = n; stoppable = b } in let now_is : put s.rounds s.round r s.round ≡ r = put_here s.rounds s.round r in record {
-      fate = h.fate;
-      work = subst (λ (x : Round). Work h.fate x s.parties) (sym now_is) (publish_work h.fate (now s) s.parties h.work b n z);
-      gate = subst (λ (x : Round). Gate s.closer (Some n) (inside s.parties) (members s.parties) x.jobs (party s 0).status) (sym now_is) record {
-        closing = g.closing;
-        going = g.going;
-        few = g.few;
-        shown = λ k e. let a : n ≡ k = cc in (a, omega arith, omega arith);
-        hidden = λ e. absurd cc;
-        led = λ _ e. cc;
-      };
-      spent = subst (λ (x : Round). Spent h.fate x.jobs x.stopped (party s 0).status) (sym now_is) (λ _ e. absurd cc);
-      later = λ q lt. put_else s.rounds s.round r q (λ e. omega arith) ∙ h.later q lt;
-      ended = λ q lt. subst Complete (sym (put_else s.rounds s.round r q (λ e. omega arith))) (h.ended q lt);
-    }
+publishes s h b n at_in hidden low high = let g = h.gate in
+    round_step s h 0 (record (now s) { jobs = n; stoppable = b }) s.parties (Some n) h.fate
+    (publish_work h.fate (now s) s.parties h.work b n (no_jobs s h 0 hidden (no_closer s h 0 at_in)))
+    (gate g.closing g.going g.few (λ k e. let a : n ≡ k = cc in (a, omega arith, omega arith)) (λ e. absurd cc) (λ _ e. cc)) (λ _ e. absurd cc)
 
-clears : (s : State) → Sound s → (p : ℕ) → s.closer ≡ Some p → Sound (after s (Clear p))
-clears s h p is = let g = h.gate in record {
-  fate = h.fate;
-  work = h.work;
-  gate = record { closing = g.closing; going = g.going; few = g.few; shown = λ n e. absurd cc; hidden = λ _ e. absurd cc; led = g.led };
-  spent = h.spent;
-  later = h.later;
-  ended = h.ended;
-}
+clears : (s : State) (h : Sound s) (p : ℕ) → s.closer ≡ Some p → Sound (after s (Clear p))
+clears s h p is = let g = h.gate in let shut : Gate s.closer None (inside s.parties) (members s.parties) (now s).jobs (party s 0).status =
+    gate g.closing g.going g.few (λ n e. absurd cc) (λ _ e. absurd cc) g.led in
+    record { fate = h.fate; work = h.work; gate = shut; spent = h.spent; later = h.later; ended = h.ended }
 
 pick_open : (b : Bool) (p : ℕ) (f : Fate) → f ≢ Open → (if b then Held p else f) ≢ Open
 pick_open true p f n e = cc
@@ -319,28 +254,8 @@ kept s (End p) h ok = closes s h p ok
 pub starts : Sound fresh
 starts = record {
   fate = λ _. Open;
-  work = record {
-    begun = λ _. refl;
-    finished = λ _. refl;
-    fits = λ q. record {
-      held = λ k e. absurd cc;
-      holds = λ k e. absurd cc;
-      ran = λ k e. absurd cc;
-      runs = λ k e. absurd cc;
-      within = λ k. ⊎_elim (λ t. absurd cc) (λ t. absurd cc);
-    };
-    below = λ k n. absurd (n refl);
-    stops = λ e. absurd cc;
-    saw = λ q e. absurd cc;
-  };
-  gate = record {
-    closing = λ c e. absurd cc;
-    going = λ _ lt. absurd (omega arith);
-    few = omega arith;
-    shown = λ n e. absurd cc;
-    hidden = λ _ _. refl;
-    led = λ lt. absurd (omega arith);
-  };
+  work = open_work [] (λ q. ((λ k. refl), refl));
+  gate = gate (λ c e. absurd cc) (λ _ lt. absurd (omega arith)) (omega arith) (λ n e. absurd cc) (λ _ _. refl) (λ lt. absurd (omega arith));
   spent = λ lt. absurd (omega arith);
   later = λ _ _. refl;
   ended = λ q lt. absurd (omega arith);
@@ -360,27 +275,10 @@ once s h q k = dite (ℕ_discrete q s.round)
   where
     weights : (f : Fate) → (started f ≤ 1) × (over f ≤ started f)
     weights Open = (omega arith, omega arith)
-    weights (Held p) = (omega arith, omega arith)
-    weights (Ran p) = (omega arith, omega arith)
-    weights Done = (omega arith, omega arith)
+    weights f = (omega arith, omega arith)
 
     apart : (a b : ℕ) → a ≢ b → (a < b) ⊎ (b < a)
     apart a b n = dite (dec_le a b) (λ le. inl (omega arith)) (λ no. inr (omega arith))
 
 pub run_once : (es : List Event) → IsRun es → IsOnce (state es)
 run_once es r = once (state es) (sound es r)
-
--- while the leader is out nothing is published
-pub hidden_out : (s : State) → Sound s → (party s 0).status ≡ Out → s.published ≡ None
-hidden_out s h out = go s.published refl
-  where
-    go : (o : Option ℕ) → s.published ≡ o → s.published ≡ None
-    go None e = e
-    go (Some n) e = let a = h.gate.shown n e in let a₀ = a.0 in let a₁ = a.1 in absurd (h.gate.led (omega arith) out)
-
--- where the last member goes, nothing is published
-pub alone_hidden : (s : State) (h : Sound s) (p : ℕ)
-    → (party s p).status ≡ In → (p ≡ 0 → s.published ≡ None) → members (moved s p Out) ≡ 0 → s.published ≡ None
-alone_hidden s h p at_in fine z = dite (ℕ_discrete p 0) fine
-    (λ n. hidden_out s h (sym (ap (λ (x : Party). x.status) (look_else s.parties p (with_status Out (party s p)) 0 (λ e. n (sym e))))
-    ∙ out_of (party_of (moved s p Out) 0).status (let a = total_at weight_member refl (moved s p Out) 0 in omega arith)))
