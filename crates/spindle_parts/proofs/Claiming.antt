@@ -1,16 +1,16 @@
 -- The machine shows the state after a publish and after a claim.
-use Rattle.std.proofs.Common.{◌≡◌, ◌≢◌, ℕ, ◌+◌, ◌*◌, ◌-◌, ◌/◌, ◌%◌, ◌<◌, ◌≤◌, Bool, true, false, ◌||◌, eq-eqb, ne_eqb, List, [], ◌∷◌, ◌++◌, length, get_or, set}
-use Rattle.std.proofs.Common.{replicate, sym, refl, ap, ◌∙◌, subst, arith, Option, Some, None, unwrap_or, get_or-set_same, get_or-set_other}
+use Rattle.std.proofs.Common.{◌≡◌, ◌≢◌, ℕ, ◌+◌, ◌*◌, ◌-◌, ◌/◌, ◌%◌, ◌<◌, Bool, true, false, ◌||◌, eq-eqb, ne_eqb, List, [], ◌∷◌, ◌++◌, length, get_or, set, sym}
+use Rattle.std.proofs.Common.{replicate, refl, ap, ◌∙◌, subst, arith, Option, Some, unwrap_or, get_or-set_same, get_or-set_other}
 use mathlib.Core.Logic.{dite}
 use native.Mathlib.Decide.{ℕ_discrete}
 use Rattle.std.proofs.lemmas.Nat.{div-add-mod'}
 use Rattle.std.proofs.lemmas.List.{length-set, length-replicate, get_or-replicate}
-use Rattle.spindle_parts.specs.State.{In, Party, Round, State, put, times, now, party, Free}
-use Rattle.spindle_parts.specs.Steps.{Allowed, after, publish, Take, Begin}
+use Rattle.spindle_parts.specs.State.{Party, Round, State, put, times, now, party, Free}
+use Rattle.spindle_parts.specs.Steps.{IsPublishable, Allowed, after, publish, Take, Begin}
 use Rattle.spindle_parts.specs.Machine.{Configuration, counter, own, claimed, rested, publishing, effect}
 use Rattle.spindle_parts.specs.EverySchedule.{Shows, StandsFor, MayBegin, only}
 use Rattle.spindle_parts.specs.declared.steps.Step.TheVariants.{Claim, Rest}
-use Rattle.spindle_parts.proofs.Parties.{put_all, put_here, look_here, look_else, times_same, times_else, tick_same}
+use Rattle.spindle_parts.proofs.Parties.{by_option, put_all, put_here, look_here, look_else, times_same, times_else, tick_same}
 use Rattle.spindle_parts.proofs.Fates.{open_is_free, none_begun, over}
 use Rattle.spindle_parts.proofs.Soundness.{Sound, no_closer, no_jobs}
 use Rattle.spindle_parts.proofs.Shares.{stands_below, all_stand, first_stands, rest_stands, stays_left, was_left, stays_rest, was_rest}
@@ -39,7 +39,7 @@ published_tally T n begun done some fresh none = let cs : List ℕ = replicate T
       finished = sym none;
     }
 
-module _ (cs : List ℕ) (rem fin jobs : ℕ) (begun done : List ℕ) (n : ℕ) (some : 0 < length cs) (tally : Tally cs rem fin jobs begun done n) where
+module _ {cs : List ℕ} {rem fin jobs : ℕ} {begun done : List ℕ} {n : ℕ} (some : 0 < length cs) (tally : Tally cs rem fin jobs begun done n) where
   abbrev T : ℕ
   T = length cs
 
@@ -105,12 +105,11 @@ or_right : (a b : Bool) → b ≡ true → (a || b) ≡ true
 or_right true b e = refl
 or_right false b e = e
 
-module _ (m : Configuration) (s : State) (a : Shows m s) (h : Sound s) (p : ℕ) where
-  pub publishes : (b : Bool) (n : ℕ) → (p ≡ 0) × ((party s p).status ≡ In) × (s.published ≡ None) × (2 ≤ n) × (n ≤ 4294967295)
-      → 0 < length m.counters → Shows (publishing m n b) (publish s b n)
+module _ {m : Configuration} {s : State} (a : Shows m s) (h : Sound s) (p : ℕ) where
+  pub publishes : (b : Bool) (n : ℕ) → IsPublishable s p n → 0 < length m.counters → Shows (publishing m n b) (publish s b n)
   publishes b n ok some = let r : Round = record (now s) { jobs = n; stoppable = b } in
       let none = no_jobs s h p ok.2 (no_closer s h p ok.1) in let unbegun = none_begun h.fate (now s) s.parties h.work none in
-      shown (publishing m n b) (publish s b n) r (put_here s.rounds s.round r) (seats m s a) a.inside a.members a.sense a.closer refl refl a.stopped
+      shown (publishing m n b) (publish s b n) r (put_here s.rounds s.round r) (seats a) a.inside a.members a.sense a.closer refl refl a.stopped
       (λ k e. let i : n ≡ k = cc in
       subst (λ (z : ℕ). Tally (replicate (length m.counters) (n / length m.counters)) (n % length m.counters) 0 n (now s).begun (now s).finished z) i
       (published_tally (length m.counters) n (now s).begun (now s).finished some (λ j. (open_is_free h.fate (now s) s.parties h.work j (unbegun j)).0)
@@ -142,8 +141,8 @@ module _ (m : Configuration) (s : State) (a : Shows m s) (h : Sound s) (p : ℕ)
       (after (after s (Take p (only k))) (Begin p k))
   begins k cs rem tally = let y : Party = record (party (took k) p) { running = Some k; taken = put (party (took k) p).taken k false } in
       let look = look_here s.parties p (holder k) in
-      let c₀ = same_counts m s a h p s.parties (holder k) refl in let c₁ = same_counts m s a h p (took k).parties y refl in
-      works m s a h p (record (m.seat p) { running = Some k }) (took k).parties y (record (now s) { begun = (now s).begun ++ k ∷ [] }) cs rem m.finished
+      let c₀ = same_counts a h p s.parties (holder k) refl in let c₁ = same_counts a h p (took k).parties y refl in
+      works a h p (record (m.seat p) { running = Some k }) (took k).parties y (record (now s) { begun = (now s).begun ++ k ∷ [] }) cs rem m.finished
       record {
         status = a.status p ∙ sym (ap (λ (z : Party). z.status) look);
         running = refl;
@@ -151,7 +150,7 @@ module _ (m : Configuration) (s : State) (a : Shows m s) (h : Sound s) (p : ℕ)
         untaken = put_all (λ j b. b ≡ false) (party (took k) p).taken k false refl
             (λ j o. ap (λ (z : Party). z.taken j) look ∙ or_false ((party s p).taken j) (only k j) (a.untaken p j) (ne_eqb j k o));
       }
-      (λ q o. subst (λ (z : Party). Fits (m.seat q) z ((now s).seen q)) (sym (look_else s.parties p (holder k) q o)) (seats m s a q)) (c₁.0
+      (λ q o. subst (λ (z : Party). Fits (m.seat q) z ((now s).seen q)) (sym (look_else s.parties p (holder k) q o)) (seats a q)) (c₁.0
       ∙ c₀.0) (c₁.1 ∙ c₀.1) refl refl tally
 
   module _ (some : 0 < length m.counters) (may : MayBegin s p) where
@@ -164,27 +163,22 @@ module _ (m : Configuration) (s : State) (a : Shows m s) (h : Sound s) (p : ℕ)
 
     -- something is published
     the_published : (n : ℕ) × (s.published ≡ Some n)
-    the_published = go s.published refl
-      where
-        go : (o : Option ℕ) → s.published ≡ o → (n : ℕ) × (s.published ≡ Some n)
-        go None e = absurd (may.published e)
-        go (Some n) e = (n, e)
+    the_published = by_option s.published (λ e. absurd (may.published e)) (λ n e. (n, e))
 
     pub claims : (t : ℕ) → t < length m.counters
         → 0 < counter m t → Shows (effect m (Claim p t)) (after (after s (Take p (only (claimed m t)))) (Begin p (claimed m t))) × Free s (claimed m t)
     claims t lt pos = (
-      begins (claimed m t) (set m.counters t (counter m t - 1)) m.remainder (λ n e. claim_tally m.counters m.remainder m.finished
-          (now s).jobs (now s).begun (now s).finished n some (tally m s a n e) t (claimed m t) lt pos (claimed_is n t e)),
+      begins (claimed m t) (set m.counters t (counter m t - 1)) m.remainder (λ n e. claim_tally some (tally a n e) t (claimed m t) lt pos (claimed_is n t e)),
       let x = the_published in
-          let f = claimed_left m.counters m.remainder m.finished (now s).jobs (now s).begun (now s).finished x.0 some (tally m s a x.0 x.1) t lt pos in
+          let f = claimed_left some (tally a x.0 x.1) t lt pos in
           subst (Free s) (sym (claimed_is x.0 t x.1)) (f.0, f.1, λ q. a.untaken q (own m x.0 * t + own m x.0 - counter m t)),
     )
 
     pub rests : 0 < m.remainder → Shows (effect m (Rest p)) (after (after s (Take p (only (rested m)))) (Begin p (rested m))) × Free s (rested m)
     rests pos = (
       begins (rested m) m.counters (m.remainder - 1)
-          (λ n e. rest_tally m.counters m.remainder m.finished (now s).jobs (now s).begun (now s).finished n some (tally m s a n e) (rested m) pos (rested_is n e)),
+          (λ n e. rest_tally some (tally a n e) (rested m) pos (rested_is n e)),
       let x = the_published in
-          let f = rested_left m.counters m.remainder m.finished (now s).jobs (now s).begun (now s).finished x.0 some (tally m s a x.0 x.1) pos in
+          let f = rested_left some (tally a x.0 x.1) pos in
           subst (Free s) (sym (rested_is x.0 x.1)) (f.0, f.1, λ q. a.untaken q (x.0 - m.remainder)),
     )

@@ -5,6 +5,7 @@ use mathlib.Core.Logic.{dite}
 use native.Mathlib.Decide.{dec_le}
 use Rattle.std.proofs.lemmas.Bool.{lt-ltb, ltb-true, le-ltb, ltb-false}
 use Rattle.spindle_parts.specs.State.{Status, In, State, now, party, Free}
+use Rattle.spindle_parts.specs.Steps.{IsPublishable}
 use Rattle.spindle_parts.specs.Machine.{Configuration, is_out, is_inside, is_waiting, is_party, status, is_running, counter, own, left, tests, claim_tests}
 use Rattle.spindle_parts.specs.Machine.{publish_tests}
 use Rattle.spindle_parts.specs.EverySchedule.{Shows, MayBegin, IsFair, IsInRange}
@@ -21,7 +22,7 @@ second_false : (a b : Bool) → (a && b) ≡ false → a ≡ true → b ≡ fals
 second_false true b e t = e
 second_false false b e t = absurd cc
 
-module _ (m : Configuration) (s : State) (a : Shows m s) (h : Sound s) (some : 0 < length m.counters) (p : ℕ) where
+module _ {m : Configuration} {s : State} (a : Shows m s) (h : Sound s) (some : 0 < length m.counters) (p : ℕ) where
   at_in : not (is_inside (status m p)) ≡ false → (party s p).status ≡ In
   at_in f = sym (a.status p) ∙ in_by (status m p) (not_false (is_inside (status m p)) f)
 
@@ -75,15 +76,15 @@ module _ (m : Configuration) (s : State) (a : Shows m s) (h : Sound s) (some : 0
 
   -- where nothing is left, nothing is free
   nothing_free : (n : ℕ) → s.published ≡ Some n → sum m.counters + m.remainder ≡ 0 → (k : ℕ) → Free s k → ⊥
-  nothing_free n e z k free = none_stands (length m.counters) (own m n) m.counters m.remainder n k refl z ((tally m s a n e).unbegun k free.0 free.1)
+  nothing_free n e z k free = none_stands (length m.counters) (own m n) m.counters m.remainder n k refl z ((tally a n e).unbegun k free.0 free.1)
 
   -- where something is left, something is free
   some_free : (n : ℕ) → s.published ≡ Some n → 0 < sum m.counters + m.remainder → (k : ℕ) × Free s k
   some_free n e lt = dite (dec_le 1 m.remainder)
-      (λ pos. let f = rested_left m.counters m.remainder m.finished (now s).jobs (now s).begun (now s).finished n some (tally m s a n e) (omega arith) in
+      (λ pos. let f = rested_left some (tally a n e) (omega arith) in
       (n - m.remainder, (f.0, f.1, λ q. a.untaken q (n - m.remainder))))
       (λ no. let x = some_part m.counters (omega arith) in
-      let f = claimed_left m.counters m.remainder m.finished (now s).jobs (now s).begun (now s).finished n some (tally m s a n e) x.0 x.1 x.2 in
+      let f = claimed_left some (tally a n e) x.0 x.1 x.2 in
       (own m n * x.0 + own m n - counter m x.0, (f.0, f.1, λ q. a.untaken q (own m n * x.0 + own m n - counter m x.0))))
 
   abbrev Used : Type 0
@@ -111,11 +112,10 @@ module _ (m : Configuration) (s : State) (a : Shows m s) (h : Sound s) (some : 0
   stopped_shown : (party s p).status ≡ In → (now s).stopped ≡ true → s.published ≢ None
   stopped_shown e st z = let j = no_jobs s h p z (no_closer s h p e) in let w = h.work.stops st in let w₁ = w.1 in absurd (omega arith)
 
-  publish_fair : (n : ℕ)
-      → n ≤ 4294967295 → AllFail (publish_tests m p n) → (p ≡ 0) × ((party s p).status ≡ In) × (s.published ≡ None) × (2 ≤ n) × (n ≤ 4294967295)
+  publish_fair : (n : ℕ) → n ≤ 4294967295 → AllFail (publish_tests m p n) → IsPublishable s p n
   publish_fair n le f = (equal_by p 0 (not_false (p == 0) f.0), at_in f.1.0, hidden f.1.1.0, ltb-false n 2 f.1.1.1.0, le)
 
-  publish_fails : (n : ℕ) → (p ≡ 0) × ((party s p).status ≡ In) × (s.published ≡ None) × (2 ≤ n) × (n ≤ 4294967295) → AllFail (publish_tests m p n)
+  publish_fails : (n : ℕ) → IsPublishable s p n → AllFail (publish_tests m p n)
   publish_fails n ok = (not_true (p == 0) (eq-eqb p 0 ok.0), (in_passes ok.1, (hidden_passes ok.2, (le-ltb n 2 ok.3, tt))))
 
   above : (k : ℕ) → (k == 0) ≡ false → 0 < k
@@ -124,59 +124,59 @@ module _ (m : Configuration) (s : State) (a : Shows m s) (h : Sound s) (some : 0
   above_passes : (k : ℕ) → 0 < k → (k == 0) ≡ false
   above_passes k lt = ne_eqb k 0 (λ e. omega arith)
 
-module _ (m : Configuration) (s : State) (a : Shows m s) (h : Sound s) (some : 0 < length m.counters) where
+module _ {m : Configuration} {s : State} (a : Shows m s) (h : Sound s) (some : 0 < length m.counters) where
   -- where no test refuses the step it is fair
   pub fair : (granted : Bool) (e : Step) → IsInRange e → AllFail (tests m granted e) → IsFair m s e
   fair g (Join p) range f = (
     sym (a.status p) ∙ out_by (status m p) (not_false (is_out (status m p)) f.0),
-    unclosed m s a h some p f.1.1.0,
+    unclosed a h some p f.1.1.0,
     let n =
         differ_by m.members 32767 f.1.0 in let few = h.gate.few in let i = a.members in omega arith,
   )
-  fair g (Publish p n) range f = publish_fair m s a h some p n range f
-  fair g (PublishTry p n) range f = publish_fair m s a h some p n range f
+  fair g (Publish p n) range f = publish_fair a h some p n range f
+  fair g (PublishTry p n) range f = publish_fair a h some p n range f
   fair g (Claim p t) range f = (
-    may m s a h some p (f.0, (f.1.0, (f.1.1.0, (f.1.1.1.0, tt)))),
+    may a h some p (f.0, (f.1.0, (f.1.1.0, (f.1.1.1.0, tt)))),
     ltb-true t (length m.counters) (not_false _ f.1.1.1.1.0),
-    above m s a h some p (counter m t) f.1.1.1.1.1.0,
+    above a h some p (counter m t) f.1.1.1.1.1.0,
   )
-  fair g (Rest p) range f = (may m s a h some p (f.0, (f.1.0, (f.1.1.0, (f.1.1.1.0, tt)))), above m s a h some p m.remainder f.1.1.1.1.0)
-  fair g (Finish p) range f = runs m s a h some p f.0
-  fair g (Stop p) range f = (runs m s a h some p f.0, sym a.stoppable ∙ not_false m.stoppable f.1.0)
-  fair g (See p) range f = (at_in m s a h some p f.0, sym a.stopped ∙ not_false m.stopped f.1.1.0)
-  fair g (Arrive p) range f = (at_in m s a h some p f.0, (a.untaken p, idle m s a h some p f.1.0), used m s a h some p m.stopped refl f.1.1.0)
+  fair g (Rest p) range f = (may a h some p (f.0, (f.1.0, (f.1.1.0, (f.1.1.1.0, tt)))), above a h some p m.remainder f.1.1.1.1.0)
+  fair g (Finish p) range f = runs a h some p f.0
+  fair g (Stop p) range f = (runs a h some p f.0, sym a.stoppable ∙ not_false m.stoppable f.1.0)
+  fair g (See p) range f = (at_in a h some p f.0, sym a.stopped ∙ not_false m.stopped f.1.1.0)
+  fair g (Arrive p) range f = (at_in a h some p f.0, (a.untaken p, idle a h some p f.1.0), used a h some p m.stopped refl f.1.1.0)
   fair g (Leave p) range f = (
     sym (a.status p)
         ∙ waiting_by (status m p) (not_false (is_waiting (status m p)) f.0),
-    unclosed m s a h some p f.1.0,
-    stays m s a h some p f.1.1.0,
+    unclosed a h some p f.1.0,
+    stays a h some p f.1.1.0,
   )
-  fair g (Exit p) range f = (at_in m s a h some p f.0, (a.untaken p, idle m s a h some p f.1.0), stays m s a h some p f.1.1.0)
-  fair g (Clear p) range f = closer_is m s a h some p f.0
-  fair g (End p) range f = (closer_is m s a h some p f.0, hidden m s a h some p f.1.0)
+  fair g (Exit p) range f = (at_in a h some p f.0, (a.untaken p, idle a h some p f.1.0), stays a h some p f.1.1.0)
+  fair g (Clear p) range f = closer_is a h some p f.0
+  fair g (End p) range f = (closer_is a h some p f.0, hidden a h some p f.1.0)
 
   claim_passes : (p : ℕ) → MayBegin s p → AllFail (claim_tests m p)
   claim_passes p y =
-      (in_passes m s a h some p y.is_in, (shown_passes m s a h some p y.published, (idle_passes m s a h some p y.idle, (a.seen p ∙ y.unseen, tt))))
+      (in_passes a h some p y.is_in, (shown_passes a h some p y.published, (idle_passes a h some p y.idle, (a.seen p ∙ y.unseen, tt))))
 
   -- no test refuses a fair step
   pub fails : (e : Step) → IsFair m s e → AllFail (tests m true e)
   fails (Join p) ok = (
     ap (λ (t : Status). not (is_out t)) (a.status p ∙ ok.0),
-    (ne_eqb m.members 32767 (λ e. let lt = ok.2 in let i = a.members in omega arith), (unclosed_passes m s a h some p ok.1, (refl, tt))),
+    (ne_eqb m.members 32767 (λ e. let lt = ok.2 in let i = a.members in omega arith), (unclosed_passes a h some p ok.1, (refl, tt))),
   )
-  fails (Publish p n) ok = publish_fails m s a h some p n ok
-  fails (PublishTry p n) ok = publish_fails m s a h some p n ok
+  fails (Publish p n) ok = publish_fails a h some p n ok
+  fails (PublishTry p n) ok = publish_fails a h some p n ok
   fails (Claim p t) ok = let y = claim_passes p ok.0 in
-      (y.0, (y.1.0, (y.1.1.0, (y.1.1.1.0, (not_true _ (lt-ltb t (length m.counters) ok.1), (above_passes m s a h some p (counter m t) ok.2, tt))))))
-  fails (Rest p) ok = let y = claim_passes p ok.0 in (y.0, (y.1.0, (y.1.1.0, (y.1.1.1.0, (above_passes m s a h some p m.remainder ok.1, tt)))))
-  fails (Finish p) ok = (runs_passes m s a h some p ok, tt)
-  fails (Stop p) ok = (runs_passes m s a h some p ok.0, (not_true m.stoppable (a.stoppable ∙ ok.1), tt))
+      (y.0, (y.1.0, (y.1.1.0, (y.1.1.1.0, (not_true _ (lt-ltb t (length m.counters) ok.1), (above_passes a h some p (counter m t) ok.2, tt))))))
+  fails (Rest p) ok = let y = claim_passes p ok.0 in (y.0, (y.1.0, (y.1.1.0, (y.1.1.1.0, (above_passes a h some p m.remainder ok.1, tt)))))
+  fails (Finish p) ok = (runs_passes a h some p ok, tt)
+  fails (Stop p) ok = (runs_passes a h some p ok.0, (not_true m.stoppable (a.stoppable ∙ ok.1), tt))
   fails (See p) ok =
-      (in_passes m s a h some p ok.0, (shown_passes m s a h some p (stopped_shown m s a h some p ok.0 ok.1), (not_true m.stopped (a.stopped ∙ ok.1), tt)))
-  fails (Arrive p) ok = (in_passes m s a h some p ok.0, (idle_passes m s a h some p ok.1.1, (used_passes m s a h some p ok.2, tt)))
+      (in_passes a h some p ok.0, (shown_passes a h some p (stopped_shown a h some p ok.0 ok.1), (not_true m.stopped (a.stopped ∙ ok.1), tt)))
+  fails (Arrive p) ok = (in_passes a h some p ok.0, (idle_passes a h some p ok.1.1, (used_passes a h some p ok.2, tt)))
   fails (Leave p) ok =
-      (ap (λ (t : Status). not (is_waiting t)) (a.status p ∙ ok.0), (unclosed_passes m s a h some p ok.1, (stays_passes m s a h some p ok.2, tt)))
-  fails (Exit p) ok = (in_passes m s a h some p ok.0, (idle_passes m s a h some p ok.1.1, (stays_passes m s a h some p ok.2, tt)))
-  fails (Clear p) ok = (closer_passes m s a h some p ok, tt)
-  fails (End p) ok = (closer_passes m s a h some p ok.0, (hidden_passes m s a h some p ok.1, tt))
+      (ap (λ (t : Status). not (is_waiting t)) (a.status p ∙ ok.0), (unclosed_passes a h some p ok.1, (stays_passes a h some p ok.2, tt)))
+  fails (Exit p) ok = (in_passes a h some p ok.0, (idle_passes a h some p ok.1.1, (stays_passes a h some p ok.2, tt)))
+  fails (Clear p) ok = (closer_passes a h some p ok, tt)
+  fails (End p) ok = (closer_passes a h some p ok.0, (hidden_passes a h some p ok.1, tt))

@@ -64,7 +64,7 @@ shown m s r e fits ins mem sense closer published stoppable stopped tally = reco
   };
 }
 
-module _ (m : Configuration) (s : State) (a : Shows m s) where
+module _ {m : Configuration} {s : State} (a : Shows m s) where
   pub seats : (p : ℕ) → Fits (m.seat p) (party s p) ((now s).seen p)
   seats p = record { status = a.status p; running = a.running p; seen = a.seen p; untaken = a.untaken p }
 
@@ -82,7 +82,7 @@ flipped : (b : Bool) (r : ℕ) → (if b then 1 else 0) ≡ r % 2 → (if not b 
 flipped true r e = omega arith
 flipped false r e = omega arith
 
-module _ (m : Configuration) (s : State) (a : Shows m s) (h : Sound s) (p : ℕ) where
+module _ {m : Configuration} {s : State} (a : Shows m s) (h : Sound s) (p : ℕ) where
   -- how many are in and how many are members, where the party's status u becomes t
   counts : (t u : Status) → (party s p).status ≡ u
       → (state.inside (moved s p t) + is_in u ≡ m.inside + is_in t) × (state.members (moved s p t) + is_member u ≡ m.members + is_member t)
@@ -92,13 +92,13 @@ module _ (m : Configuration) (s : State) (a : Shows m s) (h : Sound s) (p : ℕ)
 
   stands : (t : Status) (q : ℕ) → Fits (standing m p t q) (party_of (moved s p t) q) ((now s).seen q)
   stands t = seats_put m.seat s.parties p (record (m.seat p) { status = t }) (with_status t (party s p))
-      (now s).seen record { status = refl; running = a.running p; seen = a.seen p; untaken = a.untaken p } (λ q _. seats m s a q)
+      (now s).seen record { status = refl; running = a.running p; seen = a.seen p; untaken = a.untaken p } (λ q _. seats a q)
 
   -- the party stands otherwise
   moves : (t : Status) (i n : ℕ) (c : Option ℕ) → i ≡ state.inside (moved s p t) → n ≡ state.members (moved s p t) → (d : Option ℕ) → d ≡ c
       → Shows (record m { seat = standing m p t; inside = i; members = n; closer = d }) (with_parties s (moved s p t) c s.rounds)
   moves t i n c ins mem d same = shown _ (with_parties s (moved s p t) c s.rounds) (now s) refl (stands t)
-      ins mem a.sense same a.published a.stoppable a.stopped (tally m s a)
+      ins mem a.sense same a.published a.stoppable a.stopped (tally a)
 
   pub joins : Allowed s (events.Join p) → Shows (effect m (Join p)) (after s (events.Join p))
   joins ok = let c = counts In Out ok.0 in let c₀ = c.0 in let c₁ = c.1 in
@@ -128,7 +128,7 @@ module _ (m : Configuration) (s : State) (a : Shows m s) (h : Sound s) (p : ℕ)
       ins mem (flipped m.sense s.round a.sense) refl a.published refl refl (λ k e. absurd cc)
 
   pub ends : Allowed s (events.End p) → Shows (effect m (End p)) (after s (events.End p))
-  ends ok = turns m.seat s.parties (wake s.parties) m.inside m.members (seats m s a) (look_wake s.parties)
+  ends ok = turns m.seat s.parties (wake s.parties) m.inside m.members (seats a) (look_wake s.parties)
       (a.members ∙ sym (inside_wake s.parties)) (a.members ∙ sym (members_wake s.parties)) ok.1
 
   -- with no members each party is out, and asleep or awake the same
@@ -147,7 +147,7 @@ module _ (m : Configuration) (s : State) (a : Shows m s) (h : Sound s) (p : ℕ)
       (λ _. goes Out (m.inside - 1) (m.members - 1) (omega arith) mem))
 
   pub clears : Shows (effect m (Clear p)) (after s (events.Clear p))
-  clears = shown (effect m (Clear p)) (after s (events.Clear p)) (now s) refl (seats m s a)
+  clears = shown (effect m (Clear p)) (after s (events.Clear p)) (now s) refl (seats a)
       a.inside a.members a.sense a.closer refl a.stoppable a.stopped (λ n e. absurd cc)
 
   -- the party has seen the stop, in a round stopped or not
@@ -157,8 +157,8 @@ module _ (m : Configuration) (s : State) (a : Shows m s) (h : Sound s) (p : ℕ)
       shown (record m { seat = with_seen m p; stopped = b }) (change_round s r) r (put_here s.rounds s.round r)
       (put_all (λ q x. Fits x (party s q) (put (now s).seen p true q)) m.seat p (record (m.seat p) { seen = true })
       record { status = a.status p; running = a.running p; seen = sym (put_here (now s).seen p true); untaken = a.untaken p }
-      (λ q n. subst (Fits (m.seat q) (party s q)) (sym (put_else (now s).seen p true q n)) (seats m s a q)))
-      a.inside a.members a.sense a.closer a.published a.stoppable refl (tally m s a)
+      (λ q n. subst (Fits (m.seat q) (party s q)) (sym (put_else (now s).seen p true q n)) (seats a q)))
+      a.inside a.members a.sense a.closer a.published a.stoppable refl (tally a)
 
   pub stops : Shows (effect m (Stop p)) (after s (events.Stop p))
   stops = sees true
@@ -187,8 +187,8 @@ module _ (m : Configuration) (s : State) (a : Shows m s) (h : Sound s) (p : ℕ)
   finishes ok = let y : Party = record (party s p) { running = None } in let c = same_counts s.parties y refl in let l = ap ended_by ok.1 in
       works (record (m.seat p) { running = None }) s.parties y
       (record (now s) { finished = (now s).finished ++ ended_by (party s p).running }) m.counters m.remainder (m.finished + 1)
-      record { status = a.status p; running = refl; seen = a.seen p; untaken = a.untaken p } (λ q _. seats m s a q) c.0 c.1 refl refl
-      (λ n e. let t = tally m s a n e in record {
+      record { status = a.status p; running = refl; seen = a.seen p; untaken = a.untaken p } (λ q _. seats a q) c.0 c.1 refl refl
+      (λ n e. let t = tally a n e in record {
         own_at_most = t.own_at_most;
         rest_at_most = t.rest_at_most;
         unbegun = t.unbegun;

@@ -1,13 +1,15 @@
 -- What an event of one party leaves of another.
-use Rattle.std.proofs.Common.{◌≡◌, ◌≢◌, ◌⊎◌, inl, inr, ⊎_elim, ℕ, suc, ◌+◌, ◌<◌, ◌≤◌, Bool, true, false, ◌||◌, eq-eqb, ne_eqb, List, [], ◌∷◌, ◌++◌, sym, refl}
-use Rattle.std.proofs.Common.{ap, ◌∙◌, subst, arith, Option, Some, None, if◌then◌else◌, ◌==◌}
+use Rattle.std.proofs.Common.{◌≡◌, ◌≢◌, ◌⊎◌, inl, inr, ⊎_elim, ℕ, suc, ◌+◌, ◌<◌, Bool, true, false, ◌||◌, List, [], ◌∷◌, ◌++◌, sym, refl, ap, ◌∙◌, subst, arith}
+use Rattle.std.proofs.Common.{Option, Some, None, if◌then◌else◌, ◌==◌}
 use mathlib.Core.Logic.{dite}
 use native.Mathlib.Decide.{ℕ_discrete}
 use Rattle.spindle_parts.specs.State.{Status, Out, In, Arrived, Party, Round, State, put, no_set, party_of, put_party, times, weight_member, inside, members}
 use Rattle.spindle_parts.specs.State.{waking, now, party, Free}
-use Rattle.spindle_parts.specs.Steps.{with_status, Allowed, after, arrived, left, publish, ended_by, by, Event, Join, Publish, PublishTry, Take, Begin, Finish}
+use Rattle.spindle_parts.specs.Steps.{with_status, IsPublishable, Allowed, after, arrived, left, publish, ended_by, by, Event, Join, Publish, PublishTry, Take}
+use Rattle.spindle_parts.specs.Steps.{Begin, Finish}
 use Rattle.spindle_parts.specs.Steps.{Stop, See, PutBack, Arrive, Leave, Exit, Clear, End}
-use Rattle.spindle_parts.proofs.Parties.{moved, with_parties, next_round, put_here, put_else, look_here, look_else, total_at, look_wake, times_same, times_snoc}
+use Rattle.spindle_parts.proofs.Parties.{by_zero, moved, with_parties, next_round, put_here, put_else, look_here, look_else, total_at, look_wake, times_same}
+use Rattle.spindle_parts.proofs.Parties.{times_snoc}
 use Rattle.spindle_parts.proofs.Soundness.{Sound, no_closer, closers, none_in, out_of, alone_hidden}
 
 -- what is free afterwards was free
@@ -43,6 +45,14 @@ pub record Turned (s s' : State) (q : ℕ) : Type 0 where
 abbrev pub Frame : State → State → ℕ → Type 0
 Frame s s' q = Steady s s' q ⊎ Turned s s' q
 
+steady : {s s' : State} {q : ℕ} → s'.round ≡ s.round → party s' q ≡ party s q
+    → (s.closer ≡ Some q → s'.closer ≡ Some q) × (s.closer ≢ Some q → s'.closer ≢ Some q)
+    → ((n : ℕ) → (party s q).status ≡ In → s.published ≡ Some n → s'.published ≡ Some n)
+    → ((q ≡ 0) ⊎ (s.closer ≡ Some q) → s.published ≡ None → s'.published ≡ None) → Lessens s s' → ((now s).stopped ≡ true → (now s').stopped ≡ true)
+    → (now s').seen q ≡ (now s).seen q → (s.published ≢ None → (now s').stoppable ≡ (now s).stoppable) → Frame s s' q
+steady round same closer shown hidden frees stops seen may_stop = inl
+    record { round = round; same = same; closer = closer; published = shown; hidden = hidden; frees = frees; stops = stops; seen = seen; may_stop = may_stop }
+
 module _ (s : State) (h : Sound s) (p q : ℕ) (other : q ≢ p) where
   -- the numbers that each party has, where p has become y
   taken_put : (y : Party) (k : ℕ) → (y.taken k ≡ false → (party s p).taken k ≡ false)
@@ -55,17 +65,7 @@ module _ (s : State) (h : Sound s) (p q : ℕ) (other : q ≢ p) where
   changed : (y : Party) (c : Option ℕ)
       → (s.closer ≡ Some q → c ≡ Some q) × (s.closer ≢ Some q → c ≢ Some q) → Lessens s (with_parties s (put_party s.parties p y) c s.rounds)
       → Frame s (with_parties s (put_party s.parties p y) c s.rounds) q
-  changed y c cl used = inl record {
-    round = refl;
-    same = look_else s.parties p y q other;
-    closer = cl;
-    published = λ n _ e. e;
-    hidden = λ _ e. e;
-    frees = used;
-    stops = λ e. e;
-    seen = refl;
-    may_stop = λ _. refl;
-  }
+  changed y c cl used = steady refl (look_else s.parties p y q other) cl (λ n _ e. e) (λ _ e. e) used (λ e. e) refl (λ _. refl)
 
   -- a new status and no more
   restatus : (t : Status) (c : Option ℕ)
@@ -77,17 +77,9 @@ module _ (s : State) (h : Sound s) (p q : ℕ) (other : q ≢ p) where
   reworked : (ps : List Party) (r : Round) → party_of ps q ≡ party s q → r.seen q ≡ (now s).seen q
       → r.stoppable ≡ (now s).stoppable → ((now s).stopped ≡ true → r.stopped ≡ true) → Lessens s (with_parties s ps s.closer (put s.rounds s.round r))
       → Frame s (with_parties s ps s.closer (put s.rounds s.round r)) q
-  reworked ps r same seen may_stop stopped used = inl record {
-    round = refl;
-    same = same;
-    closer = ((λ e. e), (λ e. e));
-    published = λ n _ e. e;
-    hidden = λ _ e. e;
-    frees = used;
-    stops = λ e. ap (λ (z : Round). z.stopped) (put_here s.rounds s.round r) ∙ stopped e;
-    seen = ap (λ (z : Round). z.seen q) (put_here s.rounds s.round r) ∙ seen;
-    may_stop = λ _. ap (λ (z : Round). z.stoppable) (put_here s.rounds s.round r) ∙ may_stop;
-  }
+  reworked ps r same seen may_stop stopped used = let is = put_here s.rounds s.round r in
+      steady refl same ((λ e. e), (λ e. e)) (λ n _ e. e) (λ _ e. e) used (λ e. ap (λ (z : Round). z.stopped) is ∙ stopped e)
+      (ap (λ (z : Round). z.seen q) is ∙ seen) (λ _. ap (λ (z : Round). z.stoppable) is ∙ may_stop)
 
   -- nobody but p can have become the closer
   new_closer : (ps : List Party) → (party s p).status ≡ In → let c : Option ℕ = if inside ps == 0 then Some p else s.closer in
@@ -105,24 +97,16 @@ module _ (s : State) (h : Sound s) (p q : ℕ) (other : q ≢ p) where
       reworked ps r same seen may_stop stopped
       (inl (λ _ k f. frees k (subst (λ (z : Round). (k < z.jobs) × (times k z.begun ≡ 0) × ((a : ℕ) → (party_of ps a).taken k ≡ false)) is f)))
 
-  publishing : (b : Bool) (n : ℕ) → (p ≡ 0) × ((party s p).status ≡ In) × (s.published ≡ None) × (2 ≤ n) × (n ≤ 4294967295) → Frame s (publish s b n) q
-  publishing b n ok = inl record {
-    round = refl;
-    same = refl;
-    closer = ((λ e. e), (λ e. e));
-    published = λ m _ e. let z = ok.2 in absurd cc;
-    hidden = ⊎_elim (λ e. absurd (other (e ∙ sym ok.0))) (λ e. let z = no_closer s h p ok.1 in absurd cc);
-    frees = inl (λ some. absurd (some ok.2));
-    stops = λ e. ap (λ (z : Round). z.stopped) (put_here s.rounds s.round (record (now s) { jobs = n; stoppable = b })) ∙ e;
-    seen = ap (λ (z : Round). z.seen q) (put_here s.rounds s.round (record (now s) { jobs = n; stoppable = b }));
-    may_stop = λ is. absurd (is ok.2);
-  }
+  publishing : (b : Bool) (n : ℕ) → IsPublishable s p n → Frame s (publish s b n) q
+  publishing b n ok = let is = put_here s.rounds s.round (record (now s) { jobs = n; stoppable = b }) in
+      steady refl refl ((λ e. e), (λ e. e)) (λ m _ e. let z = ok.2 in absurd cc)
+      (⊎_elim (λ e. absurd (other (e ∙ sym ok.0))) (λ e. let z = no_closer s h p ok.1 in absurd cc)) (inl (λ some. absurd (some ok.2)))
+      (λ e. ap (λ (z : Round). z.stopped) is ∙ e) (ap (λ (z : Round). z.seen q) is) (λ shown. absurd (shown ok.2))
 
   exiting : (party s p).status ≡ In → (p ≡ 0 → s.published ≡ None) → Frame s (left s p (moved s p Out)) q
   exiting at_in fine = let ps : List Party = moved s p Out in let on : State = next_round s ps s.closer in let z = no_closer s h p at_in in
-      dite (ℕ_discrete (members ps) 0)
-      (λ e. subst (λ (b : Bool). Frame s (if b then on else arrived s p ps) q) (sym (eq-eqb (members ps) 0 e))
-      (let look = look_else s.parties p (with_status Out (party s p)) q other in let gone : (party s q).status ≡ Out =
+      by_zero (λ b. Frame s (if b then on else arrived s p ps) q) (members ps)
+      (λ e. let look = look_else s.parties p (with_status Out (party s p)) q other in let gone : (party s q).status ≡ Out =
       sym (ap (λ (x : Party). x.status) look) ∙ out_of (party_of ps q).status (let a = total_at weight_member refl ps q in omega arith) in inr record {
         round = omega arith;
         same = look ∙ asleep (party s q) gone;
@@ -131,8 +115,8 @@ module _ (s : State) (h : Sound s) (p q : ℕ) (other : q ≢ p) where
         before = λ i. cc;
         hidden = alone_hidden s h p at_in fine e;
         seen = ap (λ (r : Round). r.seen q) (h.later (s.round + 1) (omega arith));
-      }))
-      (λ n. subst (λ (b : Bool). Frame s (if b then on else arrived s p ps) q) (sym (ne_eqb (members ps) 0 n)) (restatus Out _ (new_closer ps at_in)))
+      })
+      (λ _. restatus Out _ (new_closer ps at_in))
     where
       asleep : (x : Party) → x.status ≡ Out → x ≡ with_status (waking x.status) x
       asleep x e i = with_status ((e ∙ sym (ap waking e)) i) x
@@ -169,17 +153,8 @@ frame s h (PutBack p) q ok other = changed s h p q other (record (party s p) { t
 frame s h (Arrive p) q ok other = restatus s h p q other Arrived _ (new_closer s h p q other (moved s p Arrived) ok.0)
 frame s h (Leave p) q ok other = restatus s h p q other Out s.closer ((λ e. e), (λ e. e))
 frame s h (Exit p) q ok other = exiting s h p q other ok.0 ok.2
-frame s h (Clear p) q ok other = inl record {
-  round = refl;
-  same = refl;
-  closer = ((λ e. e), (λ e. e));
-  published = λ n e _. absurd (none_in s.parties (h.gate.closing p ok).0 q e);
-  hidden = λ _ _. refl;
-  frees = inl (λ _ k f. f);
-  stops = λ e. e;
-  seen = refl;
-  may_stop = λ _. refl;
-}
+frame s h (Clear p) q ok other = steady refl refl ((λ e. e), (λ e. e)) (λ n e _. absurd (none_in s.parties (h.gate.closing p ok).0 q e)) (λ _ _. refl)
+    (inl (λ _ k f. f)) (λ e. e) refl (λ _. refl)
 frame s h (End p) q ok other = let z = ok.0 in inr record {
   round = omega arith;
   same = look_wake s.parties q;
@@ -196,13 +171,9 @@ closer_alone s h (Join p) q ok c = let z = ok.1 in absurd cc
 closer_alone s h (Publish p n) q ok c = let z = no_closer s h p ok.1 in absurd cc
 closer_alone s h (PublishTry p n) q ok c = let z = no_closer s h p ok.1 in absurd cc
 closer_alone s h (Take p some) q ok c = let z = no_closer s h p ok.1 in absurd cc
-closer_alone s h (Begin p k) q ok c = let z = no_closer s h p ok.0 in absurd cc
 closer_alone s h (Finish p) q ok c = let f = h.work.fits p in let z = no_closer s h p (f.within ok.0 (inr (f.ran ok.0 ok.1))) in absurd cc
 closer_alone s h (Stop p) q ok c = let f = h.work.fits p in let z = no_closer s h p (f.within ok.0.0 (inr (f.ran ok.0.0 ok.0.1))) in absurd cc
-closer_alone s h (See p) q ok c = let z = no_closer s h p ok.0 in absurd cc
-closer_alone s h (PutBack p) q ok c = let z = no_closer s h p ok.0 in absurd cc
-closer_alone s h (Arrive p) q ok c = let z = no_closer s h p ok.0 in absurd cc
 closer_alone s h (Leave p) q ok c = let z = ok.1 in absurd cc
-closer_alone s h (Exit p) q ok c = let z = no_closer s h p ok.0 in absurd cc
 closer_alone s h (Clear p) q ok c = let z = ok in cc
 closer_alone s h (End p) q ok c = let z = ok.0 in cc
+closer_alone s h e q ok c = let z = no_closer s h (by e) ok.0 in absurd cc

@@ -1,6 +1,6 @@
 -- What holds of a configuration that some schedule leads to: each subtraction and sum of the next step fits.
 use Rattle.std.proofs.Common.{◌≡◌, ◌≢◌, ℕ, zero, suc, inr, ◌+◌, ◌<◌, ◌≤◌, Bool, true, false, ◌||◌, eqb, ne_eqb, List, [], ◌∷◌, ◌++◌, length, length-append, sym}
-use Rattle.std.proofs.Common.{refl, ap, ◌∙◌, subst, arith, Option, Some, None}
+use Rattle.std.proofs.Common.{refl, ap, ◌∙◌, subst, arith, Option, Some}
 use mathlib.Core.Logic.{dite}
 use native.Mathlib.Decide.{ℕ_discrete}
 use Rattle.std.proofs.Math.Nat.{mod-le}
@@ -14,7 +14,7 @@ use Rattle.spindle_parts.specs.Runs.{state, IsRun}
 use Rattle.spindle_parts.specs.Machine.{Configuration, status, is_inside, is_waiting, counter, own}
 use Rattle.spindle_parts.specs.EverySchedule.{machine, run_of}
 use Rattle.spindle_parts.specs.Registers.{IsReached}
-use Rattle.spindle_parts.proofs.Parties.{total_at, total_put, look_else, inside_le_members, in_le_member, tick_same, tick_else, put_here}
+use Rattle.spindle_parts.proofs.Parties.{by_option, total_at, total_put, look_else, inside_le_members, in_le_member, tick_same, tick_else, put_here}
 use Rattle.spindle_parts.proofs.Fates.{over}
 use Rattle.spindle_parts.proofs.Soundness.{sound, run_once, no_closer, no_jobs, none_in, out_of}
 use Rattle.spindle_parts.proofs.Tests.{in_by, waiting_by}
@@ -69,12 +69,9 @@ room_to_finish es run p k runs n shown = let es' : List Event = Finish p ∷ es 
 
 -- while a party runs a job, something is published
 running_shown : (es : List Event) → IsRun es → (p k : ℕ) → (party (state es) p).running ≡ Some k → (n : ℕ) × ((state es).published ≡ Some n)
-running_shown es run p k runs = go (state es).published refl
-  where
-    go : (o : Option ℕ) → (state es).published ≡ o → (n : ℕ) × ((state es).published ≡ Some n)
-    go None e = let h = sound es run in let f = h.work.fits p in let ran = f.ran k runs in
-        let lt = h.work.below k (λ o. cc) in let none = no_jobs (state es) h p e (no_closer (state es) h p (f.within k (inr ran))) in absurd (omega arith)
-    go (Some n) e = (n, e)
+running_shown es run p k runs = by_option (state es).published (λ e. let h = sound es run in let f = h.work.fits p in let ran = f.ran k runs in
+    let lt = h.work.below k (λ o. cc) in let none = no_jobs (state es) h p e (no_closer (state es) h p (f.within k (inr ran))) in absurd (omega arith))
+    (λ n e. (n, e))
 
 -- what is in, or has arrived, is counted
 counted : (s : State) (p : ℕ) → (is_in (party s p).status ≤ state.inside s.parties) × (is_member (party s p).status ≤ state.members s.parties)

@@ -41,37 +41,37 @@ pub record Follows (m : Configuration) (es : List Event) : Type 0 where
 module _ (m : Configuration) (es : List Event) (f : Follows m es) (some : 0 < length m.counters) where
   -- an accepted step is allowed, and the machine shows the state after it
   accepts : (e : Step) → IsFair m (state es) e → Follows (effect m e) (events_of m e ++ es)
-  accepts (Join p) ok = record { shows = joins m (state es) f.shows (sound es f.run) p ok; run = (ok, f.run) }
-  accepts (Publish p n) ok = record { shows = publishes m (state es) f.shows (sound es f.run) p false n ok some; run = (ok, f.run) }
-  accepts (PublishTry p n) ok = record { shows = publishes m (state es) f.shows (sound es f.run) p true n ok some; run = (ok, f.run) }
-  accepts (Claim p t) ok = let c = claims m (state es) f.shows (sound es f.run) p some ok.0 t ok.1 ok.2 in let t₂ =
-      may_take m (state es) f.shows (sound es f.run) p (claimed m t) ok.0 c.1 in record { shows = c.0; run = (t₂.1, (t₂.0, f.run)) }
-  accepts (Rest p) ok = let c = rests m (state es) f.shows (sound es f.run) p some ok.0 ok.1 in let t₂ =
-      may_take m (state es) f.shows (sound es f.run) p (rested m) ok.0 c.1 in record { shows = c.0; run = (t₂.1, (t₂.0, f.run)) }
-  accepts (Finish p) ok = record { shows = finishes m (state es) f.shows (sound es f.run) p ok; run = (ok, f.run) }
-  accepts (Stop p) ok = record { shows = stops m (state es) f.shows (sound es f.run) p; run = (ok, f.run) }
-  accepts (See p) ok = record { shows = looks m (state es) f.shows (sound es f.run) p; run = (ok, f.run) }
-  accepts (Arrive p) ok = record { shows = arrives m (state es) f.shows (sound es f.run) p ok; run = (ok, f.run) }
-  accepts (Leave p) ok = record { shows = leaves m (state es) f.shows (sound es f.run) p ok; run = (ok, f.run) }
+  accepts (Join p) ok = record { shows = joins f.shows (sound es f.run) p ok; run = (ok, f.run) }
+  accepts (Publish p n) ok = record { shows = publishes f.shows (sound es f.run) p false n ok some; run = (ok, f.run) }
+  accepts (PublishTry p n) ok = record { shows = publishes f.shows (sound es f.run) p true n ok some; run = (ok, f.run) }
+  accepts (Claim p t) ok = let c = claims f.shows (sound es f.run) p some ok.0 t ok.1 ok.2 in let t₂ =
+      may_take f.shows (sound es f.run) p (claimed m t) ok.0 c.1 in record { shows = c.0; run = (t₂.1, (t₂.0, f.run)) }
+  accepts (Rest p) ok = let c = rests f.shows (sound es f.run) p some ok.0 ok.1 in let t₂ =
+      may_take f.shows (sound es f.run) p (rested m) ok.0 c.1 in record { shows = c.0; run = (t₂.1, (t₂.0, f.run)) }
+  accepts (Finish p) ok = record { shows = finishes f.shows (sound es f.run) p ok; run = (ok, f.run) }
+  accepts (Stop p) ok = record { shows = stops f.shows (sound es f.run) p; run = (ok, f.run) }
+  accepts (See p) ok = record { shows = looks f.shows (sound es f.run) p; run = (ok, f.run) }
+  accepts (Arrive p) ok = record { shows = arrives f.shows (sound es f.run) p ok; run = (ok, f.run) }
+  accepts (Leave p) ok = record { shows = leaves f.shows (sound es f.run) p ok; run = (ok, f.run) }
   accepts (Exit p) ok =
       record {
-        shows = exits m (state es) f.shows (sound es f.run) p ok (alone_hidden (state es) (sound es f.run) p ok.0 ok.2);
+        shows = exits f.shows (sound es f.run) p ok (alone_hidden (state es) (sound es f.run) p ok.0 ok.2);
         run = (ok, f.run);
       }
-  accepts (Clear p) ok = record { shows = clears m (state es) f.shows (sound es f.run) p; run = (ok, f.run) }
-  accepts (End p) ok = record { shows = ends m (state es) f.shows (sound es f.run) p ok; run = (ok, f.run) }
+  accepts (Clear p) ok = record { shows = clears f.shows (sound es f.run) p; run = (ok, f.run) }
+  accepts (End p) ok = record { shows = ends f.shows (sound es f.run) p ok; run = (ok, f.run) }
 
   -- a step next is accepted exactly where it is fair
   exactly : (e : Step) → IsInRange e → (first (tests m true e) ≡ None) ↔ IsFair m (state es) e
   exactly e range = (
-    (λ z. fair m (state es) f.shows (sound es f.run) some true e range (all_fail (tests m true e) z)),
-    (λ ok. none_first (tests m true e) (fails m (state es) f.shows (sound es f.run) some e ok)),
+    (λ z. fair f.shows (sound es f.run) some true e range (all_fail (tests m true e) z)),
+    (λ ok. none_first (tests m true e) (fails f.shows (sound es f.run) some e ok)),
   )
 
   served : (c : Call)
       → IsInRange c.step → (o : Option Why) → refusal m c ≡ o → Follows (judged o m c.step).0 ((if is_none o then events_of m c.step else []) ++ es)
   served c range None e =
-      accepts c.step (fair m (state es) f.shows (sound es f.run) some c.granted c.step range (all_fail (tests m c.granted c.step) e))
+      accepts c.step (fair f.shows (sound es f.run) some c.granted c.step range (all_fail (tests m c.granted c.step) e))
   served c range (Some why) e = f
 
   -- the next call
