@@ -6,8 +6,7 @@ use native.Mathlib.Decide.{ℕ_discrete}
 use Rattle.spindle_parts.specs.State.{Status, Out, In, Arrived, Party, Round, State, put, no_set, party_of, put_party, times, weight_member, inside, members}
 use Rattle.spindle_parts.specs.State.{waking, now, party, Free}
 use Rattle.spindle_parts.specs.Steps.{with_status, IsPublishable, Allowed, after, arrived, left, publish, ended_by, by, Event, Join, Publish, PublishTry, Take}
-use Rattle.spindle_parts.specs.Steps.{Begin, Finish}
-use Rattle.spindle_parts.specs.Steps.{Stop, See, PutBack, Arrive, Leave, Exit, Clear, End}
+use Rattle.spindle_parts.specs.Steps.{Begin, Finish, Stop, See, PutBack, Arrive, Leave, Exit, Clear, End}
 use Rattle.spindle_parts.proofs.Parties.{by_zero, moved, with_parties, next_round, put_here, put_else, look_here, look_else, total_at, look_wake, times_same}
 use Rattle.spindle_parts.proofs.Parties.{times_snoc}
 use Rattle.spindle_parts.proofs.Soundness.{Sound, no_closer, closers, none_in, out_of, alone_hidden}

@@ -1,7 +1,6 @@
 -- Reads after writes, counts over the parties, and states with other parties.
-use Rattle.std.proofs.Common.{◌≡◌, ◌≢◌, ℕ, zero, suc, ◌+◌, ◌≤◌, Bool, true, false, eq-eqb, ne_eqb, List, [], ◌∷◌, ◌++◌, sym, refl, ap, subst, arith}
-use Rattle.std.proofs.Common.{if◌then◌else◌, ◌==◌}
-use Rattle.std.proofs.Common.{Option, Some, None}
+use Rattle.std.proofs.Common.{◌≡◌, ◌≢◌, ℕ, zero, suc, ◌+◌, ◌≤◌, Bool, true, false, eq-eqb, ne_eqb, List, [], ◌∷◌, ◌++◌, sym, refl, ap, subst, arith, ◌==◌, Some}
+use Rattle.std.proofs.Common.{if◌then◌else◌, Option, None}
 use mathlib.Core.Logic.{dite}
 use native.Mathlib.Decide.{ℕ_discrete}
 use Rattle.spindle_parts.specs.State.{Status, Out, In, Arrived, Party, Round, State, party, put, absent, party_of, put_party, total, is_in, is_member, inside}

@@ -110,7 +110,7 @@ module _ {T : Type 0} (r r' : Registers) (g : Bool) (e : Step) (f : T → ℕ �
       }
 
 -- a call that isn't a join is granted all growth
-pub plain : {T : Type 0} (r r' : Registers) (e : Step) (o : Result T Why) → Serves r true e r' o → IsTidy r'
+plain : {T : Type 0} (r r' : Registers) (e : Step) (o : Result T Why) → Serves r true e r' o → IsTidy r'
     → KeepsKnown r.entries r'.entries → IfOk o (λ _. IsInRange e) → Makes r r' true e o
 plain r r' e o served tidy known range = record {
   range = range;
@@ -137,6 +137,14 @@ module _ (r : Registers) (before : IsSteady r) (v : Contents) (step : Step) (x :
       → Replies (λ _ n. Word n) (shown r') o b → Word (word (effect (shown r) e)) ≡ answer (shown r) e → Stepped v step x a
   by_word r' g e b o is k reply form = at r' e b is (stepped r r' g e (λ _ n. Word n) b before o k reply (always _ (λ _. form) o))
 
-  pub by_job : (r' : Registers) (e : Step) (b : Reply) (j : ℕ) (o : Result ℕ Why) → Stands r' e b → Makes r r' true e o
-      → Replies (λ k n. Job n k) (shown r') o b → IfOk o (λ k. k ≡ j) → Job (word (effect (shown r) e)) j ≡ answer (shown r) e → Stepped v step x a
-  by_job r' e b j o is k reply number form = at r' e b is (stepped r r' true e (λ k n. Job n k) b before o k reply (job_is _ j o number form))
+  -- a call that isn't a join, and one that gets a job
+  pub by_plain : (r' : Registers) (e : Step) (b : Reply) (o : Result Unit Why) → Stands r' e b → Serves r true e r' o → IsTidy r'
+      → KeepsKnown r.entries r'.entries → IfOk o (λ _. IsInRange e) → Replies (λ _ n. Word n) (shown r') o b
+      → Word (word (effect (shown r) e)) ≡ answer (shown r) e → Stepped v step x a
+  by_plain r' e b o is served tidy known range = by_word r' true e b o is (plain r r' e o served tidy known range)
+
+  pub by_job : (r' : Registers) (e : Step) (b : Reply) (j : ℕ) (o : Result ℕ Why) → Stands r' e b → Serves r true e r' o → IsTidy r'
+      → KeepsKnown r.entries r'.entries → IsInRange e → Replies (λ k n. Job n k) (shown r') o b → IfOk o (λ k. k ≡ j)
+      → Job (word (effect (shown r) e)) j ≡ answer (shown r) e → Stepped v step x a
+  by_job r' e b j o is served tidy known range reply number form = at r' e b is (stepped r r' true e (λ k n. Job n k) b before o
+      (plain r r' e o served tidy known (always _ (λ _. range) o)) reply (job_is _ j o number form))

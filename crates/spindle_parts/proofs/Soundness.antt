@@ -9,8 +9,7 @@ use Rattle.spindle_parts.specs.Steps.{with_status, Allowed, IsIdle, after, arriv
 use Rattle.spindle_parts.specs.Steps.{Stop, See, PutBack, Arrive, Leave, Exit, Clear, End}
 use Rattle.spindle_parts.specs.Runs.{state, IsRun, IsOnce}
 use Rattle.spindle_parts.proofs.Parties.{by_zero, by_option, moved, with_parties, next_round, put_here, put_else, put_all, put_again, look_here, look_else}
-use Rattle.spindle_parts.proofs.Parties.{total_put, total_at}
-use Rattle.spindle_parts.proofs.Parties.{inside_le_members, look_wake, inside_wake, members_wake}
+use Rattle.spindle_parts.proofs.Parties.{total_put, total_at, inside_le_members, look_wake, inside_wake, members_wake}
 use Rattle.spindle_parts.proofs.Fates.{Fate, Open, Held, Ran, Done, started, over, Work, status_work, begin_work, finish_work, take_work, put_back_work}
 use Rattle.spindle_parts.proofs.Fates.{see_work, completes, restarts, publish_work, free_is_open, open_is_free, idle_out, open_work, Complete}
 
