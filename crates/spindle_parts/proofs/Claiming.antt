@@ -11,7 +11,7 @@ use Rattle.spindle_parts.specs.Machine.{Configuration, counter, own, claimed, re
 use Rattle.spindle_parts.specs.EverySchedule.{Shows, StandsFor, MayBegin, only}
 use Rattle.spindle_parts.specs.declared.steps.Step.TheVariants.{Claim, Rest}
 use Rattle.spindle_parts.proofs.Parties.{by_option, put_all, put_here, look_here, look_else, times_same, times_else, tick_same}
-use Rattle.spindle_parts.proofs.Fates.{open_is_free, none_begun, over}
+use Rattle.spindle_parts.proofs.Fates.{or_right, open_is_free, none_begun, over}
 use Rattle.spindle_parts.proofs.Soundness.{Sound, no_closer, no_jobs}
 use Rattle.spindle_parts.proofs.Shares.{stands_below, all_stand, first_stands, rest_stands, stays_left, was_left, stays_rest, was_rest}
 use Rattle.spindle_parts.proofs.Tests.{equal_by}
@@ -100,10 +100,6 @@ module _ {cs : List ℕ} {rem fin jobs : ℕ} {begun done : List ℕ} {n : ℕ} 
 or_false : (a b : Bool) → a ≡ false → b ≡ false → (a || b) ≡ false
 or_false true b e f = absurd cc
 or_false false b e f = f
-
-or_right : (a b : Bool) → b ≡ true → (a || b) ≡ true
-or_right true b e = refl
-or_right false b e = e
 
 module _ {m : Configuration} {s : State} (a : Shows m s) (h : Sound s) (p : ℕ) where
   pub publishes : (b : Bool) (n : ℕ) → IsPublishable s p n → 0 < length m.counters → Shows (publishing m n b) (publish s b n)

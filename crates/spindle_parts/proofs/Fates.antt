@@ -49,6 +49,18 @@ pub not_true : (b : Bool) → (b ≡ true → ⊥) → b ≡ false
 not_true true n = absurd (n refl)
 not_true false n = refl
 
+or_true : (a b : Bool) → (a || b) ≡ true → (a ≡ true) ⊎ (b ≡ true)
+or_true true b e = inl refl
+or_true false b e = inr e
+
+or_left : (a b : Bool) → a ≡ true → (a || b) ≡ true
+or_left true b e = refl
+or_left false b e = absurd cc
+
+pub or_right : (a b : Bool) → b ≡ true → (a || b) ≡ true
+or_right true b e = refl
+or_right false b e = e
+
 -- f is not of the party q
 abbrev pub Foreign : ℕ → Fate → Type 0
 Foreign q f = (f ≢ Held q) × (f ≢ Ran q)
@@ -166,18 +178,6 @@ module _ (fate : ℕ → Fate) (r : Round) (ps : List Party) (w : Work fate r ps
       (bulk (λ k h. times k r.finished ≡ over h) some g (λ k e. w.finished k ∙ finished k e) (λ k _. w.finished k)) fits
       (λ q k other. bulk (λ j h. (h ≡ fate j) ⊎ (Foreign q (fate j) × Foreign q h)) some g (λ j e. inr (alone j q e other)) (λ j e. inl refl) k)
       (bulk (λ k h. h ≢ Open → k < r.jobs) some g below (λ k _. w.below k))
-
-  or_true : (a b : Bool) → (a || b) ≡ true → (a ≡ true) ⊎ (b ≡ true)
-  or_true true b e = inl refl
-  or_true false b e = inr e
-
-  or_left : (a b : Bool) → a ≡ true → (a || b) ≡ true
-  or_left true b e = refl
-  or_left false b e = absurd cc
-
-  or_right : (a b : Bool) → b ≡ true → (a || b) ≡ true
-  or_right true b e = refl
-  or_right false b e = e
 
   pub take_work : (some : ℕ → Bool) → (party_of ps p).status ≡ In → ((k : ℕ) → some k ≡ true → (fate k ≡ Open) × (k < r.jobs))
       → Work (λ k. if some k then Held p else fate k) r (put_party ps p (record (party_of ps p) { taken = λ k. (party_of ps p).taken k || some k }))

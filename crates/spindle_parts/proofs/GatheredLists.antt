@@ -20,10 +20,8 @@ joined_values : {T C : Type 0} (E : Type 0) (f : C → List T) (chunks : List C)
     (λ chunk answer. IfOk answer (λ (list : Vec T Global). list.items ≡ f chunk)) chunks (map Ok lists)
     → joined (map (λ list. list.items) lists) ≡ joined (map f chunks)
 joined_values E f [] [] z = refl
-joined_values E f [] (l ∷ ls) z = absurd z
-joined_values E f (c ∷ cs) [] z = absurd z
-joined_values E f (c ∷ cs) (l ∷ ls) z =
-    ap (λ t. t ++ joined (map (λ list. list.items) ls)) z.0 ∙ ap (λ t. f c ++ t) (joined_values E f cs ls z.1)
+joined_values E f (c ∷ cs) (l ∷ ls) z = ap (λ t. t ++ joined (map (λ list. list.items) ls)) z.0 ∙ ap (λ t. f c ++ t) (joined_values E f cs ls z.1)
+joined_values E f cs ls z = absurd z
 
 module _ {T E : Type 0} where
   -- no answers yet

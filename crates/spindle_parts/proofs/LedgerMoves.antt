@@ -51,17 +51,13 @@ module _ (slots : ℕ) where
       let low : i < 24 = ⊎_elim (λ (h : i ≡ 8). omega arith) (λ (h : i ≡ 16). omega arith) is in
       let off : i ≢ 0 = (λ e. ⊎_elim (λ (h : i ≡ 8). omega arith) (λ (h : i ≡ 16). omega arith) is) in
       let other : (j : ℕ) → j ≢ i → get_or (set s.words i flag) j 0 ≡ get_or s.words j 0 =
-      (λ j ne. get_or-set_other s.words i j flag 0 ne) in (
-        announcing i flag me.0,
-        keeps,
-        tt,
-        elsewhere slots s r i flag id me me.0.credit (trace i Announce flag flag) at refl refl refl (λ j. other (place_word j) (λ e. omega arith))
-            (λ t t' eq more. other 0 (λ e. off (sym e)) ∙ eq ∙ ap (λ (z : ℕ). z % 2 ^ 64) (omega arith))
-            (λ j f. dite (ℕ_discrete j i)
-            (λ (e : j ≡ i). subst (λ (z : ℕ). get_or (set s.words i flag) z 0 ≤ 1) (sym e)
-            (let here = get_or-set_same s.words i flag 0 (omega arith) in omega arith)) (λ ne. subst (λ (z : ℕ). z ≤ 1) (sym (other j ne)) (r.flags j f))),
-        (refl, refl),
-      )
+      (λ j ne. get_or-set_other s.words i j flag 0 ne) in
+      let kept = elsewhere slots s r i flag id me me.0.credit (trace i Announce flag flag) at refl refl refl (λ j. other (place_word j) (λ e. omega arith))
+          (λ t t' eq more. other 0 (λ e. off (sym e)) ∙ eq ∙ ap (λ (z : ℕ). z % 2 ^ 64) (omega arith))
+          (λ j f. dite (ℕ_discrete j i)
+          (λ (e : j ≡ i). subst (λ (z : ℕ). get_or (set s.words i flag) z 0 ≤ 1) (sym e)
+          (let here = get_or-set_same s.words i flag 0 (omega arith) in omega arith)) (λ ne. subst (λ (z : ℕ). z ≤ 1) (sym (other j ne)) (r.flags j f))) in
+      (announcing i flag me.0, keeps, tt, kept, (refl, refl))
 
   -- a step on the word of requests, which moves the credit alike
   at_requests : (s : Table) (r : Rule slots s) (id new c : ℕ) (me : M) (k : Kind)
@@ -78,46 +74,29 @@ module _ (slots : ℕ) where
 
   pub asks : (n id : ℕ) (me : M) (k : ℕ)
       → Allows (Rule slots) n id me 0 (λ x. (x + k) % 2 ^ 64) (asked (step n 0 k 0 none) me)
-  asks n id me k s r _ at _ = let x : ℕ = get_or s.words 0 0 in (
-    asking k x me.0,
-    keeps,
-    tt,
-    at_requests s r id ((x + k) % 2 ^ 64) (me.0.credit + k) me (Ask k) at (omega arith) refl refl (λ t t' is more. omega arith),
-    (refl, refl),
-  )
+  asks n id me k s r _ at _ = let x : ℕ = get_or s.words 0 0 in
+      let kept = at_requests s r id ((x + k) % 2 ^ 64) (me.0.credit + k) me (Ask k) at (omega arith) refl refl (λ t t' is more. omega arith) in
+      (asking k x me.0, keeps, tt, kept, (refl, refl))
 
   pub subtracts : (n id : ℕ) (me : M) (k : ℕ) → k < 2 ^ 64 → k ≤ me.0.credit
       → Allows (Rule slots) n id me 0 (λ x. (x + (2 ^ 64 - k)) % 2 ^ 64) (subtracted (step n 0 k 0 none) me)
-  subtracts n id me k small covered s r _ at _ = let x : ℕ = get_or s.words 0 0 in (
-    subtracting k x me.0,
-    keeps,
-    tt,
-    at_requests s r id ((x + (2 ^ 64 - k)) % 2 ^ 64) (me.0.credit - k) me (Subtract k) at (omega arith) refl refl (λ t t' is more. omega arith),
-    (refl, refl),
-  )
+  subtracts n id me k small covered s r _ at _ = let x : ℕ = get_or s.words 0 0 in
+      let kept = at_requests s r id ((x + (2 ^ 64 - k)) % 2 ^ 64) (me.0.credit - k) me (Subtract k) at (omega arith) refl refl (λ t t' is more. omega arith) in
+      (subtracting k x me.0, keeps, tt, kept, (refl, refl))
 
   pub installs : (n id : ℕ) (me : M) (k m : ℕ) → k < slots → m ≤ me.0.credit
       → Allows (Rule slots) n id me (place_word k) (λ x. (x + m) % 2 ^ 64) (installed (step n (place_word k) m 0 none) me)
-  installs n id me k m low covered s r _ at _ = let x : ℕ = get_or s.words (place_word k) 0 in
-      let new : ℕ = (x + m) % 2 ^ 64 in (
-        installing (place_word k) m x me.0,
-        keeps,
-        tt,
-        at_slot slots s r (place_word k) new id me (me.0.credit - m) (trace (place_word k) (Install m) x new) at k low refl refl refl refl (omega arith)
-            (λ u is. (omega arith, omega arith)),
-        (refl, refl),
-      )
+  installs n id me k m low covered s r _ at _ = let x : ℕ = get_or s.words (place_word k) 0 in let new : ℕ = (x + m) % 2 ^ 64 in
+      let kept = at_slot slots s r (place_word k) new id me (me.0.credit - m) (trace (place_word k) (Install m) x new) at k low refl refl refl refl
+      (omega arith) (λ u is. (omega arith, omega arith)) in
+      (installing (place_word k) m x me.0, keeps, tt, kept, (refl, refl))
 
   pub closes : (n id : ℕ) (me : M) (k : ℕ) → k < slots
       → Allows (Rule slots) n id me (place_word k) (λ _. 0) (closed (step n (place_word k) 0 0 none) me)
-  closes n id me k low s r _ at _ = let x : ℕ = get_or s.words (place_word k) 0 in (
-    closing (place_word k) x me.0,
-    keeps,
-    tt,
-    at_slot slots s r (place_word k) 0 id me (me.0.credit + x) (trace (place_word k) Close x 0) at k low refl refl refl refl (omega arith)
-        (λ u is. (omega arith, omega arith)),
-    (refl, refl),
-  )
+  closes n id me k low s r _ at _ = let x : ℕ = get_or s.words (place_word k) 0 in
+      let kept = at_slot slots s r (place_word k) 0 id me (me.0.credit + x) (trace (place_word k) Close x 0) at k low refl refl refl refl (omega arith)
+      (λ u is. (omega arith, omega arith)) in
+      (closing (place_word k) x me.0, keeps, tt, kept, (refl, refl))
 
   pub takes : (n id : ℕ) (me : M) (k old : ℕ) → k < slots → 0 < old
       → Allows (Rule slots) n id me (place_word k) (λ x. either (eqb x old) (old - 1) x) (taken (step n (place_word k) old (old - 1) none) me)
@@ -125,14 +104,9 @@ module _ (slots : ℕ) where
       let told = taken (step n i old (old - 1) none) me x in
       exchanged x old (old - 1)
       (λ (z : ℕ). (w : Account) × (a : Act (Unit {0})) × Valid s.homes me.1 a × Rule slots (stepped s i z id me.1 w a) × told (w, carried_after me.1 a))
-      (λ hit. (
-        taking i x me.0,
-        keeps,
-        tt,
-        at_slot slots s r i (old - 1) id me (me.0.credit + 1) (trace i Take x (x - 1)) at k low refl refl refl refl (omega arith)
-            (λ u is. (omega arith, omega arith)),
-        (refl, (λ _. refl), λ miss. absurd (miss hit)),
-      ))
+      (λ hit. let kept = at_slot slots s r i (old - 1) id me (me.0.credit + 1) (trace i Take x (x - 1)) at k low refl refl refl refl (omega arith)
+      (λ u is. (omega arith, omega arith)) in
+      (taking i x me.0, keeps, tt, kept, (refl, (λ _. refl), λ miss. absurd (miss hit))))
       (λ miss. (missing i x me.0, keeps, tt, stays s r i id me Miss at refl refl refl refl, (refl, (λ hit. absurd (miss hit)), λ _. refl)))
 
   pub splits : (id : ℕ) (v : Account) → Splits (Rule slots) id v v blank

@@ -9,17 +9,15 @@ use Rattle.spindle_parts.specs.Pieces.{joined, counted, total, lengths_of}
 pub all_zip_snoc : {A B : Type 0} (R : A → B → Type 0) (xs : List A) (ys : List B) (x : A) (y : B) → AllZip R xs ys → R x y
     → AllZip R (xs ++ x ∷ []) (ys ++ y ∷ [])
 all_zip_snoc R [] [] x y z r = (r, tt)
-all_zip_snoc R [] (b ∷ ys) x y z r = absurd z
-all_zip_snoc R (a ∷ xs) [] x y z r = absurd z
 all_zip_snoc R (a ∷ xs) (b ∷ ys) x y z r = (z.0, all_zip_snoc R xs ys x y z.1 r)
+all_zip_snoc R xs ys x y z r = absurd z
 
 -- two pairs of lists joined
 pub all_zip_append : {A B : Type 0} (R : A → B → Type 0) (xs : List A) (ys : List B) (vs : List A) (ws : List B) → AllZip R xs ys → AllZip R vs ws
     → AllZip R (xs ++ vs) (ys ++ ws)
 all_zip_append R [] [] vs ws z r = r
-all_zip_append R [] (b ∷ ys) vs ws z r = absurd z
-all_zip_append R (a ∷ xs) [] vs ws z r = absurd z
 all_zip_append R (a ∷ xs) (b ∷ ys) vs ws z r = (z.0, all_zip_append R xs ys vs ws z.1 r)
+all_zip_append R xs ys vs ws z r = absurd z
 
 -- one more list joined at the end
 pub joined_snoc : {A : Type 0} (xs : List (List A)) (x : List A) → joined (xs ++ x ∷ []) ≡ joined xs ++ x

@@ -2,25 +2,21 @@
 use Rattle.std.proofs.Common.{◌≡◌, ℕ, ◌+◌, ◌≤◌, List, [], ◌∷◌, ◌++◌, length, take, drop, refl, ap, sym, ◌∙◌, zero, suc, Bool, true, false, ◌&&◌, arith, ◌-◌}
 use Rattle.std.proofs.Common.{slice_range}
 use Rattle.std.proofs.lemmas.List.{drop-take, drop-drop, take-take, length-take-le, length-drop}
+use Rattle.std.proofs.Math.Bool.{and_assoc}
 use Rattle.std.specs.Cmp.Lexicographic.{pointwise}
 use Rattle.spindle_parts.specs.Pieces.{total}
-
-and_assoc : (a b c : Bool) → (a && b) && c ≡ a && (b && c)
-and_assoc true b c = refl
-and_assoc false b c = refl
 
 and_true : (a : Bool) → a && true ≡ a
 and_true true = refl
 and_true false = refl
 
 -- one more place compared
-pub pointwise_snoc : {A : Type 0} (E : A → A → Bool) (xs ys : List A) (x y : A) → length xs ≡ length ys → pointwise E (xs ++ x ∷ [])
-    (ys ++ y ∷ []) ≡ pointwise E xs ys && E x y
+pub pointwise_snoc : {A : Type 0} (E : A → A → Bool) (xs ys : List A) (x y : A) → length xs ≡ length ys
+    → pointwise E (xs ++ x ∷ []) (ys ++ y ∷ []) ≡ pointwise E xs ys && E x y
 pointwise_snoc E [] [] x y e = and_true (E x y)
-pointwise_snoc E [] (b ∷ ys) x y e = absurd (omega (arith, e))
-pointwise_snoc E (a ∷ xs) [] x y e = absurd (omega (arith, e))
-pointwise_snoc E (a ∷ xs) (b ∷ ys) x y e = ap (λ t. E a b && t) (pointwise_snoc E xs ys x y (omega (arith, e))) ∙ sym
-    (and_assoc (E a b) (pointwise E xs ys) (E x y))
+pointwise_snoc E (a ∷ xs) (b ∷ ys) x y e =
+    ap (λ t. E a b && t) (pointwise_snoc E xs ys x y (omega (arith, e))) ∙ sym (and_assoc (E a b) (pointwise E xs ys) (E x y))
+pointwise_snoc E xs ys x y e = absurd (omega (arith, e))
 
 -- a part of the sum is at most the sum
 pub total_part : (i : ℕ) (ls : List ℕ) → total (take i ls) ≤ total ls
@@ -29,8 +25,8 @@ total_part (suc i) [] = omega arith
 total_part (suc i) (l ∷ ls) = omega (arith, total_part i ls)
 
 -- a range within a range
-pub slice_range-slice_range : {A : Type 0} (xs : List A) (f t a b : ℕ) → a ≤ b → f + b ≤ t → slice_range (slice_range xs f t) a b ≡ slice_range xs (f + a)
-    (f + b)
+pub slice_range-slice_range : {A : Type 0} (xs : List A) (f t a b : ℕ) → a ≤ b → f + b ≤ t
+    → slice_range (slice_range xs f t) a b ≡ slice_range xs (f + a) (f + b)
 slice_range-slice_range xs f t a b h k =
     let m = t - f - a in
     let e : t - f ≡ a + m = omega arith in

@@ -16,6 +16,7 @@ use Rattle.std.specs.BTreeMap.{BTreeMap, get, btree_map_len}
 use Rattle.spindle_parts.specs.State.{put}
 use Rattle.spindle_parts.specs.Machine.{Seat, status, is_inside, is_waiting}
 use Rattle.spindle_parts.proofs.Parties.{put_here, put_else}
+use Rattle.spindle_parts.proofs.Fates.{not_true}
 use Rattle.spindle_parts.specs.Entries.{Writes, sense_of, running_of, IsKnown, IsMarked}
 use Rattle.spindle_parts.specs.Registers.{shown, stands}
 use Rattle.spindle_parts.specs.declared.steps.registers.Entry.{Entry}
@@ -56,10 +57,6 @@ found : (p : ℕ) (l : List ℕ) → list_any (λ q. p == q) l ≡ true → (i :
 found p [] e = absurd cc
 found p (x ∷ xs) e = dite (ℕ_discrete p x) (λ i. (0, ap (λ (k : ℕ). let o : Option ℕ = Some k in o) (sym i)))
     (λ n. let r = found p xs (sym (ap (λ (b : Bool). b || list_any (λ q. p == q) xs) (ne_eqb p x n)) ∙ e) in (suc r.0, r.1))
-
-not_true : (b : Bool) → (b ≡ true → ⊥) → b ≡ false
-not_true true n = absurd (n refl)
-not_true false n = refl
 
 module _ (entries : BTreeMap ℕ Entry) (saw : List ℕ) (room p : ℕ) (m : IsMarked entries saw room) where
   -- who has no entry saw nothing

@@ -287,7 +287,7 @@ gives t slots id me n below own s r d at fits =
 
 -- ---- a fresh table
 
-zero_at : (n i : ℕ) → let none_there : ℕ = 0 in get_or (replicate n none_there) i none_there ≡ none_there
+pub zero_at : (n i : ℕ) → let none_there : ℕ = 0 in get_or (replicate n none_there) i none_there ≡ none_there
 zero_at zero i = refl
 zero_at (suc n) zero = refl
 zero_at (suc n) (suc i) = zero_at n i

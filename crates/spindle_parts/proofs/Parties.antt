@@ -3,8 +3,8 @@ use Rattle.std.proofs.Common.{◌≡◌, ◌≢◌, ℕ, zero, suc, ◌+◌, ◌
 use Rattle.std.proofs.Common.{if◌then◌else◌, Option, None}
 use mathlib.Core.Logic.{dite}
 use native.Mathlib.Decide.{ℕ_discrete}
-use Rattle.spindle_parts.specs.State.{Status, Out, In, Arrived, Party, Round, State, party, put, absent, party_of, put_party, total, is_in, is_member, inside}
-use Rattle.spindle_parts.specs.State.{members, times, waking, wake}
+use Rattle.spindle_parts.specs.State.{Status, Out, Party, Round, State, party, put, absent, party_of, put_party, total, is_in, is_member, inside, members, wake}
+use Rattle.spindle_parts.specs.State.{times, waking}
 use Rattle.spindle_parts.specs.Steps.{with_status}
 
 -- the parties of s, but p stands so
@@ -69,8 +69,7 @@ total_at w z (x ∷ xs) (suc p) = let r = total_at w z xs p in omega arith
 
 pub in_le_member : (t : Status) → is_in t ≤ is_member t
 in_le_member Out = omega arith
-in_le_member In = omega arith
-in_le_member Arrived = omega arith
+in_le_member t = omega arith
 
 pub inside_le_members : (l : List Party) → inside l ≤ members l
 inside_le_members [] = omega arith
@@ -83,8 +82,7 @@ look_wake (x ∷ xs) (suc p) = look_wake xs p
 
 woken : (t : Status) → (is_in (waking t) ≡ is_member t) × (is_member (waking t) ≡ is_member t)
 woken Out = (refl, refl)
-woken In = (refl, refl)
-woken Arrived = (refl, refl)
+woken t = (refl, refl)
 
 pub inside_wake : (l : List Party) → inside (wake l) ≡ members l
 inside_wake [] = refl

@@ -33,18 +33,15 @@ not_true b e = ap not e
 
 pub out_by : (t : Status) → is_out t ≡ true → t ≡ Out
 out_by Out e = refl
-out_by In e = absurd cc
-out_by Arrived e = absurd cc
+out_by t e = absurd cc
 
 pub in_by : (t : Status) → is_inside t ≡ true → t ≡ In
-in_by Out e = absurd cc
 in_by In e = refl
-in_by Arrived e = absurd cc
+in_by t e = absurd cc
 
 pub waiting_by : (t : Status) → is_waiting t ≡ true → t ≡ Arrived
-waiting_by Out e = absurd cc
-waiting_by In e = absurd cc
 waiting_by Arrived e = refl
+waiting_by t e = absurd cc
 
 pub none_by : (o : Option ℕ) → is_some o ≡ false → o ≡ None
 none_by None e = refl

@@ -1,12 +1,8 @@
 -- The words of a fresh ledger are 0, but that rest is announced.
-use Rattle.std.proofs.Common.{ap, ◌≡◌, ◌∙◌, arith, get_or, get_or-set_same, get_or-set_other, ℕ, zero, suc, List, [], replicate, refl}
+use Rattle.std.proofs.Common.{ap, ◌≡◌, ◌∙◌, arith, get_or, get_or-set_same, get_or-set_other, ℕ, List, []}
 use Rattle.spindle_parts.proofs.LedgerMoves.{opens}
+use Rattle.spindle_parts.proofs.NumbersKept.{zero_at}
 use Rattle.spindle_parts.proofs.requests.Requests.new.Goals as goal
-
-zero_at : (n i : ℕ) → let none : ℕ = 0 in get_or (replicate n none) i none ≡ none
-zero_at zero i = refl
-zero_at (suc n) zero = refl
-zero_at (suc n) (suc i) = zero_at n i
 
 pub of_words-requires : goal.of_words-requires
 of_words-requires c = let ws : List ℕ = c.in_ok-words.words.items in let made = c.in_ok-words.ensures in let is = c.as_slice.ensures.value in
