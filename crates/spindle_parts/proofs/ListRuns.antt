@@ -1,19 +1,14 @@
 -- Lists compared place by place, and lists cut into runs.
-use Rattle.std.proofs.Common.{◌≡◌, ℕ, ◌+◌, ◌≤◌, List, [], ◌∷◌, ◌++◌, length, take, drop, refl, ap, sym, ◌∙◌, zero, suc, Bool, true, false, ◌&&◌, arith, ◌-◌}
-use Rattle.std.proofs.Common.{slice_range}
+use Rattle.std.proofs.Common.{◌≡◌, ℕ, ◌+◌, ◌≤◌, List, [], ◌∷◌, ◌++◌, length, take, drop, refl, ap, sym, ◌∙◌, zero, suc, Bool, ◌&&◌, arith, ◌-◌, slice_range}
 use Rattle.std.proofs.lemmas.List.{drop-take, drop-drop, take-take, length-take-le, length-drop}
-use Rattle.std.proofs.Math.Bool.{and_assoc}
+use Rattle.std.proofs.Math.Bool.{and-true, and_assoc}
 use Rattle.std.specs.Cmp.Lexicographic.{pointwise}
 use Rattle.spindle_parts.specs.Pieces.{total}
-
-and_true : (a : Bool) → a && true ≡ a
-and_true true = refl
-and_true false = refl
 
 -- one more place compared
 pub pointwise_snoc : {A : Type 0} (E : A → A → Bool) (xs ys : List A) (x y : A) → length xs ≡ length ys
     → pointwise E (xs ++ x ∷ []) (ys ++ y ∷ []) ≡ pointwise E xs ys && E x y
-pointwise_snoc E [] [] x y e = and_true (E x y)
+pointwise_snoc E [] [] x y e = and-true (E x y)
 pointwise_snoc E (a ∷ xs) (b ∷ ys) x y e =
     ap (λ t. E a b && t) (pointwise_snoc E xs ys x y (omega (arith, e))) ∙ sym (and_assoc (E a b) (pointwise E xs ys) (E x y))
 pointwise_snoc E xs ys x y e = absurd (omega (arith, e))
