@@ -32,8 +32,7 @@ published_tally T n begun done some fresh none = let cs : List ℕ = replicate T
       unbegun = λ k lt _. subst (λ (z : ℕ). StandsFor z (n / z) (λ t. get_or cs t 0) (n % T) n k) (sym size)
           (all_stand T (n / T) n (n % T) whole (λ t. get_or cs t 0) (λ t at. get_or-replicate T t (n / T) 0 at) k lt);
       left = λ k l. (
-        stands_below T (n / T) n (n % T) whole
-            (λ t. get_or cs t 0) (n % T) k (subst (λ (z : ℕ). StandsFor z (n / z) (λ t. get_or cs t 0) (n % T) n k) size l),
+        stands_below T (n / T) n (n % T) whole (λ t. get_or cs t 0) (n % T) k (subst (λ (z : ℕ). StandsFor z (n / z) (λ t. get_or cs t 0) (n % T) n k) size l),
         fresh k,
       );
       finished = sym none;
@@ -82,8 +81,7 @@ module _ {cs : List ℕ} {rem fin jobs : ℕ} {begun done : List ℕ} {n : ℕ} 
     rest_at_most = let g = tally.rest_at_most in omega arith;
     unbegun = λ j below z. let y = not_yet j k z in stays_rest (length cs) (n / length cs) n (n % length cs) whole
         (λ i. get_or cs i 0) rem tally.own_at_most tally.rest_at_most pos j (λ e. y.0 (e ∙ sym is)) (tally.unbegun j below y.1);
-    left = λ j l. let y =
-        was_rest (length cs) (n / length cs) n (n % length cs) whole (λ i. get_or cs i 0) rem tally.own_at_most tally.rest_at_most pos j l in
+    left = λ j l. let y = was_rest (length cs) (n / length cs) n (n % length cs) whole (λ i. get_or cs i 0) rem tally.own_at_most tally.rest_at_most pos j l in
         ((tally.left j y.0).0, times_else j begun k (λ e. y.1 (e ∙ is)) ∙ (tally.left j y.0).1);
     finished = tally.finished;
   }
@@ -125,8 +123,7 @@ module _ {m : Configuration} {s : State} (a : Shows m s) (h : Sound s) (p : ℕ)
     (
       ap (λ (z : Party). z.status) look ∙ may.is_in,
       may.unseen,
-      ap (λ (z : Party). z.running) look
-          ∙ may.idle,
+      ap (λ (z : Party). z.running) look ∙ may.idle,
       ap (λ (z : Party). z.taken k) look ∙ or_right ((party s p).taken k) (only k k) (eq-eqb k k refl),
     ),
   )
@@ -172,8 +169,7 @@ module _ {m : Configuration} {s : State} (a : Shows m s) (h : Sound s) (p : ℕ)
 
     pub rests : 0 < m.remainder → Shows (effect m (Rest p)) (after (after s (Take p (only (rested m)))) (Begin p (rested m))) × Free s (rested m)
     rests pos = (
-      begins (rested m) m.counters (m.remainder - 1)
-          (λ n e. rest_tally some (tally a n e) (rested m) pos (rested_is n e)),
+      begins (rested m) m.counters (m.remainder - 1) (λ n e. rest_tally some (tally a n e) (rested m) pos (rested_is n e)),
       let x = the_published in
           let f = rested_left some (tally a x.0 x.1) pos in
           subst (Free s) (sym (rested_is x.0 x.1)) (f.0, f.1, λ q. a.untaken q (x.0 - m.remainder)),

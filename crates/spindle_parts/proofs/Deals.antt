@@ -59,15 +59,11 @@ own_run_before xs each i d =
 
 pub own_run : {A : Type 0} (xs : List A) (each threads i : ℕ) → i < threads
     → take each (drop (each * i) (take (each * threads) xs)) ≡ take each (drop (each * i) xs)
-own_run xs each threads i h =
-    let e : i + suc (threads - (i + 1)) ≡ threads = omega arith in
-    rw e at (own_run_before xs each i (threads - (i + 1)))
+own_run xs each threads i h = let e : i + suc (threads - (i + 1)) ≡ threads = omega arith in rw e at (own_run_before xs each i (threads - (i + 1)))
 
 -- what is left after the run
 pub own_left : {A : Type 0} (xs : List A) (each i : ℕ) → drop each (drop (each * i) xs) ≡ drop (each * (i + 1)) xs
-own_left xs each i =
-    let e : each * (i + 1) ≡ each * i + each = omega arith in
-    rw e (drop-drop each (each * i) xs)
+own_left xs each i = let e : each * (i + 1) ≡ each * i + each = omega arith in rw e (drop-drop each (each * i) xs)
 
 -- before its turn, a list is empty
 pub list_empty : {A : Type 0} (F : ℕ → List A) (threads i : ℕ) → i < threads → get_or (map F (counted 0 i) ++ replicate (threads - i) []) i [] ≡ []
@@ -108,9 +104,7 @@ map-dealt_all f xs threads (k ∷ ks) = rw (map-dealt f xs threads k, map-dealt_
 
 -- the first a and the next b elements
 take_both : {A : Type 0} (a b : ℕ) (xs : List A) → take (a + b) xs ≡ take a xs ++ take b (drop a xs)
-take_both a b xs =
-    let e = take-append-drop a (take (a + b) xs) in
-    sym (rw (take-take a (a + b) xs (omega arith), drop-take a b xs) at e)
+take_both a b xs = let e = take-append-drop a (take (a + b) xs) in sym (rw (take-take a (a + b) xs (omega arith), drop-take a b xs) at e)
 
 -- four lists, grouped by the middle or in pairs
 regrouped : {A : Type 0} (p q r s : List A) → p ++ ((q ++ r) ++ s) ≡ (p ++ q) ++ (r ++ s)
@@ -119,17 +113,14 @@ regrouped p q r s = ap (λ z. p ++ z) (append_assoc q r s) ∙ sym (append_assoc
 -- the two in the middle exchanged
 exchanged : {A : Type 0} (p q r s : List A) → IsPermutation ((p ++ q) ++ (r ++ s)) ((p ++ r) ++ (q ++ s))
 exchanged p q r s =
-    let inner =
-    IsPermutation-append_right p ((q ++ r) ++ s) ((r ++ q) ++ s) (IsPermutation-append_left s (q ++ r) (r ++ q) (IsPermutation-append_comm q r)) in
+    let inner = IsPermutation-append_right p ((q ++ r) ++ s) ((r ++ q) ++ s) (IsPermutation-append_left s (q ++ r) (r ++ q) (IsPermutation-append_comm q r)) in
     rw (regrouped p q r s, regrouped p r q s) at inner
 
 -- the first i threads hold their runs and the first i of the rest
 dealt_part : {A : Type 0} (xs : List A) (threads i : ℕ) →
     let each = length xs / threads in
     IsPermutation (take (each * i) xs ++ take i (drop (each * threads) xs)) (joined (map (dealt xs threads) (counted 0 i)))
-dealt_part xs threads zero =
-    let e : length xs / threads * 0 ≡ 0 = omega arith in
-    rw e (IsPermutation-refl [])
+dealt_part xs threads zero = let e : length xs / threads * 0 ≡ 0 = omega arith in rw e (IsPermutation-refl [])
 dealt_part xs threads (suc i) =
     let each = length xs / threads in
     let R = drop (each * threads) xs in

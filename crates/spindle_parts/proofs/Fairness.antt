@@ -130,8 +130,7 @@ module _ {m : Configuration} {s : State} (a : Shows m s) (h : Sound s) (some : 0
   fair g (Join p) range f = (
     sym (a.status p) ∙ out_by (status m p) (not_false (is_out (status m p)) f.0),
     unclosed a h some p f.1.1.0,
-    let n =
-        differ_by m.members 32767 f.1.0 in let few = h.gate.few in let i = a.members in omega arith,
+    let n = differ_by m.members 32767 f.1.0 in let few = h.gate.few in let i = a.members in omega arith,
   )
   fair g (Publish p n) range f = publish_fair a h some p n range f
   fair g (PublishTry p n) range f = publish_fair a h some p n range f
@@ -146,8 +145,7 @@ module _ {m : Configuration} {s : State} (a : Shows m s) (h : Sound s) (some : 0
   fair g (See p) range f = (at_in a h some p f.0, sym a.stopped ∙ not_false m.stopped f.1.1.0)
   fair g (Arrive p) range f = (at_in a h some p f.0, (a.untaken p, idle a h some p f.1.0), used a h some p m.stopped refl f.1.1.0)
   fair g (Leave p) range f = (
-    sym (a.status p)
-        ∙ waiting_by (status m p) (not_false (is_waiting (status m p)) f.0),
+    sym (a.status p) ∙ waiting_by (status m p) (not_false (is_waiting (status m p)) f.0),
     unclosed a h some p f.1.0,
     stays a h some p f.1.1.0,
   )
@@ -156,8 +154,7 @@ module _ {m : Configuration} {s : State} (a : Shows m s) (h : Sound s) (some : 0
   fair g (End p) range f = (closer_is a h some p f.0, hidden a h some p f.1.0)
 
   claim_passes : (p : ℕ) → MayBegin s p → AllFail (claim_tests m p)
-  claim_passes p y =
-      (in_passes a h some p y.is_in, (shown_passes a h some p y.published, (idle_passes a h some p y.idle, (a.seen p ∙ y.unseen, tt))))
+  claim_passes p y = (in_passes a h some p y.is_in, (shown_passes a h some p y.published, (idle_passes a h some p y.idle, (a.seen p ∙ y.unseen, tt))))
 
   -- no test refuses a fair step
   pub fails : (e : Step) → IsFair m s e → AllFail (tests m true e)
@@ -172,11 +169,9 @@ module _ {m : Configuration} {s : State} (a : Shows m s) (h : Sound s) (some : 0
   fails (Rest p) ok = let y = claim_passes p ok.0 in (y.0, (y.1.0, (y.1.1.0, (y.1.1.1.0, (above_passes a h some p m.remainder ok.1, tt)))))
   fails (Finish p) ok = (runs_passes a h some p ok, tt)
   fails (Stop p) ok = (runs_passes a h some p ok.0, (not_true m.stoppable (a.stoppable ∙ ok.1), tt))
-  fails (See p) ok =
-      (in_passes a h some p ok.0, (shown_passes a h some p (stopped_shown a h some p ok.0 ok.1), (not_true m.stopped (a.stopped ∙ ok.1), tt)))
+  fails (See p) ok = (in_passes a h some p ok.0, (shown_passes a h some p (stopped_shown a h some p ok.0 ok.1), (not_true m.stopped (a.stopped ∙ ok.1), tt)))
   fails (Arrive p) ok = (in_passes a h some p ok.0, (idle_passes a h some p ok.1.1, (used_passes a h some p ok.2, tt)))
-  fails (Leave p) ok =
-      (ap (λ (t : Status). not (is_waiting t)) (a.status p ∙ ok.0), (unclosed_passes a h some p ok.1, (stays_passes a h some p ok.2, tt)))
+  fails (Leave p) ok = (ap (λ (t : Status). not (is_waiting t)) (a.status p ∙ ok.0), (unclosed_passes a h some p ok.1, (stays_passes a h some p ok.2, tt)))
   fails (Exit p) ok = (in_passes a h some p ok.0, (idle_passes a h some p ok.1.1, (stays_passes a h some p ok.2, tt)))
   fails (Clear p) ok = (closer_passes a h some p ok, tt)
   fails (End p) ok = (closer_passes a h some p ok.0, (hidden_passes a h some p ok.1, tt))

@@ -71,8 +71,7 @@ Spared fate fate' q k = (fate' k ≡ fate k) ⊎ (Foreign q (fate k) × Foreign 
 
 pub others_fit : (fate fate' : ℕ → Fate) (q : ℕ) (x : Party) → ((k : ℕ) → Spared fate fate' q k) → Fits fate q x → Fits fate' q x
 others_fit fate fate' q x spared f = record {
-  held = λ k h. ⊎_elim
-      (λ (e : fate' k ≡ fate k). e ∙ f.held k h) (λ (t : Foreign q (fate k) × Foreign q (fate' k)). absurd (t.0.0 (f.held k h))) (spared k);
+  held = λ k h. ⊎_elim (λ (e : fate' k ≡ fate k). e ∙ f.held k h) (λ (t : Foreign q (fate k) × Foreign q (fate' k)). absurd (t.0.0 (f.held k h))) (spared k);
   holds = λ k h. ⊎_elim (λ (e : fate' k ≡ fate k). f.holds k (sym e ∙ h)) (λ (t : Foreign q (fate k) × Foreign q (fate' k)). absurd (t.1.0 h)) (spared k);
   ran = λ k h. ⊎_elim (λ (e : fate' k ≡ fate k). e ∙ f.ran k h) (λ (t : Foreign q (fate k) × Foreign q (fate' k)). absurd (t.0.1 (f.ran k h))) (spared k);
   runs = λ k h. ⊎_elim (λ (e : fate' k ≡ fate k). f.runs k (sym e ∙ h)) (λ (t : Foreign q (fate k) × Foreign q (fate' k)). absurd (t.1.1 h)) (spared k);
@@ -119,8 +118,7 @@ module _ (fate : ℕ → Fate) (r : Round) (ps : List Party) (w : Work fate r ps
       (subst (λ (z : Fate). Foreign q (fate k) × Foreign q z) (sym (put_here fate k g)) (alone q other))))
       (λ n. inl (put_else fate k g j n))
 
-  pub begin_work : (k : ℕ) → (party_of ps p).status ≡ In → (party_of ps p).running ≡ None → (party_of ps p).taken k ≡ true
-      → Work (put fate k (Ran p))
+  pub begin_work : (k : ℕ) → (party_of ps p).status ≡ In → (party_of ps p).running ≡ None → (party_of ps p).taken k ≡ true → Work (put fate k (Ran p))
       (record r { begun = r.begun ++ k ∷ [] }) (put_party ps p (record (party_of ps p) { running = Some k; taken = put (party_of ps p).taken k false }))
   begin_work k is_in idle mine = let f = w.fits p in let was : fate k ≡ Held p = f.held k mine in
       party_work (put fate k (Ran p)) (r.begun ++ k ∷ []) r.finished (record (party_of ps p) { running = Some k; taken = put (party_of ps p).taken k false })
@@ -137,8 +135,10 @@ module _ (fate : ℕ → Fate) (r : Round) (ps : List Party) (w : Work fate r ps
         runs = put_all (λ j g. g ≡ Ran p → Some k ≡ Some j) fate k (Ran p) (λ _. refl) (λ j _ h. let a = f.runs j h in absurd cc);
         within = λ j h. is_in;
       }
-      (spared_at k (Ran p) (λ q other. (((λ h. let a = was in let b : p ≡ q = cc in other (sym b)), (λ h. let a = was in cc)),
-      ((λ h. cc), (λ h. let b : p ≡ q = cc in other (sym b))))))
+      (spared_at k (Ran p) (λ q other. (
+        ((λ h. let a = was in let b : p ≡ q = cc in other (sym b)), (λ h. let a = was in cc)),
+        ((λ h. cc), (λ h. let b : p ≡ q = cc in other (sym b))),
+      )))
       (put_all (λ j g. g ≢ Open → j < r.jobs) fate k (Ran p) (λ _. w.below k (λ z. let a = was in cc)) (λ j _. w.below j))
 
   pub finish_work : (k : ℕ) → (party_of ps p).running ≡ Some k

@@ -120,8 +120,7 @@ module _ {m : Configuration} {s : State} (a : Shows m s) (h : Sound s) (p : ℕ)
   -- a round's end: every seat is woken, in a state where it was so or nobody is a member
   turns : (x : ℕ → Seat) (ps qs : List Party) (i n : ℕ)
       → ((q : ℕ) → Fits (x q) (party_of ps q) ((now s).seen q)) → ((q : ℕ) → party_of qs q ≡ with_status (waking (party_of ps q).status) (party_of ps q))
-      → n ≡ state.inside qs → n ≡ state.members qs → s.published ≡ None
-      → Shows (turned (record m { seat = x; inside = i; members = n })) (next_round s qs None)
+      → n ≡ state.inside qs → n ≡ state.members qs → s.published ≡ None → Shows (turned (record m { seat = x; inside = i; members = n })) (next_round s qs None)
   turns x ps qs i n fits woken ins mem hidden = shown _ (next_round s qs None) state.blank (h.later (s.round + 1) (omega arith))
       (λ q. subst (λ (y : Party). Fits (record { status = waking (x q).status; running = (x q).running; seen = false }) y false)
       (sym (woken q)) record { status = ap waking (fits q).status; running = (fits q).running; seen = refl; untaken = (fits q).untaken })
@@ -151,8 +150,7 @@ module _ {m : Configuration} {s : State} (a : Shows m s) (h : Sound s) (p : ℕ)
       a.inside a.members a.sense a.closer refl a.stoppable a.stopped (λ n e. absurd cc)
 
   -- the party has seen the stop, in a round stopped or not
-  sees : (b : Bool)
-      → Shows (record m { seat = with_seen m p; stopped = b }) (change_round s (record (now s) { stopped = b; seen = put (now s).seen p true }))
+  sees : (b : Bool) → Shows (record m { seat = with_seen m p; stopped = b }) (change_round s (record (now s) { stopped = b; seen = put (now s).seen p true }))
   sees b = let r : Round = record (now s) { stopped = b; seen = put (now s).seen p true } in
       shown (record m { seat = with_seen m p; stopped = b }) (change_round s r) r (put_here s.rounds s.round r)
       (put_all (λ q x. Fits x (party s q) (put (now s).seen p true q)) m.seat p (record (m.seat p) { seen = true })

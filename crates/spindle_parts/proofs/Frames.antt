@@ -69,8 +69,7 @@ module _ (s : State) (h : Sound s) (p q : ℕ) (other : q ≢ p) where
   -- a new status and no more
   restatus : (t : Status) (c : Option ℕ)
       → (s.closer ≡ Some q → c ≡ Some q) × (s.closer ≢ Some q → c ≢ Some q) → Frame s (with_parties s (moved s p t) c s.rounds) q
-  restatus t c cl = changed (with_status t (party s p)) c cl
-      (inl (λ _ k f. (f.0, f.1, taken_put (with_status t (party s p)) k (λ e. e) f.2)))
+  restatus t c cl = changed (with_status t (party s p)) c cl (inl (λ _ k f. (f.0, f.1, taken_put (with_status t (party s p)) k (λ e. e) f.2)))
 
   -- the round's record becomes r too
   reworked : (ps : List Party) (r : Round) → party_of ps q ≡ party s q → r.seen q ≡ (now s).seen q

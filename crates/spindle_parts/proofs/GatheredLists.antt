@@ -35,10 +35,7 @@ module _ {T E : Type 0} where
       let items : Vec T Global → List T = λ l. l.items in (
         is.0 ++ list ∷ [],
         ap (λ t. t ++ Ok list ∷ []) is.1 ∙ sym (map_snoc Ok is.0 list),
-        more
-            ∙ ap (λ t. t ++ list.items) is.2
-            ∙ sym (joined_snoc (map items is.0) list.items)
-            ∙ ap joined (sym (map_snoc items is.0 list)),
+        more ∙ ap (λ t. t ++ list.items) is.2 ∙ sym (joined_snoc (map items is.0) list.items) ∙ ap joined (sym (map_snoc items is.0 list)),
       )
 
   -- the first failure

@@ -31,21 +31,17 @@ found_at (x ∷ xs) zero v e = (omega arith, some-injective x v e)
 found_at (x ∷ xs) (suc i) v e = let h = found_at xs i v e in (let lt = h.0 in omega arith, h.1)
 
 -- a sum over all seats where one seat's account changes
-sum_by_seat : (f : Account → ℕ) (l : List Account) (i : ℕ) (v w : Account) → get_elem? l i ≡ some v
-    → sum_by f (set l i w) + f v ≡ sum_by f l + f w
-sum_by_seat f l i v w e = let h = found_at l i v e in
-    subst (λ (z : Account). sum_by f (set l i w) + f z ≡ sum_by f l + f w) h.1 (sum_by-set f l i w v h.0)
+sum_by_seat : (f : Account → ℕ) (l : List Account) (i : ℕ) (v w : Account) → get_elem? l i ≡ some v → sum_by f (set l i w) + f v ≡ sum_by f l + f w
+sum_by_seat f l i v w e = let h = found_at l i v e in subst (λ (z : Account). sum_by f (set l i w) + f z ≡ sum_by f l + f w) h.1 (sum_by-set f l i w v h.0)
 
 -- a sum over all trails grows by the new step
 sum_by_trails : (g : Log → ℕ) (l : List Account) (i : ℕ) (v : Account) (c : ℕ) (x : Log) → get_elem? l i ≡ some v
     → over_trails g (set l i (noted c x v)) ≡ over_trails g l + g x
-sum_by_trails g l i v c x e = let a = sum_by_seat (λ u. sum_by g u.trail) l i v (noted c x v) e in
-    let b = sum_by-cons g x v.trail in omega arith
+sum_by_trails g l i v c x e = let a = sum_by_seat (λ u. sum_by g u.trail) l i v (noted c x v) e in let b = sum_by-cons g x v.trail in omega arith
 
 pub total_same : (f g : ℕ → ℕ) (n : ℕ) → ((i : ℕ) → i < n → f i ≡ g i) → total f n ≡ total g n
 total_same f g zero h = refl
-total_same f g (suc n) h = let a = total_same f g n (λ i lt. h i (omega arith)) in let b = h n (omega arith) in
-    omega arith
+total_same f g (suc n) h = let a = total_same f g n (λ i lt. h i (omega arith)) in let b = h n (omega arith) in omega arith
 
 -- two sums that differ at one place
 total_but : (f g : ℕ → ℕ) (n k : ℕ) → k < n → ((i : ℕ) → i < n → i ≢ k → f i ≡ g i) → total f n + g k ≡ total g n + f k
@@ -94,8 +90,7 @@ module _ (slots : ℕ) where
         → get_or W 0 0 ≡ standing slots V % 2 ^ 64 → ((j : ℕ) → IsFlag j → get_or W j 0 ≤ 1) → Result
     kept credit below places requests flags = record {
       wide = length-set s.words i new ∙ r.wide;
-      credits =
-          λ p v e. ⊎_elim (λ (h : (p ≡ id) × (noted c x me.0 ≡ v)). subst IsCredit h.1 (credit_after credit))
+      credits = λ p v e. ⊎_elim (λ (h : (p ≡ id) × (noted c x me.0 ≡ v)). subst IsCredit h.1 (credit_after credit))
           (λ (h : (p ≢ id) × (get_elem? s.views p ≡ some v)). r.credits p v h.1) (at_set s.views id p (noted c x me.0) v e);
       never_below = below;
       places = places;
@@ -123,8 +118,7 @@ module _ (slots : ℕ) where
         no_removed j = onto_none j (λ y. removed y.kind y.found) x none_removed
 
         as_before : (j : ℕ) → unfilled V j ≡ unfilled s.views j
-        as_before j = let a = opened_after j in let b = removed_after j in let z = no_opened j in
-            let y = no_removed j in omega arith
+        as_before j = let a = opened_after j in let b = removed_after j in let z = no_opened j in let y = no_removed j in omega arith
 
     -- a step at the slot k, which moves between its places and the credit
     pub at_slot : (k : ℕ) → k < slots → i ≡ place_word k → x.word ≡ place_word k → cost x.kind ≡ opened x.kind
@@ -135,8 +129,7 @@ module _ (slots : ℕ) where
         let g = goes (unfilled s.views k) (r.places k low) in let g₀ = g.0 in
         let a = opened_after k in let b = removed_after k in let z = onto_here k (λ y. opened y.kind) x there in
         let y = onto_here k (λ y. removed y.kind y.found) x there in
-        let other : (j : ℕ) → j ≢ place_word k → get_or W j 0 ≡ get_or s.words j 0 =
-        (λ j ne. get_or-set_other s.words i j new 0 (λ e. ne (e ∙ here))) in
+        let other : (j : ℕ) → j ≢ place_word k → get_or W j 0 ≡ get_or s.words j 0 = (λ j ne. get_or-set_other s.words i j new 0 (λ e. ne (e ∙ here))) in
         kept (omega arith)
         (λ j lt. dite (ℕ_discrete j k) (λ (e : j ≡ k). subst (λ (z : ℕ). removed_at z V ≤ opened_at z V) (sym e) (omega arith))
         (λ ne. let h = r.never_below j lt in let o = opened_else j ne in let m = removed_else j ne in omega arith))
@@ -153,12 +146,10 @@ module _ (slots : ℕ) where
         apart j ne e = ne (let t = there in omega arith)
 
         opened_else : (j : ℕ) → j ≢ k → opened_at j V ≡ opened_at j s.views
-        opened_else j ne = let a = opened_after j in let z = onto_else j (λ y. opened y.kind) x (apart j ne) in
-            omega arith
+        opened_else j ne = let a = opened_after j in let z = onto_else j (λ y. opened y.kind) x (apart j ne) in omega arith
 
         removed_else : (j : ℕ) → j ≢ k → removed_at j V ≡ removed_at j s.views
-        removed_else j ne = let a = removed_after j in
-            let z = onto_else j (λ y. removed y.kind y.found) x (apart j ne) in omega arith
+        removed_else j ne = let a = removed_after j in let z = onto_else j (λ y. removed y.kind y.found) x (apart j ne) in omega arith
 
         as_before : (j : ℕ) → j ≢ k → unfilled V j ≡ unfilled s.views j
         as_before j ne = let a = opened_else j ne in let b = removed_else j ne in omega arith

@@ -31,8 +31,7 @@ adds_none f l e = let a = sum_by_push f l blank in omega arith
 module _ (slots : ℕ) where
   -- a step that leaves its word and moves nothing
   stays : (s : Table) (r : Rule slots s) (i id : ℕ) (me : M) (k : Kind)
-      → let x : ℕ = get_or s.words i 0 in get_elem? s.views id ≡ some me.0 → cost k ≡ 0 → gain k x ≡ 0 → opened k ≡ 0
-      → removed k x ≡ 0
+      → let x : ℕ = get_or s.words i 0 in get_elem? s.views id ≡ some me.0 → cost k ≡ 0 → gain k x ≡ 0 → opened k ≡ 0 → removed k x ≡ 0
       → Rule slots (stepped s i x id me.1 (noted me.0.credit (trace i k x x) me.0) keeps)
   stays s r i id me k at costs gains opens removes = let x : ℕ = get_or s.words i 0 in
       elsewhere slots s r i x id me me.0.credit (trace i k x x) at (omega arith) opens removes (λ j. here (place_word j))
@@ -42,38 +41,33 @@ module _ (slots : ℕ) where
       here j = ap (λ (l : List ℕ). get_or l j 0) (set-get_or s.words i 0)
 
   pub loads : (n id : ℕ) (me : M) (i : ℕ) → Allows (Rule slots) n id me i (λ x. x) (loaded (step n i 0 0 none) me)
-  loads n id me i s r _ at _ =
-      (loading i (get_or s.words i 0) me.0, keeps, tt, stays s r i id me Load at refl refl refl refl, (refl, refl, λ f. r.flags i f))
+  loads n id me i s r _ at _ = (loading i (get_or s.words i 0) me.0, keeps, tt, stays s r i id me Load at refl refl refl refl, (refl, refl, λ f. r.flags i f))
 
   pub announces : (n id : ℕ) (me : M) (i flag : ℕ) → IsFlag i → flag ≤ 1
       → Allows (Rule slots) n id me i (λ _. flag) (λ _. announced (step n i flag 0 none) me flag)
   announces n id me i flag is small s r _ at _ = let wide = r.wide in
       let low : i < 24 = ⊎_elim (λ (h : i ≡ 8). omega arith) (λ (h : i ≡ 16). omega arith) is in
       let off : i ≢ 0 = (λ e. ⊎_elim (λ (h : i ≡ 8). omega arith) (λ (h : i ≡ 16). omega arith) is) in
-      let other : (j : ℕ) → j ≢ i → get_or (set s.words i flag) j 0 ≡ get_or s.words j 0 =
-      (λ j ne. get_or-set_other s.words i j flag 0 ne) in
+      let other : (j : ℕ) → j ≢ i → get_or (set s.words i flag) j 0 ≡ get_or s.words j 0 = (λ j ne. get_or-set_other s.words i j flag 0 ne) in
       let kept = elsewhere slots s r i flag id me me.0.credit (trace i Announce flag flag) at refl refl refl (λ j. other (place_word j) (λ e. omega arith))
-          (λ t t' eq more. other 0 (λ e. off (sym e)) ∙ eq ∙ ap (λ (z : ℕ). z % 2 ^ 64) (omega arith))
-          (λ j f. dite (ℕ_discrete j i)
-          (λ (e : j ≡ i). subst (λ (z : ℕ). get_or (set s.words i flag) z 0 ≤ 1) (sym e)
-          (let here = get_or-set_same s.words i flag 0 (omega arith) in omega arith)) (λ ne. subst (λ (z : ℕ). z ≤ 1) (sym (other j ne)) (r.flags j f))) in
+      (λ t t' eq more. other 0 (λ e. off (sym e)) ∙ eq ∙ ap (λ (z : ℕ). z % 2 ^ 64) (omega arith))
+      (λ j f. dite (ℕ_discrete j i)
+      (λ (e : j ≡ i). subst (λ (z : ℕ). get_or (set s.words i flag) z 0 ≤ 1) (sym e)
+      (let here = get_or-set_same s.words i flag 0 (omega arith) in omega arith)) (λ ne. subst (λ (z : ℕ). z ≤ 1) (sym (other j ne)) (r.flags j f))) in
       (announcing i flag me.0, keeps, tt, kept, (refl, refl))
 
   -- a step on the word of requests, which moves the credit alike
   at_requests : (s : Table) (r : Rule slots s) (id new c : ℕ) (me : M) (k : Kind)
-      → let x : ℕ = get_or s.words 0 0 in get_elem? s.views id ≡ some me.0 → c + cost k ≡ me.0.credit + gain k x
-      → opened k ≡ 0 → removed k x ≡ 0
+      → let x : ℕ = get_or s.words 0 0 in get_elem? s.views id ≡ some me.0 → c + cost k ≡ me.0.credit + gain k x → opened k ≡ 0 → removed k x ≡ 0
       → ((t t' : ℕ) → x ≡ t % 2 ^ 64 → t' + me.0.credit ≡ t + c → new ≡ t' % 2 ^ 64)
       → Rule slots (stepped s 0 new id me.1 (noted c (trace 0 k x new) me.0) keeps)
   at_requests s r id new c me k at credit opens removes moves = let wide = r.wide in
-      let same : (j : ℕ) → j ≢ 0 → get_or (set s.words 0 new) j 0 ≡ get_or s.words j 0 =
-      (λ j ne. get_or-set_other s.words 0 j new 0 ne) in
+      let same : (j : ℕ) → j ≢ 0 → get_or (set s.words 0 new) j 0 ≡ get_or s.words j 0 = (λ j ne. get_or-set_other s.words 0 j new 0 ne) in
       elsewhere slots s r 0 new id me c (trace 0 k (get_or s.words 0 0) new) at credit opens removes (λ j. same (place_word j) (λ e. omega arith))
       (λ t t' is more. get_or-set_same s.words 0 new 0 (omega arith) ∙ moves t t' is more)
       (λ j f. subst (λ (z : ℕ). z ≤ 1) (sym (same j (λ e. ⊎_elim (λ (h : j ≡ 8). omega arith) (λ (h : j ≡ 16). omega arith) f))) (r.flags j f))
 
-  pub asks : (n id : ℕ) (me : M) (k : ℕ)
-      → Allows (Rule slots) n id me 0 (λ x. (x + k) % 2 ^ 64) (asked (step n 0 k 0 none) me)
+  pub asks : (n id : ℕ) (me : M) (k : ℕ) → Allows (Rule slots) n id me 0 (λ x. (x + k) % 2 ^ 64) (asked (step n 0 k 0 none) me)
   asks n id me k s r _ at _ = let x : ℕ = get_or s.words 0 0 in
       let kept = at_requests s r id ((x + k) % 2 ^ 64) (me.0.credit + k) me (Ask k) at (omega arith) refl refl (λ t t' is more. omega arith) in
       (asking k x me.0, keeps, tt, kept, (refl, refl))
@@ -91,8 +85,7 @@ module _ (slots : ℕ) where
       (omega arith) (λ u is. (omega arith, omega arith)) in
       (installing (place_word k) m x me.0, keeps, tt, kept, (refl, refl))
 
-  pub closes : (n id : ℕ) (me : M) (k : ℕ) → k < slots
-      → Allows (Rule slots) n id me (place_word k) (λ _. 0) (closed (step n (place_word k) 0 0 none) me)
+  pub closes : (n id : ℕ) (me : M) (k : ℕ) → k < slots → Allows (Rule slots) n id me (place_word k) (λ _. 0) (closed (step n (place_word k) 0 0 none) me)
   closes n id me k low s r _ at _ = let x : ℕ = get_or s.words (place_word k) 0 in
       let kept = at_slot slots s r (place_word k) 0 id me (me.0.credit + x) (trace (place_word k) Close x 0) at k low refl refl refl refl (omega arith)
       (λ u is. (omega arith, omega arith)) in
@@ -110,16 +103,13 @@ module _ (slots : ℕ) where
       (λ miss. (missing i x me.0, keeps, tt, stays s r i id me Miss at refl refl refl refl, (refl, (λ hit. absurd (miss hit)), λ _. refl)))
 
   pub splits : (id : ℕ) (v : Account) → Splits (Rule slots) id v v blank
-  splits id v s r at =
-      subst (λ (l : List Account). Rule slots record { words = s.words; homes = s.homes; views = l ++ blank ∷ [] })
+  splits id v s r at = subst (λ (l : List Account). Rule slots record { words = s.words; homes = s.homes; views = l ++ blank ∷ [] })
       (sym (set_again s.views id v at)) record {
         wide = r.wide;
         credits = λ p u e. ⊎_elim (r.credits p u) (λ (h : blank ≡ u). subst IsCredit h refl) (at_snoc s.views blank u p e);
-        never_below = λ j lt. let a = opened_still j in let b = removed_still j in let h = r.never_below j lt in
-            omega arith;
+        never_below = λ j lt. let a = opened_still j in let b = removed_still j in let h = r.never_below j lt in omega arith;
         places = λ j lt. r.places j lt ∙ ap (λ (z : ℕ). z % 2 ^ 64) (sym (as_before j));
-        requests =
-            r.requests
+        requests = r.requests
             ∙ ap (λ (z : ℕ). z % 2 ^ 64)
             (let a = total_same (unfilled (s.views ++ blank ∷ [])) (unfilled s.views) slots (λ j _. as_before j) in
             let b = adds_none (λ u. u.credit) s.views refl in omega arith);
@@ -143,8 +133,7 @@ module _ (slots : ℕ) where
     never_below = λ i lt. omega arith;
     places = λ i lt. zeros (place_word i) (λ e. omega arith);
     requests = zeros 0 (λ e. omega arith) ∙ ap (λ (z : ℕ). z % 2 ^ 64) (sym (nothing slots));
-    flags =
-        λ j f. ⊎_elim (λ (h : j ≡ 8). let z = zeros j (λ e. omega arith) in omega arith)
+    flags = λ j f. ⊎_elim (λ (h : j ≡ 8). let z = zeros j (λ e. omega arith) in omega arith)
         (λ (h : j ≡ 16). subst (λ (z : ℕ). get_or ws z 0 ≤ 1) (sym h) rest) f;
   }
     where

@@ -25,8 +25,7 @@ begins_within len size number some lt =
 
 module _ {T : Type 0} (items : List T) (size halo : ℕ) where
   -- a chunk's own items are those of the list from its start on
-  own_of_chunk : (start : ℕ) → start ≤ length items → own_items (chunk_from items size halo start)
-      ≡ slice_range items start (min (start + size) (length items))
+  own_of_chunk : (start : ℕ) → start ≤ length items → own_items (chunk_from items size halo start) ≡ slice_range items start (min (start + size) (length items))
   own_of_chunk start le =
       let end : ℕ = min (start + size) (length items) in
       let first : ℕ = start - halo in

@@ -41,11 +41,7 @@ total-replicate (suc n) x = grind (arith, total-replicate n x)
 
 -- the longer and the shorter pieces add up
 sums : (len m q r : ℕ) → m * q + r ≡ len → r ≤ m → r * (q + 1) + (m - r) * q ≡ len
-sums len m q r e h =
-    let d = m - r in
-    let k : m ≡ r + d = omega arith in
-    let e' : (r + d) * q + r ≡ len = rw (← k) e in
-    grind arith
+sums len m q r e h = let d = m - r in let k : m ≡ r + d = omega arith in let e' : (r + d) * q + r ≡ len = rw (← k) e in grind arith
 
 -- the lengths of the pieces add up
 pub total-lengths : (len m : ℕ) → 0 < m → total (lengths_of len m) ≡ len
@@ -58,9 +54,7 @@ total-lengths len m h =
 -- one more number
 pub counted_suc : (from n : ℕ) → counted from (suc n) ≡ counted from n ++ (from + n) ∷ []
 counted_suc from zero = rw add-zero refl
-counted_suc from (suc n) =
-    let e : from + suc n ≡ from + 1 + n = omega arith in
-    rw e (ap (λ t. from ∷ t) (counted_suc (from + 1) n))
+counted_suc from (suc n) = let e : from + suc n ≡ from + 1 + n = omega arith in rw e (ap (λ t. from ∷ t) (counted_suc (from + 1) n))
 
 pub counted_snoc : (from n : ℕ) → counted from (n + 1) ≡ counted from n ++ (from + n) ∷ []
 counted_snoc from n = rw (add-one n) (counted_suc from n)
@@ -75,10 +69,7 @@ longer xs n x ys e = omega (arith, length-drop n xs, ap length e)
 
 -- one more is taken there
 pub taken_next : {A : Type 0} (xs : List A) (n : ℕ) (x : A) (ys : List A) → drop n xs ≡ x ∷ ys → take (n + 1) xs ≡ take n xs ++ x ∷ []
-taken_next xs n x ys e =
-    let m = drop_more xs n x (longer xs n x ys e) in
-    let t = take_more xs n x (longer xs n x ys e) in
-    cc
+taken_next xs n x ys e = let m = drop_more xs n x (longer xs n x ys e) in let t = take_more xs n x (longer xs n x ys e) in cc
 
 -- one more is dropped there
 pub dropped_next : {A : Type 0} (xs : List A) (n : ℕ) (x : A) (ys : List A) → drop n xs ≡ x ∷ ys → drop (n + 1) xs ≡ ys

@@ -45,8 +45,7 @@ module _ (old new : BTreeMap ℕ Entry) (saw : List ℕ) (room p : ℕ) (m : IsM
   }
 
   pub sense_kept : (s : Option Bool) → IfSome (get nat_cmp old p) (λ e. Writes old new p (record e { sense = s })) → IsMarked new saw room
-  sense_kept s w =
-      marks_kept (record k.0 { sense = s }) refl (subst (λ (o : Option Entry). IfSome o (λ e. Writes old new p (record e { sense = s }))) k.1 w)
+  sense_kept s w = marks_kept (record k.0 { sense = s }) refl (subst (λ (o : Option Entry). IfSome o (λ e. Writes old new p (record e { sense = s }))) k.1 w)
 
   pub running_kept : (j : Option ℕ) → IfSome (get nat_cmp old p) (λ e. Writes old new p (record e { running = j })) → IsMarked new saw room
   running_kept j w =

@@ -23,8 +23,7 @@ module _ (ws : List ℕ) (t y : ℕ) (deep : place_of t < length ws)
   pub own_bit : bit_at (get_or words_after (place_of t) 0) (t % 32) ≡ bit_at y (t % 32)
   own_bit = ap (λ x. bit_at x (t % 32)) at_place
 
-  pub other_bit : (k : ℕ) → k ≢ t
-      → bit_at (get_or words_after (place_of k) 0) (k % 32) ≡ bit_at (get_or ws (place_of k) 0) (k % 32)
+  pub other_bit : (k : ℕ) → k ≢ t → bit_at (get_or words_after (place_of k) 0) (k % 32) ≡ bit_at (get_or ws (place_of k) 0) (k % 32)
   other_bit k n = dite (ℕ_discrete (k / 32) (t / 32))
       (λ e.
       let same : place_of k ≡ place_of t = ap (λ (j : ℕ). 8 * j) e in

@@ -20,9 +20,7 @@ reading-holding found (suc n) v = reading-holding found n v
 -- only the first n values count
 reading_same : (f g : ℕ → ℕ) (n : ℕ) (v : View) → ((j : ℕ) → j < n → f j ≡ g j) → reading f n v ≡ reading g n v
 reading_same f g zero v same = refl
-reading_same f g (suc n) v same =
-    let rest = reading_same f g n v (λ j lt. same j (omega arith)) in
-    (λ i. loading (8 * n) (same n (omega arith) i) (rest i))
+reading_same f g (suc n) v same = let rest = reading_same f g n v (λ j lt. same j (omega arith)) in (λ i. loading (8 * n) (same n (omega arith) i) (rest i))
 
 -- as far as the word i, each number below the threads was read as used
 abbrev pub ReadTo : (threads i : ℕ) → (ℕ → ℕ) → Type 0
@@ -46,21 +44,18 @@ module _ (threads i x : ℕ) (found : ℕ → ℕ) where
   abbrev pub AreOnes : ℕ → Type 0
   AreOnes b = (c : ℕ) → c < b → c < 32 → bit_at x c ≡ 1
 
-  all_before : (b : ℕ) → AreOnes b → ReadTo threads i found
-      → (k : ℕ) → k < threads → k < 32 * i + b → k < 32 * (i + 1) → WasUsed (put found i x) k
+  all_before : (b : ℕ) → AreOnes b → ReadTo threads i found → (k : ℕ) → k < threads → k < 32 * i + b → k < 32 * (i + 1) → WasUsed (put found i x) k
   all_before b ones h k small lt near = dite (dec_le (32 * i) k)
       (λ le. let e : k / 32 ≡ i = omega arith in here k e ∙ ones (k % 32) (omega arith) (omega arith))
       (λ n. earlier k (omega arith) (h k small (omega arith)))
 
   -- the whole word was read as used, as far as the threads go
-  pub read_next : (b : ℕ) → AreOnes b → (b < 32 → threads ≤ 32 * i + b) → ReadTo threads i found
-      → ReadTo threads (i + 1) (put found i x)
+  pub read_next : (b : ℕ) → AreOnes b → (b < 32 → threads ≤ 32 * i + b) → ReadTo threads i found → ReadTo threads (i + 1) (put found i x)
   read_next b ones past h k small near = dite (dec_le 32 b)
       (λ le. all_before b ones h k small (omega arith) near)
       (λ n. let p = past (omega arith) in all_before b ones h k small (omega arith) near)
 
-  pub least_here : (b : ℕ) → b < 32 → 32 * i + b < threads → bit_at x b ≡ 0 → AreOnes b → ReadTo threads i found
-      → IsLeastUnused (put found i x) (32 * i + b)
+  pub least_here : (b : ℕ) → b < 32 → 32 * i + b < threads → bit_at x b ≡ 0 → AreOnes b → ReadTo threads i found → IsLeastUnused (put found i x) (32 * i + b)
   least_here b low below unset ones h =
       let e : (32 * i + b) / 32 ≡ i = omega arith in
       let m : (32 * i + b) % 32 ≡ b = omega arith in
@@ -74,22 +69,14 @@ take_answer threads t found AllInUse v w lt least e = absurd e
 take_answer threads t found Again v w lt least e = (found, t, e.0, lt, least, e.1, e.2)
 
 -- only a number that is taken changes what the seat has
-pub take_holding : (threads : ℕ) (a : Take) (v w : View) → v.holding ≡ Nothing → IsTake threads a v w
-    → w.holding ≡ holding_after a
+pub take_holding : (threads : ℕ) (a : Take) (v w : View) → v.holding ≡ Nothing → IsTake threads a v w → w.holding ≡ holding_after a
 take_holding threads (Taken t) v w none_yet h = ap (λ u. u.holding) h.3
-take_holding threads AllInUse v w none_yet h =
-    ap (λ u. u.holding) h.2 ∙ (reading-holding h.0 (word_count threads) v ∙ none_yet)
-take_holding threads Again v w none_yet h =
-    ap (λ u. u.holding) h.6 ∙ (reading-holding h.0 (suc (h.1 / 32)) v ∙ none_yet)
+take_holding threads AllInUse v w none_yet h = ap (λ u. u.holding) h.2 ∙ (reading-holding h.0 (word_count threads) v ∙ none_yet)
+take_holding threads Again v w none_yet h = ap (λ u. u.holding) h.6 ∙ (reading-holding h.0 (suc (h.1 / 32)) v ∙ none_yet)
 
 -- the number taken is below the threads
-pub take_below : (threads : ℕ) (a : Take) (v w : View) → IsTake threads a v w → w.holding ≡ holding_after a
-    → (k : ℕ) → w.holding ≡ Has k → k < threads
-take_below threads (Taken t) v w h after k has =
-    let e : Has t ≡ Has k = sym after ∙ has in
-    let same : t ≡ k = cc in
-    let lt = h.1 in
-    omega arith
+pub take_below : (threads : ℕ) (a : Take) (v w : View) → IsTake threads a v w → w.holding ≡ holding_after a → (k : ℕ) → w.holding ≡ Has k → k < threads
+take_below threads (Taken t) v w h after k has = let e : Has t ≡ Has k = sym after ∙ has in let same : t ≡ k = cc in let lt = h.1 in omega arith
 take_below threads AllInUse v w h after k has = let e : Nothing ≡ Has k = sym after ∙ has in absurd cc
 take_below threads Again v w h after k has = let e : Nothing ≡ Has k = sym after ∙ has in absurd cc
 
@@ -106,13 +93,11 @@ module _ (threads i b x : ℕ) (found : ℕ → ℕ) (low : b < 32) (below : 32 
   abbrev pub found' : ℕ → ℕ
   found' = put found i x
 
-  pub try_answer : (a : Take) (v u w : View) → u ≡ loading (8 * i) x (reading found i v)
-      → IsExchange t x a u w → IsTake threads a v w
+  pub try_answer : (a : Take) (v u w : View) → u ≡ loading (8 * i) x (reading found i v) → IsExchange t x a u w → IsTake threads a v w
   try_answer a v u w is e =
       let least = least_here threads i x found b low below unset (λ c lt _. ones c lt) read in
       let word : x ≡ found' (t / 32) = sym (ap found' word_is ∙ put_here found i x) in
-      let read_it : u ≡ searching found' t v =
-      is ∙ (sym (reading_next threads i x found v) ∙ ap (λ (j : ℕ). reading found' (suc j) v) (sym word_is)) in
+      let read_it : u ≡ searching found' t v = is ∙ (sym (reading_next threads i x found v) ∙ ap (λ (j : ℕ). reading found' (suc j) v) (sym word_is)) in
       let at_word = subst (λ (y : View). IsExchange t x a y w) read_it e in
       take_answer threads t found' a v w below least (subst (λ (y : ℕ). IsExchange t y a (searching found' t v) w) word at_word)
 

@@ -32,8 +32,7 @@ set_at (x ∷ xs) zero v w e = refl
 set_at (x ∷ xs) (suc i) v w e = set_at xs i v w e
 
 -- the number that a seat has is that of its view
-one_number : (views : List View) (p : ℕ) (v : View) (k : ℕ) → get_elem? views p ≡ some v
-    → HasNumber views p k → number_of v.holding ≡ Some k
+one_number : (views : List View) (p : ℕ) (v : View) (k : ℕ) → get_elem? views p ≡ some v → HasNumber views p k → number_of v.holding ≡ Some k
 one_number views p v k at h = subst (λ u. number_of u.holding ≡ Some k) (some-injective _ _ (sym h.1 ∙ at)) h.2
 
 -- some seat leads from the first place
@@ -53,8 +52,7 @@ module _ (views : List View) (id : ℕ) (v w : View) (at : get_elem? views id �
   own_number k e = (w, set_at views id v w at, e)
 
   -- who has a number is this seat, or had it before
-  pub cases : {P : Type 0} (p k : ℕ) → HasNumber after p k → (p ≡ id → number_of w.holding ≡ Some k → P)
-      → (p ≢ id → HasNumber views p k → P) → P
+  pub cases : {P : Type 0} (p k : ℕ) → HasNumber after p k → (p ≡ id → number_of w.holding ≡ Some k → P) → (p ≢ id → HasNumber views p k → P) → P
   cases {P} p k h mine others = ⊎_elim
       (λ (t : (p ≡ id) × (w ≡ h.0)). mine t.0 (subst (λ (u : View). number_of u.holding ≡ Some k) (sym t.1) h.2))
       (λ (t : (p ≢ id) × (get_elem? views p ≡ some h.0)). others t.0 (h.0, t.1, h.2))
@@ -62,9 +60,7 @@ module _ (views : List View) (id : ℕ) (v w : View) (at : get_elem? views id �
 
   -- where the seat's number stays, all do
   pub same_after : w.holding ≡ v.holding → (p k : ℕ) → HasNumber after p k → HasNumber views p k
-  same_after e p k h = cases p k h
-      (λ mine is. subst (λ (q : ℕ). HasNumber views q k) (sym mine) (v, at, sym (ap number_of e) ∙ is))
-      (λ _ has. has)
+  same_after e p k h = cases p k h (λ mine is. subst (λ (q : ℕ). HasNumber views q k) (sym mine) (v, at, sym (ap number_of e) ∙ is)) (λ _ has. has)
 
   pub same_before : w.holding ≡ v.holding → (p k : ℕ) → HasNumber views p k → HasNumber after p k
   same_before e p k h = dite (ℕ_discrete p id)
@@ -77,8 +73,7 @@ module _ (views : List View) (id : ℕ) (v w : View) (at : get_elem? views id �
   leader_stays led keeps_it = dite (ℕ_discrete 0 id)
       (λ (mine : 0 ≡ id).
       let at_id : get_elem? views 0 ≡ some v = subst (λ (q : ℕ). get_elem? views q ≡ some v) (sym mine) at in
-      let leads : v.holding ≡ Leads =
-      subst (λ (u : View). u.holding ≡ Leads) (some-injective _ _ (sym led.1 ∙ at_id)) led.2 in
+      let leads : v.holding ≡ Leads = subst (λ (u : View). u.holding ≡ Leads) (some-injective _ _ (sym led.1 ∙ at_id)) led.2 in
       (w, subst (λ (q : ℕ). get_elem? after q ≡ some w) (sym mine) (set_at views id v w at), keeps_it leads))
       (λ n. (led.0, set_else views id 0 w n ∙ led.1, led.2))
 
@@ -101,8 +96,7 @@ quiet t s r i id me w at e =
     before : (p k : ℕ) → HasNumber (set s.views id w) p k → HasNumber s.views p k
     before = same_after s.views id me.0 w at e
 
-pub loads : (t slots id : ℕ) (me : Sat) (i : ℕ)
-    → Allows (IsNumbering t) slots id me i (λ n. n) (loaded (step slots i 0 0 none) me)
+pub loads : (t slots id : ℕ) (me : Sat) (i : ℕ) → Allows (IsNumbering t) slots id me i (λ n. n) (loaded (step slots i 0 0 none) me)
 loads t slots id me i s r d at fits =
     let w : View = loading i (get_or s.words i 0) me.0 in
     (w, keeps, tt, quiet t s r i id me w at refl, (refl, refl, r.narrow i))
@@ -186,22 +180,18 @@ module _ (t : ℕ) (s : Whole) (r : IsNumbering t s) (id : ℕ) (me : Sat) (at :
       now_set = own_bit s.words n y deep others ∙ bit_at_set_same w64 x (n % 32) in_word
 
       nobody : (p k : ℕ) → Some n ≡ Some k → HasNumber s.views p k → ⊥
-      nobody p k is had =
-          let has_n = subst (λ (j : ℕ). HasNumber s.views p j) (sym (some_same n k is)) had in
-          let set = r.set p n has_n in absurd (omega arith)
+      nobody p k is had = let has_n = subst (λ (j : ℕ). HasNumber s.views p j) (sym (some_same n k is)) had in let set = r.set p n has_n in absurd (omega arith)
 
       not_mine : (p k : ℕ) → HasNumber s.views p k → p ≢ id
       not_mine p k had mine =
           let is = one_number s.views id me.0 k at (subst (λ (q : ℕ). HasNumber s.views q k) mine had) in
           let z = sym is ∙ ap number_of none_yet in absurd cc
 
-      who : {P : Type 0} (p k : ℕ) → HasNumber (set s.views id w) p k → (p ≡ id → Some n ≡ Some k → P)
-          → (p ≢ id → HasNumber s.views p k → P) → P
+      who : {P : Type 0} (p k : ℕ) → HasNumber (set s.views id w) p k → (p ≡ id → Some n ≡ Some k → P) → (p ≢ id → HasNumber s.views p k → P) → P
       who = cases s.views id me.0 w at
 
   -- the seat has n
-  pub gives_back : me.0.holding ≡ Has n
-      → IsNumbering t (stepped s (place_of n) (bit_and x (bit_not w64 (mask_of n))) id me.1 (giving n x me.0) keeps)
+  pub gives_back : me.0.holding ≡ Has n → IsNumbering t (stepped s (place_of n) (bit_and x (bit_not w64 (mask_of n))) id me.1 (giving n x me.0) keeps)
   gives_back own = record {
     leader = leader_stays s.views id me.0 w at r.leader (λ l. absurd (let z = sym own ∙ l in cc));
     differ = λ p q k h g. r.differ p q k (before p k h).1 (before q k g).1;
@@ -250,8 +240,7 @@ module _ (t : ℕ) (s : Whole) (r : IsNumbering t s) (id : ℕ) (me : Sat) (at :
           let still : IsSet ws' n = subst (IsSet ws') e b in
           absurd (omega arith)
 
-pub takes : (t slots id : ℕ) (me : Sat) (n word : ℕ) → n < t → me.0.holding ≡ Nothing → bit_at word (n % 32) ≡ 0
-    → let y : ℕ = bit_or word (mask_of n) in
+pub takes : (t slots id : ℕ) (me : Sat) (n word : ℕ) → n < t → me.0.holding ≡ Nothing → bit_at word (n % 32) ≡ 0 → let y : ℕ = bit_or word (mask_of n) in
     Allows (IsNumbering t) slots id me (place_of n) (λ x. either (eqb x word) y x) (taken (step slots (place_of n) word y none) me)
 takes t slots id me n word below none_yet unset s r d at fits =
     let i : ℕ = place_of n in
@@ -273,8 +262,7 @@ takes t slots id me n word below none_yet unset s r d at fits =
     ))
     (λ miss. (lost, keeps, tt, subst (After lost) (sym (ne_eqb x word miss)) (quiet t s r i id me lost at refl), (refl, (λ hit. absurd (miss hit)), λ _. refl)))
 
-pub gives : (t slots id : ℕ) (me : Sat) (n : ℕ) → n < t → me.0.holding ≡ Has n
-    → let k : ℕ = bit_not w64 (mask_of n) in
+pub gives : (t slots id : ℕ) (me : Sat) (n : ℕ) → n < t → me.0.holding ≡ Has n → let k : ℕ = bit_not w64 (mask_of n) in
     Allows (IsNumbering t) slots id me (place_of n) (λ x. bit_and x k) (given (step slots (place_of n) k 0 none) me)
 gives t slots id me n below own s r d at fits =
     let x : ℕ = get_or s.words (place_of n) 0 in (

@@ -53,11 +53,10 @@ module _ (m : Configuration) (es : List Event) (f : Follows m es) (some : 0 < le
   accepts (See p) ok = record { shows = looks f.shows (sound es f.run) p; run = (ok, f.run) }
   accepts (Arrive p) ok = record { shows = arrives f.shows (sound es f.run) p ok; run = (ok, f.run) }
   accepts (Leave p) ok = record { shows = leaves f.shows (sound es f.run) p ok; run = (ok, f.run) }
-  accepts (Exit p) ok =
-      record {
-        shows = exits f.shows (sound es f.run) p ok (alone_hidden (state es) (sound es f.run) p ok.0 ok.2);
-        run = (ok, f.run);
-      }
+  accepts (Exit p) ok = record {
+    shows = exits f.shows (sound es f.run) p ok (alone_hidden (state es) (sound es f.run) p ok.0 ok.2);
+    run = (ok, f.run);
+  }
   accepts (Clear p) ok = record { shows = clears f.shows (sound es f.run) p; run = (ok, f.run) }
   accepts (End p) ok = record { shows = ends f.shows (sound es f.run) p ok; run = (ok, f.run) }
 
@@ -70,8 +69,7 @@ module _ (m : Configuration) (es : List Event) (f : Follows m es) (some : 0 < le
 
   served : (c : Call)
       → IsInRange c.step → (o : Option Why) → refusal m c ≡ o → Follows (judged o m c.step).0 ((if is_none o then events_of m c.step else []) ++ es)
-  served c range None e =
-      accepts c.step (fair f.shows (sound es f.run) some c.granted c.step range (all_fail (tests m c.granted c.step) e))
+  served c range None e = accepts c.step (fair f.shows (sound es f.run) some c.granted c.step range (all_fail (tests m c.granted c.step) e))
   served c range (Some why) e = f
 
   -- the next call
@@ -148,8 +146,7 @@ refused_by : (m : Configuration) (e : Step) (why : Why) (o : Option Why) → (ju
 refused_by m e why None z = absurd (no_refusal m e why z)
 refused_by m e why (Some w) z = ((let i : w ≡ why = cc in ap (λ (x : Why). let o : Option Why = Some x in o) i), refl)
 
-goes_on_law : (m : Configuration) (es : List Event) → Follows m es → 0 < length m.counters → (later : List Call) → IsSchedule later
-    → GoesOn m es later
+goes_on_law : (m : Configuration) (es : List Event) → Follows m es → 0 < length m.counters → (later : List Call) → IsSchedule later → GoesOn m es later
 goes_on_law m es f some later ok = let g = (goes m es later some ok f).1 in
     record { run = g.run; word_is = same_word (played m later) (state (history m later ++ es)) g.shows }
 

@@ -58,8 +58,7 @@ unfolding is_memory spared
 never [] s e = cc
 never (t ∷ ts) s e = go t.0 t.1 (and_left _ _ s) (never ts (and_right _ _ s)) e
   where
-    go : (why : Why) (b : Bool) → not (is_memory why && b) ≡ true → first ts ≢ Some Memory
-        → (if b then Some why else first ts) ≢ Some Memory
+    go : (why : Why) (b : Bool) → not (is_memory why && b) ≡ true → first ts ≢ Some Memory → (if b then Some why else first ts) ≢ Some Memory
     go why false s n e = n e
     go why true s n e = let same : why ≡ Memory = cc in let z = ap (λ (w : Why). not (is_memory w && true)) same in cc
 
@@ -87,8 +86,7 @@ pub record Stepped (v : Contents) (e : Step) (x : Inside) (a : Reply) : Type 0 w
 
 module _ {T : Type 0} (r r' : Registers) (g : Bool) (e : Step) (f : T → ℕ → Reply) (b : Reply) (before : IsSteady r) where
   -- an accepted step answers by the word after it, in the form that f gives
-  stepped : (o : Result T Why) → Makes r r' g e o → Replies f (shown r') o b
-      → IfOk o (λ x. f x (word (effect (shown r) e)) ≡ answer (shown r) e)
+  stepped : (o : Result T Why) → Makes r r' g e o → Replies f (shown r') o b → IfOk o (λ x. f x (word (effect (shown r) e)) ≡ answer (shown r) e)
       → Stepped (contents r) e (record { registers = r' }) b
   stepped (Ok x) k a form =
       let judge = ap (λ (o : Option Why). judged o (shown r) e) k.served.0 in
@@ -130,8 +128,7 @@ module _ (r : Registers) (before : IsSteady r) (v : Contents) (step : Step) (x :
   Stands r' e b = (step ≡ e) × (x ≡ record { registers = r' }) × (a ≡ b)
 
   at : (r' : Registers) (e : Step) (b : Reply) → Stands r' e b → Stepped (contents r) e (record { registers = r' }) b → Stepped v step x a
-  at r' e b is s = subst (λ (w : Contents × Step × Inside × Reply). Stepped w.0 w.1 w.2 w.3)
-      (λ i. (view i, sym is.0 i, sym is.1 i, sym is.2 i)) s
+  at r' e b is s = subst (λ (w : Contents × Step × Inside × Reply). Stepped w.0 w.1 w.2 w.3) (λ i. (view i, sym is.0 i, sym is.1 i, sym is.2 i)) s
 
   pub by_word : (r' : Registers) (g : Bool) (e : Step) (b : Reply) (o : Result Unit Why) → Stands r' e b → Makes r r' g e o
       → Replies (λ _ n. Word n) (shown r') o b → Word (word (effect (shown r) e)) ≡ answer (shown r) e → Stepped v step x a

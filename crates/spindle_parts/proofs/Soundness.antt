@@ -123,12 +123,10 @@ out_of t z = absurd (omega arith)
 
 -- while the leader is out nothing is published
 pub hidden_out : (s : State) → Sound s → (party s 0).status ≡ Out → s.published ≡ None
-hidden_out s h out = by_option s.published (λ e. e)
-    (λ n e. let a = h.gate.shown n e in let a₀ = a.0 in let a₁ = a.1 in absurd (h.gate.led (omega arith) out))
+hidden_out s h out = by_option s.published (λ e. e) (λ n e. let a = h.gate.shown n e in let a₀ = a.0 in let a₁ = a.1 in absurd (h.gate.led (omega arith) out))
 
 -- where the last member goes, nothing is published
-pub alone_hidden : (s : State) (h : Sound s) (p : ℕ)
-    → (party s p).status ≡ In → (p ≡ 0 → s.published ≡ None) → members (moved s p Out) ≡ 0 → s.published ≡ None
+pub alone_hidden : (s : State) (h : Sound s) (p : ℕ) → (party s p).status ≡ In → (p ≡ 0 → s.published ≡ None) → members (moved s p Out) ≡ 0 → s.published ≡ None
 alone_hidden s h p at_in fine z = dite (ℕ_discrete p 0) fine
     (λ n. hidden_out s h (sym (ap (λ (x : Party). x.status) (look_else s.parties p (with_status Out (party s p)) 0 (λ e. n (sym e))))
     ∙ out_of (party_of (moved s p Out) 0).status (let a = total_at weight_member refl (moved s p Out) 0 in omega arith)))

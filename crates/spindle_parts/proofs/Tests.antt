@@ -83,8 +83,7 @@ unless false b f = refl
 -- tests of which the former all fail, or one doesn't
 pub first_past : (xs ys : List (Why × Bool)) → first xs ≡ None → first (xs ++ ys) ≡ first ys
 first_past [] ys e = refl
-first_past (t ∷ xs) ys e = let r = fails_first t.1 t.0 (first xs) e in
-    ap (λ (b : Bool). if b then Some t.0 else first (xs ++ ys)) r.0 ∙ first_past xs ys r.1
+first_past (t ∷ xs) ys e = let r = fails_first t.1 t.0 (first xs) e in ap (λ (b : Bool). if b then Some t.0 else first (xs ++ ys)) r.0 ∙ first_past xs ys r.1
 
 pub first_stops : (xs ys : List (Why × Bool)) (why : Why) → first xs ≡ Some why → first (xs ++ ys) ≡ Some why
 first_stops [] ys why e = absurd cc

@@ -47,8 +47,7 @@ turned_is r r' emptied is none = ap shown is ∙ (λ i. record {
 -- an empty list has every mark right
 pub no_marks : (entries : BTreeMap ℕ Entry) (saw : List ℕ) (room : ℕ) → saw ≡ [] → btree_map_len entries ≤ room → IsMarked entries saw room
 unfolding IsDistinct
-no_marks entries saw room e fits =
-    subst (λ (l : List ℕ). IsMarked entries l room) (sym e) record { marked = λ i p is. absurd cc; distinct = tt; room = fits }
+no_marks entries saw room e fits = subst (λ (l : List ℕ). IsMarked entries l room) (sym e) record { marked = λ i p is. absurd cc; distinct = tt; room = fits }
 
 -- where the last member goes, nobody is in
 pub nobody : (m : Configuration) (p : ℕ) → ((q : ℕ) → q ≢ p → status m q ≡ Out) → (q : ℕ) → (standing m p Out q).status ≢ In

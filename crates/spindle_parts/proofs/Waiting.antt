@@ -94,7 +94,6 @@ lawful es run = record {
   begins = begins_within es run;
   whole = λ q lt. is_whole ((state es).rounds q) ((sound es run).ended q lt);
   cleared = ends_cleared es run;
-  waits = λ later p r at. seen_end (state es) (state (later ++ es)) p (sound (later ++ es) r.run)
-      (waiting later es p r.run r.none at);
+  waits = λ later p r at. seen_end (state es) (state (later ++ es)) p (sound (later ++ es) r.run) (waiting later es p r.run r.none at);
   keeps = λ later p r at. (stays later es p r.run r.none at).0;
 }

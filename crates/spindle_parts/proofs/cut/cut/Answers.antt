@@ -79,8 +79,7 @@ loop-done-preserved g c =
             drop_more ls i 0 h,
             m,
           ) (ap (λ z. get_or ls i 0 ∷ z) (c.loop-done.invariant.lengths ∙ ap (λ z. drop z ls) k));
-      numbers =
-          rw (e, map_snoc (λ (q : P). q.number) ps p, reverse_snoc (map (λ (q : P). q.number) ps) i, k', add-one d)
+      numbers = rw (e, map_snoc (λ (q : P). q.number) ps p, reverse_snoc (map (λ (q : P). q.number) ps) i, k', add-one d)
           (ap (λ z. i ∷ z) (c.loop-done.invariant.numbers ∙ ap (λ z. counted z d) k));
       left =
           let l : length c.split_off.new.self.items ≡ total (take i ls) =
@@ -110,11 +109,9 @@ returns g c =
     let n : c.loop-done.done ≡ vec_len c.reverse.new.self = sym (c.reverse.ensures.len ∙ left.len) in
     record {
       joined = rw (c.reverse.ensures.items, map-reverse (λ (p : P). p.items.items) ps) (rw none at left.joined);
-      lengths =
-          rw (c.reverse.ensures.items, map-reverse (λ (p : P). vec_len p.items) ps)
+      lengths = rw (c.reverse.ensures.items, map-reverse (λ (p : P). vec_len p.items) ps)
           (left.lengths ∙ ap (λ m. drop m ls) z ∙ c.in_ok-lengths.ensures.lengths ∙ ap (λ m. cut_lengths m c.args.n_jobs) c.len.ensures);
-      numbers =
-          rw (c.reverse.ensures.items, map-reverse (λ (p : P). p.number) ps)
+      numbers = rw (c.reverse.ensures.items, map-reverse (λ (p : P). p.number) ps)
           (left.numbers ∙ ap (λ m. counted m c.loop-done.done) z ∙ ap (λ m. counted 0 m) n);
       taken = none;
       memory = tt;

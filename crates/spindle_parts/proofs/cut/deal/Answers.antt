@@ -116,8 +116,7 @@ loop-list-preserved g c =
       own = c.move_last.ensures.pieces ∙ ap (drop each) c.loop-list.invariant.own ∙ own_left (take (each * t) ps) each i;
       rest = c.move_last-in-loop-list.ensures.pieces ∙ ap (drop 1) c.loop-list.invariant.rest ∙ drop-drop 1 i (drop (each * t) ps);
       lists = lists_next (λ (h : H). h.items) hs (dealt ps t) t i new k c.loop-list.invariant.lists items;
-      rooms =
-          map-set (λ (h : H). vec_capacity h) hs i new
+      rooms = map-set (λ (h : H). vec_capacity h) hs i new
           ∙ ap (λ z. set (map (λ (h : H). vec_capacity h) hs) i z) (cap ∙ sym (get_or-map (λ (h : H). vec_capacity h) hs i d 0 lt))
           ∙ set-get_or (map (λ (h : H). vec_capacity h) hs) i 0 ∙ c.loop-list.invariant.rooms;
     }
@@ -170,6 +169,4 @@ returns-clause-numbers g c =
     ∙ ap (λ z. map (dealt z t) (counted 0 t)) c.requires.numbers
 
 pub returns-clause-all : goal.returns-clause-all
-returns-clause-all g c =
-    let t = c.args.threads in
-    rw (returns-clause-dealt g c) (dealt_all c.args.pieces.now.items t c.requires.threads)
+returns-clause-all g c = let t = c.args.threads in rw (returns-clause-dealt g c) (dealt_all c.args.pieces.now.items t c.requires.threads)

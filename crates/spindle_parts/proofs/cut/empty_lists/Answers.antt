@@ -29,8 +29,7 @@ loop-thread-preserved g c =
             c.loop-thread.invariant.empty,
             c.in_ok-with_capacity.ensures.items,
           ) (replicate_more i []);
-      rooms =
-          rw (c.push_reserved.ensures.items, map_push (λ (h : Vec P Global). vec_capacity h) old list, c.loop-thread.invariant.rooms, cap)
+      rooms = rw (c.push_reserved.ensures.items, map_push (λ (h : Vec P Global). vec_capacity h) old list, c.loop-thread.invariant.rooms, cap)
           (sym (take_more ls i 0 h));
       len = omega arith;
       room = omega arith;

@@ -14,8 +14,7 @@ loop-preserved g c =
     let e : drop n R ≡ c.take_last.result ∷ reverse left =
     sym c.loop.invariant.pieces ∙ ap reverse c.take_last.ensures.items ∙ reverse_snoc left c.take_last.result in
     record {
-      list =
-          rw (c.push_reserved.ensures.items, c.loop.invariant.list, taken_next R n c.take_last.result (reverse left) e)
+      list = rw (c.push_reserved.ensures.items, c.loop.invariant.list, taken_next R n c.take_last.result (reverse left) e)
           (append_assoc c.args.list.now.items (take n R) (c.take_last.result ∷ []));
       pieces = sym (dropped_next R n c.take_last.result (reverse left) e);
       len = omega arith;

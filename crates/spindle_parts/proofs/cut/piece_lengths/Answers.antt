@@ -5,10 +5,7 @@ use Rattle.spindle_parts.proofs.cut.piece_lengths.Goals as goal
 
 -- the first run alone, as the second one begins
 first_all : (n a x y : ℕ) → n ≤ a → a ≤ n → replicate n x ≡ replicate a x ++ replicate (a - a) y
-first_all n a x y h k =
-    let e : n ≡ a = omega (arith, h, k) in
-    let z : a - a ≡ 0 = omega arith in
-    rw (e, z) (sym (append-nil (replicate a x)))
+first_all n a x y h k = let e : n ≡ a = omega (arith, h, k) in let z : a - a ≡ 0 = omega arith in rw (e, z) (sym (append-nil (replicate a x)))
 
 -- as many as were counted, the first run among them
 length_both : (a n x y : ℕ) → a ≤ n → length (replicate a x ++ replicate (n - a) y) ≡ n

@@ -12,6 +12,5 @@ of_words-requires c =
     let count : 8 * c.div_ceil.result ≡ 8 * word_count threads = let e = c.div_ceil.ensures in omega arith in
     let fresh : List ℕ = replicate (8 * word_count threads) 0 in
     let all : c.in_ok-words.words.items ≡ fresh = zeros ∙ ap (λ n. replicate n 0) count in
-    let words : set fresh 0 1 ≡ c.as_slice.result.now =
-    sym (c.as_slice.ensures.value ∙ ap (λ l. set l 0 1) all) in
+    let words : set fresh 0 1 ≡ c.as_slice.result.now = sym (c.as_slice.ensures.value ∙ ap (λ l. set l 0 1) all) in
     subst (λ (l : List ℕ). IsNumbering threads (opening l [] leader_view)) words (opens threads c.requires.0)

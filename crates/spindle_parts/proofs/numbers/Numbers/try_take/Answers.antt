@@ -47,8 +47,7 @@ returns-then-number-self-clause-answer c =
     try_answer _ _ _ _ _ c.if-unused-lt-BITS.true (omega arith) unset (λ k lt. ones.2 k (omega arith)) all _ _ _ _ seen c.exchange.ensures.answer
 
 pub returns-then-number-self-clause-number : goal.returns-then-number-self-clause-number
-returns-then-number-self-clause-number c =
-    take_holding _ _ _ _ c.requires.no_number (returns-then-number-self-clause-answer c)
+returns-then-number-self-clause-number c = take_holding _ _ _ _ c.requires.no_number (returns-then-number-self-clause-answer c)
 
 pub returns-then-number-self-clause-seat : goal.returns-then-number-self-clause-seat
 returns-then-number-self-clause-seat c =

@@ -14,6 +14,5 @@ of_words-requires c = let ws : List ℕ = c.in_ok-words.words.items in let made 
     ∙ (let a = made.len in let b = c.saturating_add-count.ensures in let d = c.saturating_mul.ensures in let e = c.in_ok-words.words.small in
     let f = long.0 in let g = long.1 in omega arith))
     (λ i off. ap (λ (l : List ℕ). get_or l i 0) is ∙ get_or-set_other ws 16 i 1 0 off ∙ zeros i)
-    (let here =
-    ap (λ (l : List ℕ). get_or l 16 0) is
+    (let here = ap (λ (l : List ℕ). get_or l 16 0) is
     ∙ get_or-set_same ws 16 1 0 (let a = made.len in let b = c.saturating_add-count.ensures in let f = long.0 in omega arith) in omega arith)

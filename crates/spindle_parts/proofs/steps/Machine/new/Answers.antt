@@ -4,11 +4,10 @@ use Rattle.spindle_parts.proofs.Serving.{starts}
 use Rattle.spindle_parts.proofs.steps.Machine.new.Goals as goal
 
 pub invariant_of-result : goal.invariant_of-result
-invariant_of-result c =
-    record {
-      reached = starts c.args.threads (shown c.in_ok-registers.registers) c.requires.some c.requires.few c.in_ok-registers.ensures.fresh;
-      tidy = c.in_ok-registers.ensures.tidy;
-    }
+invariant_of-result c = record {
+  reached = starts c.args.threads (shown c.in_ok-registers.registers) c.requires.some c.requires.few c.in_ok-registers.ensures.fresh;
+  tidy = c.in_ok-registers.ensures.tidy;
+}
 
 pub returns-clause-reached : goal.returns-clause-reached
 returns-clause-reached c = starts c.args.threads (shown c.in_ok-registers.registers) c.requires.some c.requires.few c.in_ok-registers.ensures.fresh

@@ -50,8 +50,7 @@ returns-clause-served c = let r = c.args.self.now in
     let below : t < length r.counters.items = omega arith in
     let v = value_is r.counters.items t c.index-value.result.now below c.index-value.ensures in
     let number = number_is (shown r) c.in_ok-count.count c.len-threads.result t c.index-value.result.now c.in_ok-count.ensures.published (n ∙ size) v in (
-      first_past (claim_tests (shown r) p) (own_tests (shown r) t) c.in_ok-count.ensures.tests ∙ own_pass (shown r) t below
-          (λ z. c.if-value-eq0.false (v ∙ z)),
+      first_past (claim_tests (shown r) p) (own_tests (shown r) t) c.in_ok-count.ensures.tests ∙ own_pass (shown r) t below (λ z. c.if-value-eq0.false (v ∙ z)),
       let x : ℕ = c.in_ok-count.count / c.len-threads.result * t + c.in_ok-count.count / c.len-threads.result - c.index-value.result.now in
           let inn = not_false _ (all_fail (claim_tests (shown r) p) c.in_ok-count.ensures.tests).0 in
           let seats = runs_shown r.sense r.saw.items r.entries c.set_running.new.entries p (Some x) (known_inside r p inn) c.set_running.ensures.written in
