@@ -122,12 +122,8 @@ dealt_part : {A : Type 0} (xs : List A) (threads i : ℕ) →
     IsPermutation (take (each * i) xs ++ take i (drop (each * threads) xs)) (joined (map (dealt xs threads) (counted 0 i)))
 dealt_part xs threads zero = let e : length xs / threads * 0 ≡ 0 = omega arith in rw e (IsPermutation-refl [])
 dealt_part xs threads (suc i) =
-    let each = length xs / threads in
-    let R = drop (each * threads) xs in
-    let run = take each (drop (each * i) xs) in
-    let one = take 1 (drop (each * threads + i) xs) in
-    let front = take (each * i) xs in
-    let back = take i R in
+    let each = length xs / threads in let R = drop (each * threads) xs in let run = take each (drop (each * i) xs) in
+    let one = take 1 (drop (each * threads + i) xs) in let front = take (each * i) xs in let back = take i R in
     let some = joined (map (dealt xs threads) (counted 0 i)) in
     let e : each * suc i ≡ each * i + each = omega arith in
     let f : suc i ≡ i + 1 = omega arith in
@@ -145,7 +141,6 @@ dealt_part xs threads (suc i) =
 -- together the threads hold every element once
 pub dealt_all : {A : Type 0} (xs : List A) (threads : ℕ) → 0 < threads → IsPermutation xs (joined (map (dealt xs threads) (counted 0 threads)))
 dealt_all xs threads h =
-    let each = length xs / threads in
-    let R = drop (each * threads) xs in
+    let each = length xs / threads in let R = drop (each * threads) xs in
     let short : length R ≤ threads = omega (arith, length-drop (each * threads) xs, div-add-mod' (length xs) threads) in
     rw (take_all threads R short, take-append-drop (each * threads) xs) at (dealt_part xs threads threads)

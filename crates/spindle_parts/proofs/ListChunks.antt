@@ -17,8 +17,7 @@ total-cut_lengths (suc len) pieces some = let h = some (omega arith) in total-le
 -- chunks begin within the list
 pub begins_within : (len size number : ℕ) → 0 < size → number < div_ceil len size → size * number < len
 begins_within len size number some lt =
-    let count : ℕ = div_ceil len size in
-    let more : ℕ = count - (number + 1) in
+    let count : ℕ = div_ceil len size in let more : ℕ = count - (number + 1) in
     let is : count ≡ number + 1 + more = omega (arith, lt) in
     let whole : count * size ≡ size * number + size + more * size = rw is (grind arith) in
     omega (arith, (div_ceil_times len size some).1, whole)
@@ -27,8 +26,7 @@ module _ {T : Type 0} (items : List T) (size halo : ℕ) where
   -- a chunk's own items are those of the list from its start on
   own_of_chunk : (start : ℕ) → start ≤ length items → own_items (chunk_from items size halo start) ≡ slice_range items start (min (start + size) (length items))
   own_of_chunk start le =
-      let end : ℕ = min (start + size) (length items) in
-      let first : ℕ = start - halo in
+      let end : ℕ = min (start + size) (length items) in let first : ℕ = start - halo in
       let from : first + (start - first) ≡ start = omega arith in
       let to : first + (end - first) ≡ end = omega (arith, le) in
       slice_range-slice_range items first (min (end + halo) (length items)) (start - first) (end - first) (omega (arith, le)) (omega (arith, le))

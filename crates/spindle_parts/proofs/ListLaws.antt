@@ -46,8 +46,7 @@ sums len m q r e h = let d = m - r in let k : m ≡ r + d = omega arith in let e
 -- the lengths of the pieces add up
 pub total-lengths : (len m : ℕ) → 0 < m → total (lengths_of len m) ≡ len
 total-lengths len m h =
-    let e = total-append (replicate (len % m) (len / m + 1)) (replicate (m - len % m) (len / m)) in
-    let a = total-replicate (len % m) (len / m + 1) in
+    let e = total-append (replicate (len % m) (len / m + 1)) (replicate (m - len % m) (len / m)) in let a = total-replicate (len % m) (len / m + 1) in
     let b = total-replicate (m - len % m) (len / m) in
     rw (e, a, b) (sums len m (len / m) (len % m) (omega arith) (omega arith))
 

@@ -235,20 +235,15 @@ module _ (t : ℕ) (s : Whole) (r : IsNumbering t s) (id : ℕ) (me : Sat) (at :
 
       not_given : (k : ℕ) → IsSet ws' k → k ≢ n
       not_given k b e =
-          let here = own_bit s.words n y deep others in
-          let cleared = bit_at_clear_same w64 x (n % 32) in_word in
+          let here = own_bit s.words n y deep others in let cleared = bit_at_clear_same w64 x (n % 32) in_word in
           let still : IsSet ws' n = subst (IsSet ws') e b in
           absurd (omega arith)
 
 pub takes : (t slots id : ℕ) (me : Sat) (n word : ℕ) → n < t → me.0.holding ≡ Nothing → bit_at word (n % 32) ≡ 0 → let y : ℕ = bit_or word (mask_of n) in
     Allows (IsNumbering t) slots id me (place_of n) (λ x. either (eqb x word) y x) (taken (step slots (place_of n) word y none) me)
 takes t slots id me n word below none_yet unset s r d at fits =
-    let i : ℕ = place_of n in
-    let x : ℕ = get_or s.words i 0 in
-    let y : ℕ = bit_or word (mask_of n) in
-    let won : View = taking n x me.0 in
-    let lost : View = missing i x me.0 in
-    let After : View → Bool → Type 0 = λ w b. IsNumbering t (stepped s i (either b y x) id me.1 w keeps) in
+    let i : ℕ = place_of n in let x : ℕ = get_or s.words i 0 in let y : ℕ = bit_or word (mask_of n) in let won : View = taking n x me.0 in
+    let lost : View = missing i x me.0 in let After : View → Bool → Type 0 = λ w b. IsNumbering t (stepped s i (either b y x) id me.1 w keeps) in
     dite (ℕ_discrete x word)
     (λ (hit : x ≡ word).
     let P : ℕ → Type 0 = λ v. IsNumbering t (stepped s i (bit_or v (mask_of n)) id me.1 won keeps) in

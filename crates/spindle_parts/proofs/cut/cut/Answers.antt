@@ -30,10 +30,7 @@ loop-done-init g c =
 
 pub overflow_sub-at : goal.overflow_sub-at
 overflow_sub-at g c =
-    let ls : List ℕ = c.in_ok-lengths.lengths.items in
-    let n : ℕ = c.len-count.result in
-    let d : ℕ = c.loop-done.done in
-    let i : ℕ = n - 1 - d in
+    let ls : List ℕ = c.in_ok-lengths.lengths.items in let n : ℕ = c.len-count.result in let d : ℕ = c.loop-done.done in let i : ℕ = n - 1 - d in
     let k : n - d ≡ i + 1 = omega arith in
     let h : i < length ls = omega (arith, c.len-count.ensures, c.in_ok-lengths.lengths.ok.0) in
     let r : c.index.result.now ≡ get_or ls i 0 = c.index.ensures ∙ get_or_default ls i c.index.result.now 0 h in
@@ -43,20 +40,15 @@ overflow_sub-at g c =
 
 pub loop-done-preserved : goal.loop-done-preserved
 loop-done-preserved g c =
-    let P : Type 0 = Piece g.row.T.Denot in
-    let f : P → List g.row.T.Denot = λ p. p.items.items in
-    let ls : List ℕ = c.in_ok-lengths.lengths.items in
-    let n : ℕ = c.len-count.result in
-    let d : ℕ = c.loop-done.done in
-    let i : ℕ = n - 1 - d in
+    let P : Type 0 = Piece g.row.T.Denot in let f : P → List g.row.T.Denot = λ p. p.items.items in let ls : List ℕ = c.in_ok-lengths.lengths.items in
+    let n : ℕ = c.len-count.result in let d : ℕ = c.loop-done.done in let i : ℕ = n - 1 - d in
     let k : n - d ≡ i + 1 = omega arith in
     let k' : n - (d + 1) ≡ i = omega arith in
     let h : i < length ls = omega (arith, c.len-count.ensures, c.in_ok-lengths.lengths.ok.0) in
     let r : c.index.result.now ≡ get_or ls i 0 = c.index.ensures ∙ get_or_default ls i c.index.result.now 0 h in
     let t : length c.loop-done.items.items ≡ total (take i ls) + get_or ls i 0 =
     c.loop-done.invariant.left ∙ ap (λ m. total (take m ls)) k ∙ total_last ls i h in
-    let at : ℕ = c.len-in-loop-done.result - c.index.result.now in
-    let p : P = record { number = i; items = c.in-Ok.run' } in
+    let at : ℕ = c.len-in-loop-done.result - c.index.result.now in let p : P = record { number = i; items = c.in-Ok.run' } in
     let ps : List P = c.loop-done.pieces.items in
     let e : c.push_reserved.new.self.items ≡ ps ++ p ∷ [] = c.push_reserved.ensures.items in
     let m : vec_len c.in-Ok.run' ≡ get_or ls i 0 = omega (arith, c.in-Ok.ensures.tail_len, r, t, c.len-in-loop-done.ensures, c.loop-done.items.ok.0) in
@@ -100,9 +92,7 @@ put_back-requires g c =
 
 pub returns : goal.returns
 returns g c =
-    let P : Type 0 = Piece g.row.T.Denot in
-    let ls : List ℕ = c.in_ok-lengths.lengths.items in
-    let ps : List P = c.loop-done.pieces.items in
+    let P : Type 0 = Piece g.row.T.Denot in let ls : List ℕ = c.in_ok-lengths.lengths.items in let ps : List P = c.loop-done.pieces.items in
     let left = c.loop-done.invariant in
     let z : c.len-count.result - c.loop-done.done ≡ 0 = omega (arith, c.loop-done-test.false) in
     let none : c.loop-done.items.items ≡ [] = nil_from_length c.loop-done.items.items (left.left ∙ ap (λ m. total (take m ls)) z) in

@@ -14,21 +14,19 @@ use Rattle.spindle_parts.proofs.cut.deal.Goals as goal
 count : {H : Type 0} (f : H → ℕ) (lists : List H) (len threads : ℕ) → 0 < threads → map f lists ≡ lengths_of len threads → length lists ≡ threads
 count f lists len threads h e = sym (length-map lists f) ∙ ap length e ∙ length-lengths_of len threads h
 
--- before its turn, a list is empty
-empty : {H A : Type 0} (f : H → List A) (lists : List H) (F : ℕ → List A) (threads i : ℕ) (d : H) → i < length lists → i < threads
-    → map f lists ≡ map F (counted 0 i) ++ replicate (threads - i) [] → f (get_or lists i d) ≡ []
-empty f lists F threads i d h k e = sym (get_or-map f lists i d [] h) ∙ ap (λ z. get_or z i []) e ∙ list_empty F threads i k
-
--- its room is the length of what it gets
-room : {H : Type 0} (f : H → ℕ) (lists : List H) (len threads i : ℕ) (d : H) → i < length lists → map f lists ≡ lengths_of len threads
-    → f (get_or lists i d) ≡ get_or (lengths_of len threads) i 0
-room f lists len threads i d h e = sym (get_or-map f lists i d 0 h) ∙ ap (λ z. get_or z i 0) e
+-- at its turn a list is empty, and has room for its run and for one of the rest where there is one for it
+turn : {A : Type 0} (hs : List (Vec A Global)) (ps : List A) (len t i : ℕ) (d : Vec A Global) → i < length hs → i < t
+    → map (λ (h : Vec A Global). vec_capacity h) hs ≡ lengths_of len t
+    → map (λ (h : Vec A Global). h.items) hs ≡ map (dealt ps t) (counted 0 i) ++ replicate (t - i) []
+    → ((get_or hs i d).items ≡ []) × (len / t + min 1 (len - len / t * t - i) ≤ vec_capacity (get_or hs i d))
+turn {A} hs ps len t i d h k rooms lists = (
+  sym (get_or-map (λ (h : Vec A Global). h.items) hs i d [] h) ∙ ap (λ z. get_or z i []) lists ∙ list_empty (dealt ps t) t i k,
+  rw (← get_or-map (λ (h : Vec A Global). vec_capacity h) hs i d 0 h, rooms) (fits len t i (len - len / t * t - i) k refl),
+)
 
 pub loop-list-init : goal.loop-list-init
 loop-list-init g c =
-    let t = c.args.threads in
-    let ps : List (Piece g.row.T.Denot) = c.args.pieces.now.items in
-    let each = c.len-2.result / t in
+    let t = c.args.threads in let ps : List (Piece g.row.T.Denot) = c.args.pieces.now.items in let each = c.len-2.result / t in
     let z : each * 0 ≡ 0 = omega arith in
     let n : t - 0 ≡ t = omega arith in
     record {
@@ -40,44 +38,27 @@ loop-list-init g c =
 
 pub move_last-requires : goal.move_last-requires
 move_last-requires g c =
-    let P : Type 0 = Piece g.row.T.Denot in
-    let H : Type 0 = Vec P Global in
-    let t = c.args.threads in
-    let len = vec_len c.args.pieces.now in
-    let each = c.len-2.result / t in
+    let P : Type 0 = Piece g.row.T.Denot in let H : Type 0 = Vec P Global in let t = c.args.threads in let len = vec_len c.args.pieces.now in
+    let each = c.len-2.result / t in let i = c.loop-list.list-index in let hs : List H = c.loop-list.list-items in
     let same : each ≡ len / t = ap (λ z. z / t) c.len-2.ensures in
-    let i = c.loop-list.list-index in
-    let hs : List H = c.loop-list.list-items in
     let n : length hs ≡ t = count (λ (h : H). vec_capacity h) hs len t c.requires.threads c.loop-list.invariant.rooms in
     let lt : i < length hs = search rules in
     let k : i < t = omega arith in
-    let list : H = get_or hs i c.list-item.result in
-    let none : list.items ≡ [] = empty (λ (h : H). h.items) hs (dealt c.args.pieces.now.items t) t i c.list-item.result lt k c.loop-list.invariant.lists in
-    let cap : vec_capacity list ≡ get_or (lengths_of len t) i 0 =
-    room (λ (h : H). vec_capacity h) hs len t i c.list-item.result lt c.loop-list.invariant.rooms in
-    let f : len / t + min 1 (len - len / t * t - i) ≤ get_or (lengths_of len t) i 0 = fits len t i (len - len / t * t - i) k refl in
-    record { room = omega (arith, list.ok.0, ap length none, cap, f, min-le_left each (vec_len c.loop-list.pieces), same) }
+    let f = turn hs c.args.pieces.now.items len t i c.list-item.result lt k c.loop-list.invariant.rooms c.loop-list.invariant.lists in
+    record { room = omega (arith, (get_or hs i c.list-item.result).ok.0, ap length f.0, f.1, min-le_left each (vec_len c.loop-list.pieces), same) }
 
 pub move_last-requires-in-loop-list : goal.move_last-requires-in-loop-list
 move_last-requires-in-loop-list g c =
-    let P : Type 0 = Piece g.row.T.Denot in
-    let H : Type 0 = Vec P Global in
-    let t = c.args.threads in
-    let len = vec_len c.args.pieces.now in
-    let ps : List P = c.args.pieces.now.items in
-    let each = c.len-2.result / t in
-    let same : each ≡ len / t = ap (λ z. z / t) c.len-2.ensures in
-    let i = c.loop-list.list-index in
+    let P : Type 0 = Piece g.row.T.Denot in let H : Type 0 = Vec P Global in let t = c.args.threads in let len = vec_len c.args.pieces.now in
+    let ps : List P = c.args.pieces.now.items in let each = c.len-2.result / t in let i = c.loop-list.list-index in
     let hs : List H = c.loop-list.list-items in
+    let same : each ≡ len / t = ap (λ z. z / t) c.len-2.ensures in
     let n : length hs ≡ t = count (λ (h : H). vec_capacity h) hs len t c.requires.threads c.loop-list.invariant.rooms in
     let lt : i < length hs = search rules in
     let k : i < t = omega arith in
-    let list : H = get_or hs i c.list-item.result in
-    let none : list.items ≡ [] = empty (λ (h : H). h.items) hs (dealt ps t) t i c.list-item.result lt k c.loop-list.invariant.lists in
-    let cap : vec_capacity list ≡ get_or (lengths_of len t) i 0 =
-    room (λ (h : H). vec_capacity h) hs len t i c.list-item.result lt c.loop-list.invariant.rooms in
+    let h = turn hs ps len t i c.list-item.result lt k c.loop-list.invariant.rooms c.loop-list.invariant.lists in
     let run : List P = take each (reverse c.loop-list.pieces.items) in
-    let got : length c.move_last.new.list.items ≡ length run = rw none at (ap length c.move_last.ensures.list) in
+    let got : length c.move_last.new.list.items ≡ length run = rw h.0 at (ap length c.move_last.ensures.list) in
     let short : length run ≤ each =
     omega (arith, length-take each (reverse c.loop-list.pieces.items), min-le_left each (length (reverse c.loop-list.pieces.items))) in
     let left : length c.loop-list.rest.items ≡ length ps - each * t - i =
@@ -85,33 +66,26 @@ move_last-requires-in-loop-list g c =
     ∙ ap (λ z. z - i) (length-drop (each * t) ps) in
     let left' : vec_len c.loop-list.rest ≡ len - len / t * t - i =
     rw (← same) (c.loop-list.rest.ok.0 ∙ left ∙ ap (λ z. z - each * t - i) (sym c.args.pieces.now.ok.0)) in
-    let f : len / t + min 1 (vec_len c.loop-list.rest) ≤ get_or (lengths_of len t) i 0 = fits len t i (vec_len c.loop-list.rest) k left' in
-    record { room = omega (arith, c.move_last.new.list.ok.0, got, short, cap, f, same, c.move_last.ensures.room) }
+    let f : len / t + min 1 (vec_len c.loop-list.rest) ≤ vec_capacity (get_or hs i c.list-item.result) = rw left' h.1 in
+    record { room = omega (arith, c.move_last.new.list.ok.0, got, short, f, same, c.move_last.ensures.room) }
 
 pub loop-list-preserved : goal.loop-list-preserved
 loop-list-preserved g c =
-    let P : Type 0 = Piece g.row.T.Denot in
-    let H : Type 0 = Vec P Global in
-    let t = c.args.threads in
-    let len = vec_len c.args.pieces.now in
-    let ps : List P = c.args.pieces.now.items in
-    let each = c.len-2.result / t in
+    let P : Type 0 = Piece g.row.T.Denot in let H : Type 0 = Vec P Global in let t = c.args.threads in let len = vec_len c.args.pieces.now in
+    let ps : List P = c.args.pieces.now.items in let each = c.len-2.result / t in
     let same : each ≡ length ps / t = ap (λ z. z / t) (c.len-2.ensures ∙ c.args.pieces.now.ok.0) in
-    let i = c.loop-list.list-index in
-    let hs : List H = c.loop-list.list-items in
+    let i = c.loop-list.list-index in let hs : List H = c.loop-list.list-items in
     let n : length hs ≡ t = count (λ (h : H). vec_capacity h) hs len t c.requires.threads c.loop-list.invariant.rooms in
     let lt : i < length hs = search rules in
     let k : i < t = omega arith in
-    let d : H = c.list-item.result in
-    let list : H = get_or hs i d in
-    let none : list.items ≡ [] = empty (λ (h : H). h.items) hs (dealt ps t) t i d lt k c.loop-list.invariant.lists in
-    let new : H = c.move_last-in-loop-list.new.list in
+    let d : H = c.list-item.result in let new : H = c.move_last-in-loop-list.new.list in
+    let none = (turn hs ps len t i d lt k c.loop-list.invariant.rooms c.loop-list.invariant.lists).0 in
     let own : take each (reverse c.loop-list.pieces.items) ≡ take each (drop (each * i) ps) =
     ap (take each) c.loop-list.invariant.own ∙ own_run ps each t i k in
     let rest : take 1 (reverse c.loop-list.rest.items) ≡ take 1 (drop (each * t + i) ps) =
     ap (take 1) (c.loop-list.invariant.rest ∙ drop-drop i (each * t) ps) in
     let items : new.items ≡ dealt ps t i = rw (← same) (c.move_last-in-loop-list.ensures.list ∙ rw (c.move_last.ensures.list, none, own, rest) refl) in
-    let cap : vec_capacity new ≡ vec_capacity list = c.move_last-in-loop-list.ensures.room ∙ c.move_last.ensures.room in
+    let cap : vec_capacity new ≡ vec_capacity (get_or hs i d) = c.move_last-in-loop-list.ensures.room ∙ c.move_last.ensures.room in
     record {
       own = c.move_last.ensures.pieces ∙ ap (drop each) c.loop-list.invariant.own ∙ own_left (take (each * t) ps) each i;
       rest = c.move_last-in-loop-list.ensures.pieces ∙ ap (drop 1) c.loop-list.invariant.rest ∙ drop-drop 1 i (drop (each * t) ps);
@@ -123,13 +97,8 @@ loop-list-preserved g c =
 
 pub returns-clause-dealt : goal.returns-clause-dealt
 returns-clause-dealt g c =
-    let P : Type 0 = Piece g.row.T.Denot in
-    let H : Type 0 = Vec P Global in
-    let t = c.args.threads in
-    let len = vec_len c.args.pieces.now in
-    let ps : List P = c.args.pieces.now.items in
-    let i = c.loop-list.list-index in
-    let hs : List H = c.loop-list.list-items in
+    let P : Type 0 = Piece g.row.T.Denot in let H : Type 0 = Vec P Global in let t = c.args.threads in let len = vec_len c.args.pieces.now in
+    let ps : List P = c.args.pieces.now.items in let i = c.loop-list.list-index in let hs : List H = c.loop-list.list-items in
     let n : length hs ≡ t = count (λ (h : H). vec_capacity h) hs len t c.requires.threads c.loop-list.invariant.rooms in
     let m : length c.in_ok-lists.lists.items ≡ t =
     count (λ (h : H). vec_capacity h) c.in_ok-lists.lists.items len t c.requires.threads (search (rules, c.in_ok-lists.ensures.rooms)) in
@@ -142,13 +111,8 @@ returns-clause-dealt g c =
 
 pub returns-clause-taken : goal.returns-clause-taken
 returns-clause-taken g c =
-    let P : Type 0 = Piece g.row.T.Denot in
-    let H : Type 0 = Vec P Global in
-    let t = c.args.threads in
-    let len = vec_len c.args.pieces.now in
-    let each = c.len-2.result / t in
-    let i = c.loop-list.list-index in
-    let hs : List H = c.loop-list.list-items in
+    let P : Type 0 = Piece g.row.T.Denot in let H : Type 0 = Vec P Global in let t = c.args.threads in let len = vec_len c.args.pieces.now in
+    let each = c.len-2.result / t in let i = c.loop-list.list-index in let hs : List H = c.loop-list.list-items in
     let n : length hs ≡ t = count (λ (h : H). vec_capacity h) hs len t c.requires.threads c.loop-list.invariant.rooms in
     let all : i ≡ t = omega arith in
     let run : List P = take (each * t) c.args.pieces.now.items in
@@ -159,9 +123,7 @@ returns-clause-taken g c =
 
 pub returns-clause-numbers : goal.returns-clause-numbers
 returns-clause-numbers g c =
-    let P : Type 0 = Piece g.row.T.Denot in
-    let number : P → ℕ = λ p. p.number in
-    let t = c.args.threads in
+    let P : Type 0 = Piece g.row.T.Denot in let number : P → ℕ = λ p. p.number in let t = c.args.threads in
     sym (map-map (map number) (λ (h : Vec P Global). h.items)
     (take c.in_ok-lists.lists.len (c.loop-list.list-items ++ drop (length c.loop-list.list-items) c.in_ok-lists.lists.items)))
     ∙ ap (map (map number)) (returns-clause-dealt g c)

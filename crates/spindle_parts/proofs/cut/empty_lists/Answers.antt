@@ -9,10 +9,7 @@ use Rattle.spindle_parts.proofs.cut.empty_lists.Goals.{then-thread-over, else-th
 
 pub loop-thread-preserved : goal.loop-thread-preserved
 loop-thread-preserved g c =
-    let P : Type 0 = Piece g.row.T.Denot in
-    let i = c.loop-thread.thread in
-    let list = c.in_ok-with_capacity.field-0 in
-    let old = c.loop-thread.lists.items in
+    let P : Type 0 = Piece g.row.T.Denot in let i = c.loop-thread.thread in let list = c.in_ok-with_capacity.field-0 in let old = c.loop-thread.lists.items in
     let ls : List ℕ = lengths_of c.args.count c.args.threads in
     let here : get_or ls i 0 ≡ c.if-thread-over.room =
     elim c.if-thread-over.branch [

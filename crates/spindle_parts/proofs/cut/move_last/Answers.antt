@@ -7,9 +7,7 @@ use Rattle.spindle_parts.proofs.cut.move_last.Goals as goal
 
 pub loop-preserved : goal.loop-preserved
 loop-preserved g c =
-    let P : Type 0 = Piece g.row.T.Denot in
-    let R : List P = reverse c.args.pieces.now.items in
-    let n = c.loop.counter in
+    let P : Type 0 = Piece g.row.T.Denot in let R : List P = reverse c.args.pieces.now.items in let n = c.loop.counter in
     let left : List P = c.take_last.new.self.items in
     let e : drop n R ≡ c.take_last.result ∷ reverse left =
     sym c.loop.invariant.pieces ∙ ap reverse c.take_last.ensures.items ∙ reverse_snoc left c.take_last.result in

@@ -6,8 +6,7 @@ use Rattle.spindle_parts.proofs.numbers.Numbers.give.Goals as goal
 pub fetch_and-requires : goal.fetch_and-requires
 fetch_and-requires c =
     let same = ap (λ t. t.threads) c.self.view_is in
-    let i = c.self.invariant in
-    let below = c.requires.seated.below c.args.number c.requires.own in
+    let i = c.self.invariant in let below = c.requires.seated.below c.args.number c.requires.own in
     (search rules, omega arith, gives _ _ _ _ _ (omega arith) c.requires.own)
 
 pub returns-clause-number : goal.returns-clause-number

@@ -7,8 +7,7 @@ use Rattle.spindle_parts.proofs.numbers.Numbers.new.Goals as goal
 
 pub of_words-requires : goal.of_words-requires
 of_words-requires c =
-    let threads : ℕ = c.args.n_threads in
-    let zeros = c.in_ok-words.ensures.items_if_clones_equal (λ y z. z) in
+    let threads : ℕ = c.args.n_threads in let zeros = c.in_ok-words.ensures.items_if_clones_equal (λ y z. z) in
     let count : 8 * c.div_ceil.result ≡ 8 * word_count threads = let e = c.div_ceil.ensures in omega arith in
     let fresh : List ℕ = replicate (8 * word_count threads) 0 in
     let all : c.in_ok-words.words.items ≡ fresh = zeros ∙ ap (λ n. replicate n 0) count in

@@ -35,13 +35,10 @@ exchange-requires-clause-number c =
 pub returns-then-number-self-clause-answer : goal.returns-then-number-self-clause-answer
 returns-then-number-self-clause-answer c =
     let same = ap (λ t. t.threads) c.self.view_is in
-    let word = c.load-word.result in
-    let i : ℕ = c.loop-index.index in
+    let word = c.load-word.result in let i : ℕ = c.loop-index.index in
     let ones = bit_at-trailing_ones w64 word (let small = c.load-word.ensures.2.2 in omega arith) in
     let unset = ap (bit_at word) c.trailing_ones-unused.ensures ∙ ones.1 in
-    let unused = c.trailing_ones-unused.ensures in
-    let read = c.loop-index.invariant.read in
-    let below = c.if-number-self.true in
+    let unused = c.trailing_ones-unused.ensures in let read = c.loop-index.invariant.read in let below = c.if-number-self.true in
     let all : ReadTo c.args.self.now.threads i read.0 = subst (λ n. ReadTo n i read.0) same read.1 in
     let seen = c.load-word.ensures.2.1 ∙ ap (loading (8 * i) word) read.2 in
     try_answer _ _ _ _ _ c.if-unused-lt-BITS.true (omega arith) unset (λ k lt. ones.2 k (omega arith)) all _ _ _ _ seen c.exchange.ensures.answer
@@ -59,15 +56,10 @@ returns-then-number-self-clause-seat c =
 
 pub loop-index-preserved : goal.loop-index-preserved
 loop-index-preserved c =
-    let load = c.load-word.ensures in
-    let word = c.load-word.result in
-    let i : ℕ = c.loop-index.index in
-    let b : ℕ = c.trailing_ones-unused.result in
+    let load = c.load-word.ensures in let word = c.load-word.result in let i : ℕ = c.loop-index.index in let b : ℕ = c.trailing_ones-unused.result in
     let unused = c.trailing_ones-unused.ensures in
     let ones = bit_at-trailing_ones w64 word (let small = load.2.2 in omega arith) in
-    let read = c.loop-index.invariant.read in
-    let found = put read.0 i word in
-    let first = c.args.seat.now.me.0 in
+    let read = c.loop-index.invariant.read in let found = put read.0 i word in let first = c.args.seat.now.me.0 in
     let next : i + 1 ≡ suc i = omega arith in
     let past : b < 32 → c.self.inside.threads ≤ 32 * i + b = elim c.else-unused-lt-BITS.branch [
       | else-unused-lt-BITS-via-then-unused-lt-BITS+else-number-self w ↦ (λ _. w.if-number-self.false)

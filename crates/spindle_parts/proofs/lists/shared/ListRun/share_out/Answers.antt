@@ -23,14 +23,10 @@ run-requires-clause-in_run g c =
 
 pub loop-length-preserved : goal.loop-length-preserved
 loop-length-preserved g c =
-    let ls : List ℕ = c.args.lengths.now in
-    let xs : List g.row.T.Denot = c.args.self.now in
-    let i : ℕ = c.loop-length.length-index in
-    let from : ℕ = c.loop-length.from in
-    let n : ℕ = c.min.result in
+    let ls : List ℕ = c.args.lengths.now in let xs : List g.row.T.Denot = c.args.self.now in let i : ℕ = c.loop-length.length-index in
+    let from : ℕ = c.loop-length.from in let n : ℕ = c.min.result in
     let h : i < length ls = search rules in
-    let t = total_last ls i h in
-    let u = total_part (i + 1) ls in
+    let t = total_last ls i h in let u = total_part (i + 1) ls in
     let m : n ≡ get_or ls i 0 = omega (arith, c.min.ensures, t, u, c.loop-length.invariant.from, c.loop-length.invariant.len, c.requires.whole) in
     let e : c.push_reserved.new.self.items ≡ c.loop-length.runs.items ++ slice_range xs from (from + n) ∷ [] = search rules in
     let k : from + n - from ≡ n = omega arith in
