@@ -31,10 +31,8 @@ published_tally T n begun done some fresh none = let cs : List ℕ = replicate T
       rest_at_most = let f = ap (λ (z : ℕ). n % z) size in omega arith;
       unbegun = λ k lt _. subst (λ (z : ℕ). StandsFor z (n / z) (λ t. get_or cs t 0) (n % T) n k) (sym size)
           (all_stand T (n / T) n (n % T) whole (λ t. get_or cs t 0) (λ t at. get_or-replicate T t (n / T) 0 at) k lt);
-      left = λ k l. (
-        stands_below T (n / T) n (n % T) whole (λ t. get_or cs t 0) (n % T) k (subst (λ (z : ℕ). StandsFor z (n / z) (λ t. get_or cs t 0) (n % T) n k) size l),
-        fresh k,
-      );
+      left = λ k l. let l' = subst (λ (z : ℕ). StandsFor z (n / z) (λ t. get_or cs t 0) (n % T) n k) size l in
+          (stands_below T (n / T) n (n % T) whole (λ t. get_or cs t 0) (n % T) k l', fresh k);
       finished = sym none;
     }
 
@@ -118,15 +116,10 @@ module _ {m : Configuration} {s : State} (a : Shows m s) (h : Sound s) (p : ℕ)
 
   -- take and begin of a free number are allowed to who may begin
   pub may_take : (k : ℕ) → MayBegin s p → Free s k → Allowed s (Take p (only k)) × Allowed (after s (Take p (only k))) (Begin p k)
-  may_take k may free = let look = look_here s.parties p (holder k) in (
-    (may.published, may.is_in, may.unseen, (k, eq-eqb k k refl), λ j e. subst (Free s) (sym (equal_by j k e)) free),
-    (
-      ap (λ (z : Party). z.status) look ∙ may.is_in,
-      may.unseen,
-      ap (λ (z : Party). z.running) look ∙ may.idle,
-      ap (λ (z : Party). z.taken k) look ∙ or_right ((party s p).taken k) (only k k) (eq-eqb k k refl),
-    ),
-  )
+  may_take k may free = let look = look_here s.parties p (holder k) in let mine = eq-eqb k k refl in
+      let has = ap (λ (z : Party). z.taken k) look ∙ or_right ((party s p).taken k) (only k k) mine in
+      let takes : Allowed s (Take p (only k)) = (may.published, may.is_in, may.unseen, (k, mine), λ j e. subst (Free s) (sym (equal_by j k e)) free) in
+      (takes, (ap (λ (z : Party). z.status) look ∙ may.is_in, may.unseen, ap (λ (z : Party). z.running) look ∙ may.idle, has))
 
   pub begins : (k : ℕ) (cs : List ℕ) (rem : ℕ)
       → ((n : ℕ) → s.published ≡ Some n → Tally cs rem m.finished (now s).jobs ((now s).begun ++ k ∷ []) (now s).finished n)
@@ -154,23 +147,19 @@ module _ {m : Configuration} {s : State} (a : Shows m s) (h : Sound s) (p : ℕ)
     rested_is : (n : ℕ) → s.published ≡ Some n → rested m ≡ n - m.remainder
     rested_is n e = ap (λ (o : Option ℕ). unwrap_or o 0 - m.remainder) (a.published ∙ e)
 
-    -- something is published
-    the_published : (n : ℕ) × (s.published ≡ Some n)
-    the_published = by_option s.published (λ e. absurd (may.published e)) (λ n e. (n, e))
+    -- what is left to begin is free
+    abbrev IsUnbegun : ℕ → Type 0
+    IsUnbegun k = (k < (now s).jobs) × (times k (now s).begun ≡ 0)
+
+    gets : (k : ℕ) → ((n : ℕ) → s.published ≡ Some n → IsUnbegun k) → Free s k
+    gets k left = by_option s.published (λ e. absurd (may.published e)) (λ n e. ((left n e).0, (left n e).1, λ q. a.untaken q k))
 
     pub claims : (t : ℕ) → t < length m.counters
         → 0 < counter m t → Shows (effect m (Claim p t)) (after (after s (Take p (only (claimed m t)))) (Begin p (claimed m t))) × Free s (claimed m t)
-    claims t lt pos = (
-      begins (claimed m t) (set m.counters t (counter m t - 1)) m.remainder (λ n e. claim_tally some (tally a n e) t (claimed m t) lt pos (claimed_is n t e)),
-      let x = the_published in
-          let f = claimed_left some (tally a x.0 x.1) t lt pos in
-          subst (Free s) (sym (claimed_is x.0 t x.1)) (f.0, f.1, λ q. a.untaken q (own m x.0 * t + own m x.0 - counter m t)),
-    )
+    claims t lt pos = let shows = begins (claimed m t) (set m.counters t (counter m t - 1)) m.remainder
+        (λ n e. claim_tally some (tally a n e) t (claimed m t) lt pos (claimed_is n t e)) in
+        (shows, gets (claimed m t) (λ n e. subst IsUnbegun (sym (claimed_is n t e)) (claimed_left some (tally a n e) t lt pos)))
 
     pub rests : 0 < m.remainder → Shows (effect m (Rest p)) (after (after s (Take p (only (rested m)))) (Begin p (rested m))) × Free s (rested m)
-    rests pos = (
-      begins (rested m) m.counters (m.remainder - 1) (λ n e. rest_tally some (tally a n e) (rested m) pos (rested_is n e)),
-      let x = the_published in
-          let f = rested_left some (tally a x.0 x.1) pos in
-          subst (Free s) (sym (rested_is x.0 x.1)) (f.0, f.1, λ q. a.untaken q (x.0 - m.remainder)),
-    )
+    rests pos = let shows = begins (rested m) m.counters (m.remainder - 1) (λ n e. rest_tally some (tally a n e) (rested m) pos (rested_is n e)) in
+        (shows, gets (rested m) (λ n e. subst IsUnbegun (sym (rested_is n e)) (rested_left some (tally a n e) pos)))

@@ -14,13 +14,7 @@ use Rattle.spindle_parts.proofs.ListLaws.{counted_suc, counted_snoc, joined_snoc
 
 -- there are as many lengths as pieces
 pub length-lengths_of : (len m : ℕ) → 0 < m → length (lengths_of len m) ≡ m
-length-lengths_of len m h =
-    omega (
-      arith,
-      length-append (replicate (len % m) (len / m + 1)) (replicate (m - len % m) (len / m)),
-      length-replicate (len % m) (len / m + 1),
-      length-replicate (m - len % m) (len / m),
-    )
+length-lengths_of len m h = simp (length-append, length-replicate) (omega arith)
 
 -- the length of one of the longer pieces
 pub longer_at : (len m i : ℕ) → i < len % m → get_or (lengths_of len m) i 0 ≡ len / m + 1
@@ -85,16 +79,7 @@ lists_next f lists F threads i list h e k =
 
 -- what is dealt, under a function of each element
 map-dealt : {A B : Type 0} (f : A → B) (xs : List A) (threads i : ℕ) → map f (dealt xs threads i) ≡ dealt (map f xs) threads i
-map-dealt f xs threads i =
-    let each = length xs / threads in
-    rw (
-      length-map xs f,
-      map-append f (take each (drop (each * i) xs)) (take 1 (drop (each * threads + i) xs)),
-      drop-map f (each * i) xs,
-      drop-map f (each * threads + i) xs,
-      take-map f each (drop (each * i) xs),
-      take-map f 1 (drop (each * threads + i) xs),
-    ) refl
+map-dealt f xs threads i = simp (length-map, map-append, drop-map, take-map)
 
 -- the same for several threads
 pub map-dealt_all : {A B : Type 0} (f : A → B) (xs : List A) (threads : ℕ) (ks : List ℕ)

@@ -127,28 +127,19 @@ module _ {m : Configuration} {s : State} (a : Shows m s) (h : Sound s) (some : 0
 module _ {m : Configuration} {s : State} (a : Shows m s) (h : Sound s) (some : 0 < length m.counters) where
   -- where no test refuses the step it is fair
   pub fair : (granted : Bool) (e : Step) → IsInRange e → AllFail (tests m granted e) → IsFair m s e
-  fair g (Join p) range f = (
-    sym (a.status p) ∙ out_by (status m p) (not_false (is_out (status m p)) f.0),
-    unclosed a h some p f.1.1.0,
-    let n = differ_by m.members 32767 f.1.0 in let few = h.gate.few in let i = a.members in omega arith,
-  )
+  fair g (Join p) range f = let n = differ_by m.members 32767 f.1.0 in let few = h.gate.few in let i = a.members in
+      (sym (a.status p) ∙ out_by (status m p) (not_false (is_out (status m p)) f.0), unclosed a h some p f.1.1.0, omega arith)
   fair g (Publish p n) range f = publish_fair a h some p n range f
   fair g (PublishTry p n) range f = publish_fair a h some p n range f
-  fair g (Claim p t) range f = (
-    may a h some p (f.0, (f.1.0, (f.1.1.0, (f.1.1.1.0, tt)))),
-    ltb-true t (length m.counters) (not_false _ f.1.1.1.1.0),
-    above a h some p (counter m t) f.1.1.1.1.1.0,
-  )
+  fair g (Claim p t) range f = let y = may a h some p (f.0, (f.1.0, (f.1.1.0, (f.1.1.1.0, tt)))) in
+      (y, ltb-true t (length m.counters) (not_false _ f.1.1.1.1.0), above a h some p (counter m t) f.1.1.1.1.1.0)
   fair g (Rest p) range f = (may a h some p (f.0, (f.1.0, (f.1.1.0, (f.1.1.1.0, tt)))), above a h some p m.remainder f.1.1.1.1.0)
   fair g (Finish p) range f = runs a h some p f.0
   fair g (Stop p) range f = (runs a h some p f.0, sym a.stoppable ∙ not_false m.stoppable f.1.0)
   fair g (See p) range f = (at_in a h some p f.0, sym a.stopped ∙ not_false m.stopped f.1.1.0)
   fair g (Arrive p) range f = (at_in a h some p f.0, (a.untaken p, idle a h some p f.1.0), used a h some p m.stopped refl f.1.1.0)
-  fair g (Leave p) range f = (
-    sym (a.status p) ∙ waiting_by (status m p) (not_false (is_waiting (status m p)) f.0),
-    unclosed a h some p f.1.0,
-    stays a h some p f.1.1.0,
-  )
+  fair g (Leave p) range f = let waits = waiting_by (status m p) (not_false (is_waiting (status m p)) f.0) in
+      (sym (a.status p) ∙ waits, unclosed a h some p f.1.0, stays a h some p f.1.1.0)
   fair g (Exit p) range f = (at_in a h some p f.0, (a.untaken p, idle a h some p f.1.0), stays a h some p f.1.1.0)
   fair g (Clear p) range f = closer_is a h some p f.0
   fair g (End p) range f = (closer_is a h some p f.0, hidden a h some p f.1.0)
@@ -158,10 +149,8 @@ module _ {m : Configuration} {s : State} (a : Shows m s) (h : Sound s) (some : 0
 
   -- no test refuses a fair step
   pub fails : (e : Step) → IsFair m s e → AllFail (tests m true e)
-  fails (Join p) ok = (
-    ap (λ (t : Status). not (is_out t)) (a.status p ∙ ok.0),
-    (ne_eqb m.members 32767 (λ e. let lt = ok.2 in let i = a.members in omega arith), (unclosed_passes a h some p ok.1, (refl, tt))),
-  )
+  fails (Join p) ok = let few = ne_eqb m.members 32767 (λ e. let lt = ok.2 in let i = a.members in omega arith) in
+      (ap (λ (t : Status). not (is_out t)) (a.status p ∙ ok.0), (few, (unclosed_passes a h some p ok.1, (refl, tt))))
   fails (Publish p n) ok = publish_fails a h some p n ok
   fails (PublishTry p n) ok = publish_fails a h some p n ok
   fails (Claim p t) ok = let y = claim_passes p ok.0 in

@@ -65,6 +65,9 @@ or_right false b e = e
 abbrev pub Foreign : ℕ → Fate → Type 0
 Foreign q f = (f ≢ Held q) × (f ≢ Ran q)
 
+own : (p q : ℕ) → q ≢ p → Foreign q (Held p) × Foreign q (Ran p)
+own p q other = (((λ h. let b : p ≡ q = cc in other (sym b)), (λ h. cc)), ((λ h. cc), (λ h. let b : p ≡ q = cc in other (sym b))))
+
 -- the number k is as it was, or was and is of no concern to q
 abbrev pub Spared : (ℕ → Fate) → (ℕ → Fate) → ℕ → ℕ → Type 0
 Spared fate fate' q k = (fate' k ≡ fate k) ⊎ (Foreign q (fate k) × Foreign q (fate' k))
@@ -135,10 +138,7 @@ module _ (fate : ℕ → Fate) (r : Round) (ps : List Party) (w : Work fate r ps
         runs = put_all (λ j g. g ≡ Ran p → Some k ≡ Some j) fate k (Ran p) (λ _. refl) (λ j _ h. let a = f.runs j h in absurd cc);
         within = λ j h. is_in;
       }
-      (spared_at k (Ran p) (λ q other. (
-        ((λ h. let a = was in let b : p ≡ q = cc in other (sym b)), (λ h. let a = was in cc)),
-        ((λ h. cc), (λ h. let b : p ≡ q = cc in other (sym b))),
-      )))
+      (spared_at k (Ran p) (λ q other. (subst (Foreign q) (sym was) (own p q other).0, (own p q other).1)))
       (put_all (λ j g. g ≢ Open → j < r.jobs) fate k (Ran p) (λ _. w.below k (λ z. let a = was in cc)) (λ j _. w.below j))
 
   pub finish_work : (k : ℕ) → (party_of ps p).running ≡ Some k
@@ -285,10 +285,9 @@ module _ (fate : ℕ → Fate) (r : Round) (ps : List Party) (w : Work fate r ps
 
   -- who is not in has nothing
   pub idle_out : (p : ℕ) → (party_of ps p).status ≢ In → ((k : ℕ) → (party_of ps p).taken k ≡ false) × ((party_of ps p).running ≡ None)
-  idle_out p n = (
-    (λ k. not_true ((party_of ps p).taken k) (λ t. n ((w.fits p).within k (inl ((w.fits p).held k t))))),
-    by_option (party_of ps p).running (λ e. e) (λ k e. absurd (n ((w.fits p).within k (inr ((w.fits p).ran k e))))),
-  )
+  idle_out p n = let f = w.fits p in
+      let none : (party_of ps p).running ≡ None = by_option (party_of ps p).running (λ e. e) (λ k e. absurd (n (f.within k (inr (f.ran k e))))) in
+      ((λ k. not_true ((party_of ps p).taken k) (λ t. n (f.within k (inl (f.held k t))))), none)
 
   -- the next round, for the same parties with other statuses
   pub restarts : ((q : ℕ) → (party_of ps q).status ≢ In)

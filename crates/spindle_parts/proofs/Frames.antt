@@ -133,12 +133,9 @@ frame s h (Take p some) q ok other = let y : Party = record (party s p) { taken 
 frame s h (Begin p k) q ok other = let y : Party = record (party s p) { running = Some k; taken = put (party s p).taken k false } in
     reworked_free s h p q other (put_party s.parties p y)
     (record (now s) { begun = (now s).begun ++ k ∷ [] }) (look_else s.parties p y q other) refl refl (λ e. e)
-    (λ j f. let a = times_snoc j (now s).begun k in let b = f.1 in (
-      f.0,
-      omega arith,
-      taken_put s h p q other y j (λ e. dite (ℕ_discrete j k) (λ i. let c = times_same k (now s).begun in
-          let d = ap (λ (z : ℕ). times z ((now s).begun ++ k ∷ [])) i in absurd (omega arith)) (λ n. sym (put_else (party s p).taken k false j n) ∙ e)) f.2,
-    ))
+    (λ j f. let a = times_snoc j (now s).begun k in let b = f.1 in let had : y.taken j ≡ false → (party s p).taken j ≡ false = λ e. dite (ℕ_discrete j k)
+    (λ i. let c = times_same k (now s).begun in let d = ap (λ (z : ℕ). times z ((now s).begun ++ k ∷ [])) i in absurd (omega arith))
+    (λ n. sym (put_else (party s p).taken k false j n) ∙ e) in (f.0, omega arith, taken_put s h p q other y j had f.2))
 frame s h (Finish p) q ok other = let y : Party = record (party s p) { running = None } in
     reworked_free s h p q other (put_party s.parties p y)
     (record (now s) { finished = (now s).finished ++ ended_by (party s p).running }) (look_else s.parties p y q other) refl refl (λ e. e)

@@ -32,11 +32,9 @@ module _ {T E : Type 0} where
   pub gathered_snoc : (answers : List (Result (Vec T Global) E)) (all new list : Vec T Global) → IsGathered answers (Ok all)
       → new.items ≡ all.items ++ list.items → IsGathered (answers ++ Ok list ∷ []) (Ok new)
   gathered_snoc answers all new list is more =
-      let items : Vec T Global → List T = λ l. l.items in (
-        is.0 ++ list ∷ [],
-        ap (λ t. t ++ Ok list ∷ []) is.1 ∙ sym (map_snoc Ok is.0 list),
-        more ∙ ap (λ t. t ++ list.items) is.2 ∙ sym (joined_snoc (map items is.0) list.items) ∙ ap joined (sym (map_snoc items is.0 list)),
-      )
+      let items : Vec T Global → List T = λ l. l.items in
+      let all' = more ∙ ap (λ t. t ++ list.items) is.2 ∙ sym (joined_snoc (map items is.0) list.items) ∙ ap joined (sym (map_snoc items is.0 list)) in
+      (is.0 ++ list ∷ [], ap (λ t. t ++ Ok list ∷ []) is.1 ∙ sym (map_snoc Ok is.0 list), all')
 
   -- the first failure
   pub gathered_failed : (answers later : List (Result (Vec T Global) E)) (all : Vec T Global) (failure : E) → IsGathered answers (Ok all)

@@ -248,25 +248,16 @@ takes t slots id me n word below none_yet unset s r d at fits =
     (λ (hit : x ≡ word).
     let P : ℕ → Type 0 = λ v. IsNumbering t (stepped s i (bit_or v (mask_of n)) id me.1 won keeps) in
     let still_unset = ap (λ (v : ℕ). bit_at v (n % 32)) hit ∙ unset in
-    let sum = or_adds word (n % 32) (omega arith) unset in (
-      won,
-      keeps,
-      tt,
-      subst (After won) (sym (eq-eqb x word hit)) (subst P hit (takes_free t s r id me at n below none_yet still_unset)),
-      (refl, (λ _ u asks. ap (λ (j : ℕ). taking j x me.0) (one_asked n u word asks.0 (sym sum ∙ asks.1))), λ miss. absurd (miss hit)),
-    ))
+    let sum = or_adds word (n % 32) (omega arith) unset in
+    let kept = subst (After won) (sym (eq-eqb x word hit)) (subst P hit (takes_free t s r id me at n below none_yet still_unset)) in
+    (won, keeps, tt, kept, (refl, (λ _ u asks. ap (λ (j : ℕ). taking j x me.0) (one_asked n u word asks.0 (sym sum ∙ asks.1))), λ miss. absurd (miss hit))))
     (λ miss. (lost, keeps, tt, subst (After lost) (sym (ne_eqb x word miss)) (quiet t s r i id me lost at refl), (refl, (λ hit. absurd (miss hit)), λ _. refl)))
 
 pub gives : (t slots id : ℕ) (me : Sat) (n : ℕ) → n < t → me.0.holding ≡ Has n → let k : ℕ = bit_not w64 (mask_of n) in
     Allows (IsNumbering t) slots id me (place_of n) (λ x. bit_and x k) (given (step slots (place_of n) k 0 none) me)
 gives t slots id me n below own s r d at fits =
-    let x : ℕ = get_or s.words (place_of n) 0 in (
-      giving n x me.0,
-      keeps,
-      tt,
-      gives_back t s r id me at n below own,
-      (refl, λ u has. ap (λ (j : ℕ). giving j x me.0) (let e : Has n ≡ Has u = sym own ∙ has in cc)),
-    )
+    let x : ℕ = get_or s.words (place_of n) 0 in let kept = gives_back t s r id me at n below own in
+    (giving n x me.0, keeps, tt, kept, (refl, λ u has. ap (λ (j : ℕ). giving j x me.0) (let e : Has n ≡ Has u = sym own ∙ has in cc)))
 
 -- ---- a fresh table
 

@@ -53,19 +53,15 @@ module _ (m : Configuration) (es : List Event) (f : Follows m es) (some : 0 < le
   accepts (See p) ok = record { shows = looks f.shows (sound es f.run) p; run = (ok, f.run) }
   accepts (Arrive p) ok = record { shows = arrives f.shows (sound es f.run) p ok; run = (ok, f.run) }
   accepts (Leave p) ok = record { shows = leaves f.shows (sound es f.run) p ok; run = (ok, f.run) }
-  accepts (Exit p) ok = record {
-    shows = exits f.shows (sound es f.run) p ok (alone_hidden (state es) (sound es f.run) p ok.0 ok.2);
-    run = (ok, f.run);
-  }
+  accepts (Exit p) ok = let hidden = alone_hidden (state es) (sound es f.run) p ok.0 ok.2 in
+      record { shows = exits f.shows (sound es f.run) p ok hidden; run = (ok, f.run) }
   accepts (Clear p) ok = record { shows = clears f.shows (sound es f.run) p; run = (ok, f.run) }
   accepts (End p) ok = record { shows = ends f.shows (sound es f.run) p ok; run = (ok, f.run) }
 
   -- a step next is accepted exactly where it is fair
   exactly : (e : Step) → IsInRange e → (first (tests m true e) ≡ None) ↔ IsFair m (state es) e
-  exactly e range = (
-    (λ z. fair f.shows (sound es f.run) some true e range (all_fail (tests m true e) z)),
-    (λ ok. none_first (tests m true e) (fails f.shows (sound es f.run) some e ok)),
-  )
+  exactly e range = let passes = fair f.shows (sound es f.run) some true e range in let ts : List (Why × Bool) = tests m true e in
+      ((λ z. passes (all_fail ts z)), (λ ok. none_first ts (fails f.shows (sound es f.run) some e ok)))
 
   served : (c : Call)
       → IsInRange c.step → (o : Option Why) → refusal m c ≡ o → Follows (judged o m c.step).0 ((if is_none o then events_of m c.step else []) ++ es)
@@ -110,11 +106,9 @@ goes : (m : Configuration) (es : List Event) (later : List Call)
     → 0 < length m.counters → IsSchedule later → Follows m es → (0 < length (played m later).counters) × Follows (played m later) (history m later ++ es)
 goes m es [] some ok f = (some, f)
 goes m es (c ∷ later) some ok f = let g = goes m es later some ok.1 f in
-    let size = served_size (played m later) c.step (refusal (played m later) c) in let g₀ = g.0 in (
-      omega arith,
-      subst (Follows (played m (c ∷ later)))
-          (sym (append_assoc (accepted (played m later) c) (history m later) es)) (goes_on (played m later) (history m later ++ es) g.1 g.0 c ok.0),
-    )
+    let size = served_size (played m later) c.step (refusal (played m later) c) in let g₀ = g.0 in
+    let next = goes_on (played m later) (history m later ++ es) g.1 g.0 c ok.0 in
+    (omega arith, subst (Follows (played m (c ∷ later))) (sym (append_assoc (accepted (played m later) c) (history m later) es)) next)
 
 -- the word is the barrier word of the state shown
 same_word : (m : Configuration) (s : State) → Shows m s → word m ≡ barrier.word s

@@ -40,14 +40,9 @@ module _ (T d : ℕ) where
         pub stays_left : (j : ℕ) → j ≢ d * t + d - c t → StandsFor T d c rem n j → StandsFor T d c' rem n j
         stays_left j other = ⊎_elim
             (λ (x : (i : ℕ) × (i < T) × (j < d * i + d) × (d * i + d ≤ j + c i)). let i = x.0 in let below = x.2 in let above = x.3 in
-            inl (
-              i,
-              x.1,
-              below,
-              dite (ℕ_discrete i t)
-                  (λ e. let a = ap c' e in let b = ap c e in let f = ap (λ (z : ℕ). d * z) e in omega arith) (λ o. let a = same i o in omega arith),
-            ))
-            inr
+            let still : d * i + d ≤ j + c' i = dite (ℕ_discrete i t)
+            (λ e. let a = ap c' e in let b = ap c e in let f = ap (λ (z : ℕ). d * z) e in omega arith) (λ o. let a = same i o in omega arith) in
+            inl (i, x.1, below, still)) inr
 
         pub was_left : (j : ℕ) → StandsFor T d c' rem n j → StandsFor T d c rem n j × (j ≢ d * t + d - c t)
         was_left j = ⊎_elim
@@ -55,11 +50,9 @@ module _ (T d : ℕ) where
             let below = x.2 in let above = x.3 in let high = most t lt in
             dite (ℕ_discrete i t)
             (λ e. let a = ap c' e in let b = ap c e in let f = ap (λ (z : ℕ). d * z) e in (inl (i, x.1, below, omega arith), λ is. omega arith))
-            (λ o. let a = same i o in let m = most i x.1 in (
-              inl (i, x.1, below, omega arith),
-              λ is. dite (dec_le i t)
-                  (λ before. let b = own_before i t (omega arith) in omega arith) (λ after. let b = own_before t i (omega arith) in omega arith),
-            )))
+            (λ o. let a = same i o in let m = most i x.1 in let apart : j ≢ d * t + d - c t = λ is. dite (dec_le i t)
+            (λ before. let b = own_before i t (omega arith) in omega arith) (λ after. let b = own_before t i (omega arith) in omega arith) in
+            (inl (i, x.1, below, omega arith), apart)))
             (λ (x : (j < n) × (n ≤ j + rem)). let x₀ = x.0 in
             let x₁ = x.1 in let a = own_before t T lt in let high = most t lt in (inr x, λ is. omega arith))
 

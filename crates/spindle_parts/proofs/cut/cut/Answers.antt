@@ -54,23 +54,13 @@ loop-done-preserved g c =
     let m : vec_len c.in-Ok.run' ≡ get_or ls i 0 = omega (arith, c.in-Ok.ensures.tail_len, r, t, c.len-in-loop-done.ensures, c.loop-done.items.ok.0) in
     record {
       joined =
-          rw (
-            e,
-            back_snoc f ps p,
-            c.in-Ok.ensures.items,
-            c.in-Ok.ensures.tail,
-            sym (append_assoc (take at c.loop-done.items.items) (drop at c.loop-done.items.items) (joined (reverse (map f ps)))),
-            take-append-drop at c.loop-done.items.items,
-          ) c.loop-done.invariant.joined;
+          let back = sym (append_assoc (take at c.loop-done.items.items) (drop at c.loop-done.items.items) (joined (reverse (map f ps)))) in
+          let both = take-append-drop at c.loop-done.items.items in
+          rw (e, back_snoc f ps p, c.in-Ok.ensures.items, c.in-Ok.ensures.tail, back, both) c.loop-done.invariant.joined;
       lengths =
-          rw (
-            e,
-            map_snoc (λ (q : P). vec_len q.items) ps p,
-            reverse_snoc (map (λ (q : P). vec_len q.items) ps) (vec_len c.in-Ok.run'),
-            k',
-            drop_more ls i 0 h,
-            m,
-          ) (ap (λ z. get_or ls i 0 ∷ z) (c.loop-done.invariant.lengths ∙ ap (λ z. drop z ls) k));
+          let more = map_snoc (λ (q : P). vec_len q.items) ps p in
+          let back = reverse_snoc (map (λ (q : P). vec_len q.items) ps) (vec_len c.in-Ok.run') in
+          rw (e, more, back, k', drop_more ls i 0 h, m) (ap (λ z. get_or ls i 0 ∷ z) (c.loop-done.invariant.lengths ∙ ap (λ z. drop z ls) k));
       numbers = rw (e, map_snoc (λ (q : P). q.number) ps p, reverse_snoc (map (λ (q : P). q.number) ps) i, k', add-one d)
           (ap (λ z. i ∷ z) (c.loop-done.invariant.numbers ∙ ap (λ z. counted z d) k));
       left =

@@ -20,12 +20,8 @@ loop-thread-preserved g c =
     let h : i < length ls = omega (arith, length-lengths_of c.args.count c.args.threads c.requires) in
     record {
       empty =
-          rw (
-            c.push_reserved.ensures.items,
-            map_push (λ (h : Vec P Global). h.items) old list,
-            c.loop-thread.invariant.empty,
-            c.in_ok-with_capacity.ensures.items,
-          ) (replicate_more i []);
+          let more = map_push (λ (h : Vec P Global). h.items) old list in
+          rw (c.push_reserved.ensures.items, more, c.loop-thread.invariant.empty, c.in_ok-with_capacity.ensures.items) (replicate_more i []);
       rooms = rw (c.push_reserved.ensures.items, map_push (λ (h : Vec P Global). vec_capacity h) old list, c.loop-thread.invariant.rooms, cap)
           (sym (take_more ls i 0 h));
       len = omega arith;

@@ -14,7 +14,5 @@ returns-clause-number c = ap (λ v. v.holding) (c.fetch_and.ensures.2.1 c.args.n
 
 pub returns-clause-seat : goal.returns-clause-seat
 returns-clause-seat c =
-    let e = c.fetch_and.ensures in (
-      record { table = e.0 ∙ c.requires.seated.table; below = λ k has. absurd (let z = sym (returns-clause-number c) ∙ has in cc) },
-      record { table = e.0; id = e.1; slots = e.2.0 },
-    )
+    let e = c.fetch_and.ensures in let none = returns-clause-number c in
+    (record { table = e.0 ∙ c.requires.seated.table; below = λ k has. absurd (let z = sym none ∙ has in cc) }, record { table = e.0; id = e.1; slots = e.2.0 })

@@ -11,15 +11,8 @@ overflow_sub-len g c =
     omega (arith, c.loop-length.invariant.from, c.loop-length.invariant.len, c.requires.whole, total_part c.loop-length.length-index c.args.lengths.now)
 
 pub run-requires-clause-in_run : goal.run-requires-clause-in_run
-run-requires-clause-in_run g c =
-    omega (
-      arith,
-      c.min.ensures,
-      c.loop-length.invariant.from,
-      c.loop-length.invariant.len,
-      c.requires.whole,
-      total_part c.loop-length.length-index c.args.lengths.now,
-    )
+run-requires-clause-in_run g c = let i = c.loop-length.invariant in
+    omega (arith, c.min.ensures, i.from, i.len, c.requires.whole, total_part c.loop-length.length-index c.args.lengths.now)
 
 pub loop-length-preserved : goal.loop-length-preserved
 loop-length-preserved g c =

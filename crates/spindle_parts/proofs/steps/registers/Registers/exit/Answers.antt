@@ -25,12 +25,11 @@ returns-then-self-eq0-clause-served c = let r = c.args.self.now in let p = c.arg
     let mid : Registers = record r { entries = c.set_sense.new.entries; inside = r.inside - 1; members = r.members - 1 } in
     let gone : Configuration = record (shown r) { seat = standing (shown r) p Out; inside = r.inside - 1; members = r.members - 1 } in
     let same : shown mid ≡ gone = search rules in
-    let one : r.members ≡ 1 = (let z = c.if-self-eq0.true in omega arith) in (
-      search rules,
-      turned_is mid c.turn.new.self c.turn.ensures.saw c.turn.ensures.turned (λ q e. nobody (shown r) p
-          (λ x n. (bounds (shown r) c.requires.reached).alone p x w one n) q (sym (ap (λ (m : Configuration). (m.seat q).status) same) ∙ e))
-          ∙ (ap turned same ∙ sym (ap (λ (b : Bool). if b then turned gone else closing gone p) (eq-eqb (r.members - 1) 0 c.if-self-eq0.true))),
-    )
+    let one : r.members ≡ 1 = (let z = c.if-self-eq0.true in omega arith) in
+    let turns = turned_is mid c.turn.new.self c.turn.ensures.saw c.turn.ensures.turned (λ q e. nobody (shown r) p
+    (λ x n. (bounds (shown r) c.requires.reached).alone p x w one n) q (sym (ap (λ (m : Configuration). (m.seat q).status) same) ∙ e)) in
+    let last = sym (ap (λ (b : Bool). if b then turned gone else closing gone p) (eq-eqb (r.members - 1) 0 c.if-self-eq0.true)) in
+    (search rules, turns ∙ (ap turned same ∙ last))
 
 pub returns-then-self-eq0-clause-tidy : goal.returns-then-self-eq0-clause-tidy
 returns-then-self-eq0-clause-tidy c = let r = c.args.self.now in
