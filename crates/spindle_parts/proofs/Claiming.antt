@@ -1,8 +1,6 @@
 -- The machine shows the state after a publish and after a claim.
 use Rattle.std.proofs.Common.{◌≡◌, ◌≢◌, ℕ, ◌+◌, ◌*◌, ◌-◌, ◌/◌, ◌%◌, ◌<◌, Bool, true, false, ◌||◌, eq-eqb, ne_eqb, List, [], ◌∷◌, ◌++◌, length, get_or, set, sym}
 use Rattle.std.proofs.Common.{replicate, refl, ap, ◌∙◌, subst, arith, Option, Some, unwrap_or, get_or-set_same, get_or-set_other}
-use mathlib.Core.Logic.{dite}
-use native.Mathlib.Decide.{ℕ_discrete}
 use Rattle.std.proofs.lemmas.Nat.{div-add-mod'}
 use Rattle.std.proofs.lemmas.List.{length-set, length-replicate, get_or-replicate}
 use Rattle.spindle_parts.specs.State.{Party, Round, State, put, times, now, party, Free}
@@ -10,7 +8,7 @@ use Rattle.spindle_parts.specs.Steps.{IsPublishable, Allowed, after, publish, Ta
 use Rattle.spindle_parts.specs.Machine.{Configuration, counter, own, claimed, rested, publishing, effect}
 use Rattle.spindle_parts.specs.EverySchedule.{Shows, StandsFor, MayBegin, only}
 use Rattle.spindle_parts.specs.declared.steps.Step.TheVariants.{Claim, Rest}
-use Rattle.spindle_parts.proofs.Parties.{by_option, put_all, put_here, look_here, look_else, times_same, times_else, tick_same}
+use Rattle.spindle_parts.proofs.Parties.{by_equal, by_option, put_all, put_here, look_here, look_else, times_same, times_else, tick_same}
 use Rattle.spindle_parts.proofs.Fates.{or_right, open_is_free, none_begun, over}
 use Rattle.spindle_parts.proofs.Soundness.{Sound, no_closer, no_jobs}
 use Rattle.spindle_parts.proofs.Shares.{stands_below, all_stand, first_stands, rest_stands, stays_left, was_left, stays_rest, was_rest}
@@ -51,7 +49,7 @@ module _ {cs : List ℕ} {rem fin jobs : ℕ} {begun done : List ℕ} {n : ℕ} 
 
   -- a number not begun after k was begun
   not_yet : (j k : ℕ) → times j (begun ++ k ∷ []) ≡ 0 → (j ≢ k) × (times j begun ≡ 0)
-  not_yet j k z = dite (ℕ_discrete j k) (λ e. let a = times_same k begun in let b = ap (λ (i : ℕ). times i (begun ++ k ∷ [])) e in absurd (omega arith))
+  not_yet j k z = by_equal j k (λ e. let a = times_same k begun in let b = ap (λ (i : ℕ). times i (begun ++ k ∷ [])) e in absurd (omega arith))
       (λ o. (o, sym (times_else j begun k o) ∙ z))
 
   -- a claim of counter t
@@ -60,7 +58,7 @@ module _ {cs : List ℕ} {rem fin jobs : ℕ} {begun done : List ℕ} {n : ℕ} 
   claim_tally t k lt pos is = let ds : List ℕ = set cs t (get_or cs t 0 - 1) in let size : length ds ≡ length cs = length-set cs t (get_or cs t 0 - 1) in
       let falls : get_or ds t 0 ≡ get_or cs t 0 - 1 = get_or-set_same cs t (get_or cs t 0 - 1) 0 lt in
       let same : (i : ℕ) → i ≢ t → get_or ds i 0 ≡ get_or cs i 0 = λ i o. get_or-set_other cs t i (get_or cs t 0 - 1) 0 o in record {
-        own_at_most = λ i at_i. let f = ap (λ (z : ℕ). n / z) size in let g = tally.own_at_most i (omega arith) in dite (ℕ_discrete i t)
+        own_at_most = λ i at_i. let f = ap (λ (z : ℕ). n / z) size in let g = tally.own_at_most i (omega arith) in by_equal i t
             (λ e. let a = ap (λ (z : ℕ). get_or ds z 0) e in let b = ap (λ (z : ℕ). get_or cs z 0) e in omega arith) (λ o. let a = same i o in omega arith);
         rest_at_most = let f = ap (λ (z : ℕ). n % z) size in let g = tally.rest_at_most in omega arith;
         unbegun = λ j below z. let y = not_yet j k z in subst (λ (w : ℕ). StandsFor w (n / w) (λ i. get_or ds i 0) rem n j) (sym size)

@@ -1,8 +1,6 @@
 -- The machine's tests of a step all fail exactly where the definitions allow it.
 use Rattle.std.proofs.Common.{◌≡◌, ◌≢◌, ◌⊎◌, inl, inr, ⊎_elim, ℕ, ◌+◌, ◌*◌, ◌-◌, ◌<◌, ◌≤◌, Bool, true, false, not, ◌&&◌, eq-eqb, ne_eqb, ltb as nat_lt, length}
 use Rattle.std.proofs.Common.{sum, sym, refl, ap, ◌∙◌, arith, Option, Some, None, is_some, ◌==◌}
-use mathlib.Core.Logic.{dite}
-use native.Mathlib.Decide.{dec_le}
 use Rattle.std.proofs.lemmas.Bool.{lt-ltb, ltb-true, le-ltb, ltb-false}
 use Rattle.spindle_parts.specs.State.{Status, In, State, now, party, Free}
 use Rattle.spindle_parts.specs.Steps.{IsPublishable}
@@ -17,6 +15,7 @@ use Rattle.spindle_parts.proofs.Tests.{AllFail, not_false, not_true, out_by, in_
 use Rattle.spindle_parts.proofs.Tests.{differ_by, and_left, and_right, unless}
 use Rattle.spindle_parts.proofs.Following.{tally}
 use Rattle.spindle_parts.proofs.Claiming.{claimed_left, rested_left}
+use Rattle.spindle_parts.proofs.Parties.{by_order}
 
 second_false : (a b : Bool) → (a && b) ≡ false → a ≡ true → b ≡ false
 second_false true b e t = e
@@ -80,7 +79,7 @@ module _ {m : Configuration} {s : State} (a : Shows m s) (h : Sound s) (some : 0
 
   -- where something is left, something is free
   some_free : (n : ℕ) → s.published ≡ Some n → 0 < sum m.counters + m.remainder → (k : ℕ) × Free s k
-  some_free n e lt = dite (dec_le 1 m.remainder)
+  some_free n e lt = by_order 1 m.remainder
       (λ pos. let f = rested_left some (tally a n e) (omega arith) in
       (n - m.remainder, (f.0, f.1, λ q. a.untaken q (n - m.remainder))))
       (λ no. let x = some_part m.counters (omega arith) in
@@ -104,7 +103,7 @@ module _ {m : Configuration} {s : State} (a : Shows m s) (h : Sound s) (some : 0
   used_passes : Used → (is_some m.published && not m.stopped && nat_lt 0 (left m)) ≡ false
   used_passes ok = unless (is_some m.published && not m.stopped) (nat_lt 0 (left m)) (λ t. let shown = and_left (is_some m.published) (not m.stopped) t in
       let going = and_right (is_some m.published) (not m.stopped) t in let x = some_by m.published shown in
-      le-ltb 0 (left m) (dite (dec_le (left m) 0) (λ le. le) (λ no. let y = some_free x.0 (sym a.published ∙ x.1) (omega arith) in
+      le-ltb 0 (left m) (by_order (left m) 0 (λ le. le) (λ no. let y = some_free x.0 (sym a.published ∙ x.1) (omega arith) in
       absurd (⊎_elim (λ (none : (k : ℕ) → Free s k → ⊥). none y.0 y.1)
       (λ (st : (now s).stopped ≡ true). let z = a.stopped ∙ st in let w = ap not z in cc) (ok (λ e. let z = sym x.1 ∙ (a.published ∙ e) in cc))))))
 

@@ -1,11 +1,9 @@
 -- What each number of a round is, and how one party's change leaves the others.
 use Rattle.std.proofs.Common.{◌≡◌, ◌≢◌, ◌⊎◌, inl, inr, ⊎_elim, ℕ, ◌<◌, ◌≤◌, Bool, true, false, ◌||◌, List, [], ◌∷◌, ◌++◌, sym, refl, ap, ◌∙◌, subst, arith}
 use Rattle.std.proofs.Common.{Some, None, if◌then◌else◌}
-use mathlib.Core.Logic.{dite}
-use native.Mathlib.Decide.{ℕ_discrete}
 use Rattle.spindle_parts.specs.State.{Status, In, Party, Round, put, no_set, blank, party_of, put_party, times}
 use Rattle.spindle_parts.specs.Steps.{with_status}
-use Rattle.spindle_parts.proofs.Parties.{by_option, put_here, put_else, put_all, look_here, look_else, times_same, times_else}
+use Rattle.spindle_parts.proofs.Parties.{by_equal, by_option, put_here, put_else, put_all, look_here, look_else, times_same, times_else}
 
 pub data Fate : Type 0 where
   Open : Fate
@@ -85,7 +83,7 @@ others_fit fate fate' q x spared f = record {
 -- the party p is y from now on
 pub fits_put : (fate fate' : ℕ → Fate) (ps : List Party) (p : ℕ) (y : Party) → Fits fate' p y
     → ((q k : ℕ) → q ≢ p → Spared fate fate' q k) → ((q : ℕ) → Fits fate q (party_of ps q)) → (q : ℕ) → Fits fate' q (party_of (put_party ps p y) q)
-fits_put fate fate' ps p y mine spared f q = dite (ℕ_discrete q p)
+fits_put fate fate' ps p y mine spared f q = by_equal q p
     (λ same. subst (λ (z : ℕ). Fits fate' z (party_of (put_party ps p y) z)) (sym same) (subst (Fits fate' p) (sym (look_here ps p y)) mine))
     (λ other. subst (Fits fate' q) (sym (look_else ps p y q other)) (others_fit fate fate' q (party_of ps q) (λ k. spared q k other) (f q)))
 
@@ -116,7 +114,7 @@ module _ (fate : ℕ → Fate) (r : Round) (ps : List Party) (w : Work fate r ps
 
   -- one number, from the fate f to g, which concern p alone
   spared_at : (k : ℕ) (g : Fate) → ((q : ℕ) → q ≢ p → Foreign q (fate k) × Foreign q g) → (q j : ℕ) → q ≢ p → Spared fate (put fate k g) q j
-  spared_at k g alone q j other = dite (ℕ_discrete j k)
+  spared_at k g alone q j other = by_equal j k
       (λ e. inr (subst (λ (z : ℕ). Foreign q (fate z) × Foreign q (put fate k g z)) (sym e)
       (subst (λ (z : Fate). Foreign q (fate k) × Foreign q z) (sym (put_here fate k g)) (alone q other))))
       (λ n. inl (put_else fate k g j n))
@@ -129,7 +127,7 @@ module _ (fate : ℕ → Fate) (r : Round) (ps : List Party) (w : Work fate r ps
       (let a = w.begun k in let b = ap started was in let d = times_same k r.begun in omega arith) (λ j n. times_else j r.begun k n ∙ w.begun j))
       (put_all (λ j g. times j r.finished ≡ over g) fate k (Ran p) (w.finished k ∙ ap over was) (λ j _. w.finished j))
       record {
-        held = λ j h. dite (ℕ_discrete j k)
+        held = λ j h. by_equal j k
             (λ e. let a = put_here (party_of ps p).taken k false in let b = ap (put (party_of ps p).taken k false) e in absurd cc)
             (λ n. put_else fate k (Ran p) j n ∙ f.held j (sym (put_else (party_of ps p).taken k false j n) ∙ h));
         holds = put_all (λ j g. g ≡ Held p → put (party_of ps p).taken k false j ≡ true) fate k (Ran p) (λ h. absurd cc)

@@ -1,8 +1,6 @@
 -- The machine shows the state after each step that the definitions allow.
 use Rattle.std.proofs.Common.{◌≡◌, ◌≢◌, ℕ, ◌+◌, ◌-◌, ◌/◌, ◌%◌, ◌<◌, ◌≤◌, Bool, true, false, not, List, ◌++◌, length, get_or, sym, refl, ap, ◌∙◌, subst, arith}
 use Rattle.std.proofs.Common.{Option, Some, None, if◌then◌else◌, ◌==◌, length-append}
-use mathlib.Core.Logic.{dite}
-use native.Mathlib.Decide.{ℕ_discrete}
 use Rattle.spindle_parts.specs.State.{Status, Out, In, Arrived, Party, Round, State, put, party_of, put_party, times, is_in, is_member, weight_in, waking, wake}
 use Rattle.spindle_parts.specs.State.{weight_member, now, party, change_round}
 use Rattle.spindle_parts.specs.State as state
@@ -11,8 +9,8 @@ use Rattle.spindle_parts.specs.Steps as events
 use Rattle.spindle_parts.specs.Machine.{Seat, Configuration, standing, with_seen, turned, closing, effect}
 use Rattle.spindle_parts.specs.EverySchedule.{Shows, StandsFor}
 use Rattle.spindle_parts.specs.declared.steps.Step.TheVariants.{Join, Finish, Stop, See, Arrive, Leave, Exit, Clear, End}
-use Rattle.spindle_parts.proofs.Parties.{moved, with_parties, next_round, by_zero, put_here, put_else, put_all, look_here, look_else, total_put, total_at}
-use Rattle.spindle_parts.proofs.Parties.{inside_le_members, look_wake, inside_wake, members_wake}
+use Rattle.spindle_parts.proofs.Parties.{by_equal, moved, with_parties, next_round, by_zero, put_here, put_else, put_all, look_here, look_else, total_put}
+use Rattle.spindle_parts.proofs.Parties.{total_at, inside_le_members, look_wake, inside_wake, members_wake}
 use Rattle.spindle_parts.proofs.Soundness.{Sound, no_closer, out_of}
 
 -- what the machine knows of a party is so
@@ -25,7 +23,7 @@ pub record Fits (x : Seat) (y : Party) (saw : Bool) : Type 0 where
 -- one party's seat and record become x and y
 seats_put : (f : ℕ → Seat) (ps : List Party) (p : ℕ) (x : Seat) (y : Party) (seen : ℕ → Bool)
     → Fits x y (seen p) → ((q : ℕ) → q ≢ p → Fits (f q) (party_of ps q) (seen q)) → (q : ℕ) → Fits (put f p x q) (party_of (put_party ps p y) q) (seen q)
-seats_put f ps p x y seen here away q = dite (ℕ_discrete q p)
+seats_put f ps p x y seen here away q = by_equal q p
     (λ e. subst (λ (z : ℕ). Fits (put f p x z) (party_of (put_party ps p y) z) (seen z)) (sym e)
     (subst (λ (w : Seat × Party). Fits w.0 w.1 (seen p)) (λ i. (sym (put_here f p x) i, sym (look_here ps p y) i)) here))
     (λ n. subst (λ (w : Seat × Party). Fits w.0 w.1 (seen q)) (λ i. (sym (put_else f p x q n) i, sym (look_else ps p y q n) i)) (away q n))

@@ -1,14 +1,12 @@
 -- What an event of one party leaves of another.
 use Rattle.std.proofs.Common.{◌≡◌, ◌≢◌, ◌⊎◌, inl, inr, ⊎_elim, ℕ, suc, ◌+◌, ◌<◌, Bool, true, false, ◌||◌, List, [], ◌∷◌, ◌++◌, sym, refl, ap, ◌∙◌, subst, arith}
 use Rattle.std.proofs.Common.{Option, Some, None, if◌then◌else◌, ◌==◌}
-use mathlib.Core.Logic.{dite}
-use native.Mathlib.Decide.{ℕ_discrete}
 use Rattle.spindle_parts.specs.State.{Status, Out, In, Arrived, Party, Round, State, put, no_set, party_of, put_party, times, weight_member, inside, members}
 use Rattle.spindle_parts.specs.State.{waking, now, party, Free}
 use Rattle.spindle_parts.specs.Steps.{with_status, IsPublishable, Allowed, after, arrived, left, publish, ended_by, by, Event, Join, Publish, PublishTry, Take}
 use Rattle.spindle_parts.specs.Steps.{Begin, Finish, Stop, See, PutBack, Arrive, Leave, Exit, Clear, End}
-use Rattle.spindle_parts.proofs.Parties.{by_zero, moved, with_parties, next_round, put_here, put_else, look_here, look_else, total_at, look_wake, times_same}
-use Rattle.spindle_parts.proofs.Parties.{times_snoc}
+use Rattle.spindle_parts.proofs.Parties.{by_equal, by_zero, moved, with_parties, next_round, put_here, put_else, look_here, look_else, total_at, look_wake}
+use Rattle.spindle_parts.proofs.Parties.{times_same, times_snoc}
 use Rattle.spindle_parts.proofs.Soundness.{Sound, no_closer, closers, none_in, out_of, alone_hidden}
 
 -- what is free afterwards was free
@@ -56,7 +54,7 @@ module _ (s : State) (h : Sound s) (p q : ℕ) (other : q ≢ p) where
   -- the numbers that each party has, where p has become y
   taken_put : (y : Party) (k : ℕ) → (y.taken k ≡ false → (party s p).taken k ≡ false)
       → ((a : ℕ) → (party_of (put_party s.parties p y) a).taken k ≡ false) → (a : ℕ) → (party s a).taken k ≡ false
-  taken_put y k mine all a = dite (ℕ_discrete a p)
+  taken_put y k mine all a = by_equal a p
       (λ e. subst (λ (z : ℕ). (party s z).taken k ≡ false) (sym e) (mine (sym (ap (λ (z : Party). z.taken k) (look_here s.parties p y)) ∙ all p)))
       (λ n. sym (ap (λ (z : Party). z.taken k) (look_else s.parties p y a n)) ∙ all a)
 
@@ -133,7 +131,7 @@ frame s h (Take p some) q ok other = let y : Party = record (party s p) { taken 
 frame s h (Begin p k) q ok other = let y : Party = record (party s p) { running = Some k; taken = put (party s p).taken k false } in
     reworked_free s h p q other (put_party s.parties p y)
     (record (now s) { begun = (now s).begun ++ k ∷ [] }) (look_else s.parties p y q other) refl refl (λ e. e)
-    (λ j f. let a = times_snoc j (now s).begun k in let b = f.1 in let had : y.taken j ≡ false → (party s p).taken j ≡ false = λ e. dite (ℕ_discrete j k)
+    (λ j f. let a = times_snoc j (now s).begun k in let b = f.1 in let had : y.taken j ≡ false → (party s p).taken j ≡ false = λ e. by_equal j k
     (λ i. let c = times_same k (now s).begun in let d = ap (λ (z : ℕ). times z ((now s).begun ++ k ∷ [])) i in absurd (omega arith))
     (λ n. sym (put_else (party s p).taken k false j n) ∙ e) in (f.0, omega arith, taken_put s h p q other y j had f.2))
 frame s h (Finish p) q ok other = let y : Party = record (party s p) { running = None } in

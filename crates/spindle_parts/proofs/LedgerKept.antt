@@ -2,9 +2,7 @@
 use Rattle.std.proofs.Common.{◌≡◌, ◌≢◌, ⊎_elim, ℕ, zero, suc, ◌+◌, ◌-◌, ◌%◌, ◌^◌, ◌<◌, ◌≤◌, Bool, eq-eqb, ne_eqb, List, [], ◌∷◌, length, length-set, get_or, ap}
 use Rattle.std.proofs.Common.{set, get_or-set_same, get_or-set_other, sum_by, sym, refl, ◌∙◌, subst, arith, if◌then◌else◌}
 use Rattle.std.proofs.lemmas.List.Sums.{sum_by-cons, sum_by-set}
-use mathlib.Core.Logic.{dite}
 use mathlib.Core.Option.{some, some-injective, some-ne-none}
-use native.Mathlib.Decide.{ℕ_discrete}
 use lib.ListN.{get_elem?}
 use Rattle.atomic_table.specs.Table.{State, Me, keeps, stepped}
 use Rattle.atomic_table.proofs.Lists.{at_set}
@@ -14,6 +12,7 @@ use Rattle.spindle_parts.specs.declared.requests.plays.Account.{Account}
 use Rattle.spindle_parts.specs.Ledger.{place_word, IsFlag, gain, cost, opened, removed, IsCredit, onto, over_trails, opened_at, removed_at, unfilled, total}
 use Rattle.spindle_parts.specs.Ledger.{standing, Balanced}
 use Rattle.spindle_parts.specs.LedgerSteps.{noted}
+use Rattle.spindle_parts.proofs.Parties.{by_equal}
 
 abbrev pub Log : Type 0
 Log = Trace Kind
@@ -46,7 +45,7 @@ total_same f g (suc n) h = let a = total_same f g n (λ i lt. h i (omega arith))
 -- two sums that differ at one place
 total_but : (f g : ℕ → ℕ) (n k : ℕ) → k < n → ((i : ℕ) → i < n → i ≢ k → f i ≡ g i) → total f n + g k ≡ total g n + f k
 total_but f g zero k lt h = absurd (omega arith)
-total_but f g (suc n) k lt h = dite (ℕ_discrete n k)
+total_but f g (suc n) k lt h = by_equal n k
     (λ (e : n ≡ k). let a = total_same f g n (λ i lt. h i (omega arith) (λ z. omega arith)) in
     subst (λ (z : ℕ). total f n + f n + g z ≡ total g n + g n + f z) e (omega arith))
     (λ ne. let a = total_but f g n k (omega arith) (λ i lt. h i (omega arith)) in let b = h n (omega arith) ne in omega arith)
@@ -58,7 +57,7 @@ onto_else : (i : ℕ) (f : Log → ℕ) (x : Log) → x.word ≢ place_word i �
 onto_else i f x n = ap (λ (b : Bool). if b then f x else 0) (ne_eqb x.word (place_word i) n)
 
 onto_none : (i : ℕ) (f : Log → ℕ) (x : Log) → f x ≡ 0 → onto i f x ≡ 0
-onto_none i f x e = dite (ℕ_discrete x.word (place_word i)) (λ h. onto_here i f x h ∙ e) (onto_else i f x)
+onto_none i f x e = by_equal x.word (place_word i) (λ h. onto_here i f x h ∙ e) (onto_else i f x)
 
 module _ (slots : ℕ) where
   abbrev pub Rule : Table → Type 0
@@ -131,9 +130,9 @@ module _ (slots : ℕ) where
         let y = onto_here k (λ y. removed y.kind y.found) x there in
         let other : (j : ℕ) → j ≢ place_word k → get_or W j 0 ≡ get_or s.words j 0 = (λ j ne. get_or-set_other s.words i j new 0 (λ e. ne (e ∙ here))) in
         kept (omega arith)
-        (λ j lt. dite (ℕ_discrete j k) (λ (e : j ≡ k). subst (λ (z : ℕ). removed_at z V ≤ opened_at z V) (sym e) (omega arith))
+        (λ j lt. by_equal j k (λ (e : j ≡ k). subst (λ (z : ℕ). removed_at z V ≤ opened_at z V) (sym e) (omega arith))
         (λ ne. let h = r.never_below j lt in let o = opened_else j ne in let m = removed_else j ne in omega arith))
-        (λ j lt. dite (ℕ_discrete j k)
+        (λ j lt. by_equal j k
         (λ (e : j ≡ k). subst (λ (z : ℕ). get_or W (place_word z) 0 ≡ unfilled V z % 2 ^ 64) (sym e)
         (ap (λ (z : ℕ). get_or W z 0) (sym here) ∙ get_or-set_same s.words i new 0 (omega arith) ∙ g.1 ∙ ap (λ (z : ℕ). z % 2 ^ 64) (omega arith)))
         (λ ne. other (place_word j) (λ e. ne (omega arith)) ∙ r.places j lt ∙ ap (λ (z : ℕ). z % 2 ^ 64) (sym (as_before j ne))))

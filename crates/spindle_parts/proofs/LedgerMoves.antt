@@ -2,8 +2,6 @@
 use Rattle.std.proofs.Common.{◌≡◌, ◌≢◌, ⊎_elim, ℕ, zero, suc, ◌+◌, ◌-◌, ◌%◌, ◌^◌, ◌<◌, ◌≤◌, Bool, true, false, eqb, List, [], ◌∷◌, ◌++◌, length, get_or, set}
 use Rattle.std.proofs.Common.{get_or-set_same, get_or-set_other, sum_by, sym, refl, ap, ◌∙◌, subst, arith}
 use Rattle.std.proofs.lemmas.List.Sums.{sum_by_push}
-use mathlib.Core.Logic.{dite}
-use native.Mathlib.Decide.{ℕ_discrete}
 use mathlib.Core.Option.{none, some, some-injective, some-ne-none}
 use lib.ListN.{get_elem?}
 use lib.Seq.{set-get_or}
@@ -19,6 +17,7 @@ use Rattle.spindle_parts.specs.Ledger.{place_word, IsFlag, gain, cost, opened, r
 use Rattle.spindle_parts.specs.LedgerSteps.{noted, blank, loading, announcing, asking, subtracting, installing, taking, missing, closing, loaded, announced}
 use Rattle.spindle_parts.specs.LedgerSteps.{asked, subtracted, installed, taken, closed}
 use Rattle.spindle_parts.proofs.LedgerKept.{M, Table, Rule, total_same, elsewhere, at_slot}
+use Rattle.spindle_parts.proofs.Parties.{by_equal}
 
 -- a flag as its word
 pub one_or_none : (b : Bool) → bool_byte b ≤ 1
@@ -51,7 +50,7 @@ module _ (slots : ℕ) where
       let other : (j : ℕ) → j ≢ i → get_or (set s.words i flag) j 0 ≡ get_or s.words j 0 = (λ j ne. get_or-set_other s.words i j flag 0 ne) in
       let kept = elsewhere slots s r i flag id me me.0.credit (trace i Announce flag flag) at refl refl refl (λ j. other (place_word j) (λ e. omega arith))
       (λ t t' eq more. other 0 (λ e. off (sym e)) ∙ eq ∙ ap (λ (z : ℕ). z % 2 ^ 64) (omega arith))
-      (λ j f. dite (ℕ_discrete j i)
+      (λ j f. by_equal j i
       (λ (e : j ≡ i). subst (λ (z : ℕ). get_or (set s.words i flag) z 0 ≤ 1) (sym e)
       (let here = get_or-set_same s.words i flag 0 (omega arith) in omega arith)) (λ ne. subst (λ (z : ℕ). z ≤ 1) (sym (other j ne)) (r.flags j f))) in
       (announcing i flag me.0, keeps, tt, kept, (refl, refl))

@@ -1,8 +1,6 @@
 -- Writes to one party's entry, and what they leave of the marks.
 use Rattle.std.proofs.Common.{◌≡◌, ◌≢◌, ◌⊎◌, inl, inr, ⊎_elim, ℕ, zero, suc, eqb, length-append, ◌<◌, ◌≤◌, Bool, true, false, List, [], ◌∷◌, ◌++◌, length, sym}
 use Rattle.std.proofs.Common.{refl, ap, ◌∙◌, subst, arith, Option, Some, None, ◌==◌, ◌||◌, eq-eqb, ne_eqb, get_or}
-use mathlib.Core.Logic.{dite}
-use native.Mathlib.Decide.{ℕ_discrete}
 use Rattle.std.specs.Option.{IfSome, IsSome}
 use Rattle.std.specs.Map.{lookup}
 use Rattle.std.specs.Cmp.{nat_eq_equiv}
@@ -15,7 +13,7 @@ use Rattle.std.specs.Ordering.{nat_cmp, eq_by_cmp}
 use Rattle.std.specs.BTreeMap.{BTreeMap, get, btree_map_len}
 use Rattle.spindle_parts.specs.State.{put}
 use Rattle.spindle_parts.specs.Machine.{Seat, status, is_inside, is_waiting}
-use Rattle.spindle_parts.proofs.Parties.{put_here, put_else}
+use Rattle.spindle_parts.proofs.Parties.{by_equal, put_here, put_else}
 use Rattle.spindle_parts.proofs.Fates.{not_true}
 use Rattle.spindle_parts.specs.Entries.{Writes, sense_of, running_of, IsKnown, IsMarked}
 use Rattle.spindle_parts.specs.Registers.{shown, stands}
@@ -36,7 +34,7 @@ module _ (old new : BTreeMap ℕ Entry) (saw : List ℕ) (room p : ℕ) (m : IsM
   -- an entry that keeps its mark
   marks_kept : (e' : Entry) → e'.mark ≡ k.0.mark → Writes old new p e' → IsMarked new saw room
   marks_kept e' same w = record {
-    marked = λ i q is. let x = m.marked i q is in dite (ℕ_discrete q p)
+    marked = λ i q is. let x = m.marked i q is in by_equal q p
         (λ e. let was : Some x.0 ≡ Some k.0 = sym x.1 ∙ (ap (get nat_cmp old) e ∙ k.1) in
         let one : x.0 ≡ k.0 = cc in (e', ap (get nat_cmp new) e ∙ w.mine, same ∙ (sym (ap (λ (z : Entry). z.mark) one) ∙ x.2)))
         (λ n. (x.0, w.others q n ∙ x.1, x.2));
@@ -54,7 +52,7 @@ module _ (old new : BTreeMap ℕ Entry) (saw : List ℕ) (room p : ℕ) (m : IsM
 -- a party in a list stands at some place
 found : (p : ℕ) (l : List ℕ) → list_any (λ q. p == q) l ≡ true → (i : ℕ) × (slice_get l i ≡ Some p)
 found p [] e = absurd cc
-found p (x ∷ xs) e = dite (ℕ_discrete p x) (λ i. (0, ap (λ (k : ℕ). let o : Option ℕ = Some k in o) (sym i)))
+found p (x ∷ xs) e = by_equal p x (λ i. (0, ap (λ (k : ℕ). let o : Option ℕ = Some k in o) (sym i)))
     (λ n. let r = found p xs (sym (ap (λ (b : Bool). b || list_any (λ q. p == q) xs) (ne_eqb p x n)) ∙ e) in (suc r.0, r.1))
 
 module _ (entries : BTreeMap ℕ Entry) (saw : List ℕ) (room p : ℕ) (m : IsMarked entries saw room) where
@@ -73,7 +71,7 @@ module _ (entries : BTreeMap ℕ Entry) (saw : List ℕ) (room p : ℕ) (m : IsM
 
     -- what stands at its mark decides
     pub seen_at : (x : ℕ) → e.mark < length saw → x ≡ get_or saw e.mark x → (x == p) ≡ list_any (λ q. p == q) saw
-    seen_at x lt is = let there : slice_get saw e.mark ≡ Some x = slice_get_read saw (length saw) e.mark x refl lt is in dite (ℕ_discrete x p)
+    seen_at x lt is = let there : slice_get saw e.mark ≡ Some x = slice_get_read saw (length saw) e.mark x refl lt is in by_equal x p
         (λ same. eq-eqb x p same ∙ sym (any_passes_from_place (λ q. p == q) saw e.mark x there (eq-eqb p x (sym same))))
         (λ n. ne_eqb x p n ∙ sym (not_true (list_any (λ q. p == q) saw) (λ t. let a : Some x ≡ Some p = sym there ∙ at_mark t in n cc)))
 
@@ -129,7 +127,7 @@ module _ (sense : Bool) (saw : List ℕ) (old new : BTreeMap ℕ Entry) (p : ℕ
 
   seat_by : (q : ℕ) → seat new q ≡ put (seat old) p (record (seat old p) { running = j }) q
   seat_by q = let w : Writes old new p (record k.0 { running = j }) =
-      subst (λ (o : Option Entry). IfSome o (λ e. Writes old new p (record e { running = j }))) k.1 written in dite (ℕ_discrete q p)
+      subst (λ (o : Option Entry). IfSome o (λ e. Writes old new p (record e { running = j }))) k.1 written in by_equal q p
       (λ e. subst (λ (z : ℕ). seat new z ≡ put (seat old) p (record (seat old p) { running = j }) z) (sym e)
       ((λ i. record {
         status = stands sense ((ap sense_of w.mine ∙ sym (ap sense_of k.1)) i);

@@ -1,12 +1,11 @@
 -- The bits of thread numbers, in words.
 use Rattle.std.proofs.Common.{◌≡◌, ◌≢◌, ℕ, ◌+◌, ◌*◌, ◌/◌, ◌%◌, ◌^◌, ◌<◌, List, length, get_or, set, get_or-set_same, get_or-set_other, sym, ap, ◌∙◌, arith}
 use Rattle.std.proofs.Common.{bit_and, bit_or}
-use mathlib.Core.Logic.{dite}
-use native.Mathlib.Decide.{ℕ_discrete, dec_le}
 use Rattle.std.specs.Int.{bit_at}
 use Rattle.std.proofs.lemmas.Nat.{pow_below, one_shl, or_disjoint}
 use Rattle.std.proofs.lemmas.Nat.Bits.{and_pow}
 use Rattle.spindle_parts.specs.ThreadNumbers.{place_of}
+use Rattle.spindle_parts.proofs.Parties.{by_equal, by_order}
 
 -- the word of t becomes y, which has the other bits of the old word
 module _ (ws : List ℕ) (t y : ℕ) (deep : place_of t < length ws)
@@ -24,7 +23,7 @@ module _ (ws : List ℕ) (t y : ℕ) (deep : place_of t < length ws)
   own_bit = ap (λ x. bit_at x (t % 32)) at_place
 
   pub other_bit : (k : ℕ) → k ≢ t → bit_at (get_or words_after (place_of k) 0) (k % 32) ≡ bit_at (get_or ws (place_of k) 0) (k % 32)
-  other_bit k n = dite (ℕ_discrete (k / 32) (t / 32))
+  other_bit k n = by_equal (k / 32) (t / 32)
       (λ e.
       let same : place_of k ≡ place_of t = ap (λ (j : ℕ). 8 * j) e in
       ap (λ (i : ℕ). bit_at (get_or words_after i 0) (k % 32)) same
@@ -34,7 +33,7 @@ module _ (ws : List ℕ) (t y : ℕ) (deep : place_of t < length ws)
       (λ apart. ap (λ x. bit_at x (k % 32)) (at_other (place_of k) (λ e. apart (omega arith))))
 
   pub still_narrow : y < 4294967296 → ((i : ℕ) → get_or ws i 0 < 4294967296) → (i : ℕ) → get_or words_after i 0 < 4294967296
-  still_narrow small all i = dite (ℕ_discrete i (place_of t))
+  still_narrow small all i = by_equal i (place_of t)
       (λ e. let x = ap (λ (j : ℕ). get_or words_after j 0) e ∙ at_place in omega arith)
       (λ n. let x = at_other i n in let lt = all i in omega arith)
 
@@ -50,8 +49,8 @@ module _ (x b : ℕ) (low : b < 64) where
       ap (bit_or x) (one_shl b 64 low) ∙ or_disjoint x (2 ^ b) apart
 
 same_power : (a b : ℕ) → 2 ^ a ≡ 2 ^ b → a ≡ b
-same_power a b e = dite (dec_le a b)
-    (λ le. dite (dec_le b a) (λ ge. omega arith) (λ n. absurd (omega (arith, pow_below a b (omega arith), e))))
+same_power a b e = by_order a b
+    (λ le. by_order b a (λ ge. omega arith) (λ n. absurd (omega (arith, pow_below a b (omega arith), e))))
     (λ n. absurd (omega (arith, pow_below b a (omega arith), e)))
 
 -- the exchange asks for one number's bit

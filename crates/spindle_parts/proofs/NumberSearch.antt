@@ -1,11 +1,9 @@
 -- What a try for a number has read, word by word.
 use Rattle.std.proofs.Common.{◌≡◌, ℕ, zero, suc, ◌+◌, ◌*◌, ◌/◌, ◌%◌, ◌<◌, ◌≤◌, sym, refl, ap, ◌∙◌, subst, arith}
-use mathlib.Core.Logic.{dite}
-use native.Mathlib.Decide.{dec_le}
 use Rattle.std.specs.Int.{bit_at}
 use Rattle.atomic_table.specs.declared.shared.Seat.{Seat}
 use Rattle.spindle_parts.specs.State.{put}
-use Rattle.spindle_parts.proofs.Parties.{put_here, put_else}
+use Rattle.spindle_parts.proofs.Parties.{by_order, put_here, put_else}
 use Rattle.spindle_parts.specs.declared.numbers.plays.Holding.TheVariants.{Nothing, Has}
 use Rattle.spindle_parts.specs.declared.numbers.plays.View.{View}
 use Rattle.spindle_parts.specs.declared.numbers.Take.{Take}
@@ -45,13 +43,13 @@ module _ (threads i x : ℕ) (found : ℕ → ℕ) where
   AreOnes b = (c : ℕ) → c < b → c < 32 → bit_at x c ≡ 1
 
   all_before : (b : ℕ) → AreOnes b → ReadTo threads i found → (k : ℕ) → k < threads → k < 32 * i + b → k < 32 * (i + 1) → WasUsed (put found i x) k
-  all_before b ones h k small lt near = dite (dec_le (32 * i) k)
+  all_before b ones h k small lt near = by_order (32 * i) k
       (λ le. let e : k / 32 ≡ i = omega arith in here k e ∙ ones (k % 32) (omega arith) (omega arith))
       (λ n. earlier k (omega arith) (h k small (omega arith)))
 
   -- the whole word was read as used, as far as the threads go
   pub read_next : (b : ℕ) → AreOnes b → (b < 32 → threads ≤ 32 * i + b) → ReadTo threads i found → ReadTo threads (i + 1) (put found i x)
-  read_next b ones past h k small near = dite (dec_le 32 b)
+  read_next b ones past h k small near = by_order 32 b
       (λ le. all_before b ones h k small (omega arith) near)
       (λ n. let p = past (omega arith) in all_before b ones h k small (omega arith) near)
 

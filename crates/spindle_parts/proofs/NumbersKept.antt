@@ -1,9 +1,7 @@
 -- Each step on a numbers table keeps its rule.
 use Rattle.std.proofs.Common.{◌≡◌, ◌≢◌, ⊎_elim, ℕ, zero, suc, ◌*◌, ◌%◌, ◌^◌, ◌<◌, ◌≤◌, List, [], ◌∷◌, ◌++◌, length, get_or, set, length-set, replicate, Bool}
 use Rattle.std.proofs.Common.{get_or-set_same, get_or-set_other, eqb, eq-eqb, ne_eqb, sym, refl, ap, ◌∙◌, subst, arith, Some, None, bit_and, bit_or}
-use mathlib.Core.Logic.{dite}
 use mathlib.Core.Option.{none, some, some-injective, some-ne-none}
-use native.Mathlib.Decide.{ℕ_discrete}
 use prog.Atomic.{either}
 use lib.ListN.{get_elem?}
 use lib.Seq.{set-get_or}
@@ -19,6 +17,7 @@ use Rattle.spindle_parts.specs.declared.numbers.plays.View.{View}
 use Rattle.spindle_parts.proofs.NumberBits.{own_bit, other_bit, still_narrow, mask_of, or_adds, one_asked}
 use Rattle.spindle_parts.specs.ThreadNumbers.{word_count, place_of, IsSet, number_of, HasNumber, IsNumbering, leader_view, outsider_view, loading, missing, Sat}
 use Rattle.spindle_parts.specs.ThreadNumbers.{taking, giving, loaded, taken, given}
+use Rattle.spindle_parts.proofs.Parties.{by_equal}
 
 -- ---- views
 
@@ -63,14 +62,14 @@ module _ (views : List View) (id : ℕ) (v w : View) (at : get_elem? views id �
   same_after e p k h = cases p k h (λ mine is. subst (λ (q : ℕ). HasNumber views q k) (sym mine) (v, at, sym (ap number_of e) ∙ is)) (λ _ has. has)
 
   pub same_before : w.holding ≡ v.holding → (p k : ℕ) → HasNumber views p k → HasNumber after p k
-  same_before e p k h = dite (ℕ_discrete p id)
+  same_before e p k h = by_equal p id
       (λ (mine : p ≡ id).
       let had = one_number views id v k at (subst (λ (q : ℕ). HasNumber views q k) mine h) in
       subst (λ (q : ℕ). HasNumber after q k) (sym mine) (own_number k (ap number_of e ∙ had)))
       (λ n. other_stays p k n h)
 
   pub leader_stays : Led views → (v.holding ≡ Leads → w.holding ≡ Leads) → Led after
-  leader_stays led keeps_it = dite (ℕ_discrete 0 id)
+  leader_stays led keeps_it = by_equal 0 id
       (λ (mine : 0 ≡ id).
       let at_id : get_elem? views 0 ≡ some v = subst (λ (q : ℕ). get_elem? views q ≡ some v) (sym mine) at in
       let leads : v.holding ≡ Leads = subst (λ (u : View). u.holding ≡ Leads) (some-injective _ _ (sym led.1 ∙ at_id)) led.2 in
@@ -151,7 +150,7 @@ module _ (t : ℕ) (s : Whole) (r : IsNumbering t s) (id : ℕ) (me : Sat) (at :
     set = λ p k h. who p k h
         (λ _ is. subst (IsSet ws') (some_same n k is) now_set)
         (λ _ had. bit_stays k (λ e. nobody p k (ap (λ (j : ℕ). Some j) (sym e)) had) ∙ r.set p k had);
-    used = λ k b. dite (ℕ_discrete k n)
+    used = λ k b. by_equal k n
         (λ (e : k ≡ n). (id, own_number s.views id me.0 w at k (ap (λ (j : ℕ). Some j) (sym e))))
         (λ e. let h = r.used k (sym (bit_stays k e) ∙ b) in (h.0, other_stays s.views id me.0 w at h.0 k (not_mine h.0 k h.1) h.1));
     narrow = still_narrow s.words n y deep others (or_lt 32 x (mask_of n) (r.narrow (place_of n)) small) r.narrow;
@@ -244,7 +243,7 @@ pub takes : (t slots id : ℕ) (me : Sat) (n word : ℕ) → n < t → me.0.hold
 takes t slots id me n word below none_yet unset s r d at fits =
     let i : ℕ = place_of n in let x : ℕ = get_or s.words i 0 in let y : ℕ = bit_or word (mask_of n) in let won : View = taking n x me.0 in
     let lost : View = missing i x me.0 in let After : View → Bool → Type 0 = λ w b. IsNumbering t (stepped s i (either b y x) id me.1 w keeps) in
-    dite (ℕ_discrete x word)
+    by_equal x word
     (λ (hit : x ≡ word).
     let P : ℕ → Type 0 = λ v. IsNumbering t (stepped s i (bit_or v (mask_of n)) id me.1 won keeps) in
     let still_unset = ap (λ (v : ℕ). bit_at v (n % 32)) hit ∙ unset in
@@ -291,17 +290,15 @@ opens t some_thread = record {
     others i n = get_or-set_other zeros 0 i 1 0 n ∙ zero_at (8 * word_count t) i
 
     small : (i : ℕ) → get_or ws i 0 < 4294967296
-    small i = dite (ℕ_discrete i 0)
-        (λ e. let z : get_or ws i 0 ≡ 1 = ap (λ (j : ℕ). get_or ws j 0) e ∙ first in omega arith)
-        (λ n. let z = others i n in omega arith)
+    small i = by_equal i 0 (λ e. let z : get_or ws i 0 ≡ 1 = ap (λ (j : ℕ). get_or ws j 0) e ∙ first in omega arith) (λ n. let z = others i n in omega arith)
 
     only : (p k : ℕ) → HasNumber (leader_view ∷ []) p k → (p ≡ 0) × (k ≡ 0)
     only zero k h = (refl, sym (some_same 0 k (one_number (leader_view ∷ []) 0 leader_view k refl h)))
     only (suc p) k h = absurd (some-ne-none h.0 (sym h.1))
 
     is_zero : (k : ℕ) → IsSet ws k → k ≡ 0
-    is_zero k b = dite (ℕ_discrete (place_of k) 0)
-        (λ e. dite (ℕ_discrete (k % 32) 0)
+    is_zero k b = by_equal (place_of k) 0
+        (λ e. by_equal (k % 32) 0
         (λ z. omega arith)
         (λ n.
         let word : get_or ws (place_of k) 0 ≡ 1 = ap (λ (j : ℕ). get_or ws j 0) e ∙ first in

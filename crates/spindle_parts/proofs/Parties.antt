@@ -1,11 +1,28 @@
--- Reads after writes, counts over the parties, and states with other parties.
+-- Cases, reads after writes, counts over the parties, and states with other parties.
 use Rattle.std.proofs.Common.{◌≡◌, ◌≢◌, ℕ, zero, suc, ◌+◌, ◌≤◌, Bool, true, false, eq-eqb, ne_eqb, List, [], ◌∷◌, ◌++◌, sym, refl, ap, subst, arith, ◌==◌, Some}
 use Rattle.std.proofs.Common.{if◌then◌else◌, Option, None}
 use mathlib.Core.Logic.{dite}
-use native.Mathlib.Decide.{ℕ_discrete}
+use native.Mathlib.Decide.{ℕ_discrete, dec_le}
 use Rattle.spindle_parts.specs.State.{Status, Out, Party, Round, State, party, put, absent, party_of, put_party, total, is_in, is_member, inside, members, wake}
 use Rattle.spindle_parts.specs.State.{times, waking}
 use Rattle.spindle_parts.specs.Steps.{with_status}
+
+-- two numbers are equal or differ
+pub by_equal : {P : Type 0} (a b : ℕ) → (a ≡ b → P) → (a ≢ b → P) → P
+by_equal a b = dite (ℕ_discrete a b)
+
+-- a is at most b, or isn't
+pub by_order : {P : Type 0} (a b : ℕ) → (a ≤ b → P) → ((a ≤ b → ⊥) → P) → P
+by_order a b = dite (dec_le a b)
+
+-- where it is tested whether a number is 0
+pub by_zero : (P : Bool → Type 0) (n : ℕ) → (n ≡ 0 → P true) → (n ≢ 0 → P false) → P (n == 0)
+by_zero P n none some = by_equal n 0 (λ e. subst P (sym (eq-eqb n 0 e)) (none e)) (λ e. subst P (sym (ne_eqb n 0 e)) (some e))
+
+-- by what an option is
+pub by_option : {P : Type 0} (o : Option ℕ) → (o ≡ None → P) → ((k : ℕ) → o ≡ Some k → P) → P
+by_option None none some = none refl
+by_option (Some k) none some = some k refl
 
 -- the parties of s, but p stands so
 abbrev pub moved : State → ℕ → Status → List Party
@@ -28,17 +45,8 @@ module _ {A : Type 0} where
 
 -- what holds of x at k, and of f elsewhere, holds of the two together
 pub put_all : {A : Type 0} (P : ℕ → A → Type 0) (f : ℕ → A) (k : ℕ) (x : A) → P k x → ((j : ℕ) → j ≢ k → P j (f j)) → (j : ℕ) → P j (put f k x j)
-put_all P f k x here away j = dite (ℕ_discrete j k)
+put_all P f k x here away j = by_equal j k
     (λ e. subst (λ (z : ℕ). P z (put f k x z)) (sym e) (subst (P k) (sym (put_here f k x)) here)) (λ n. subst (P j) (sym (put_else f k x j n)) (away j n))
-
--- where it is tested whether a number is 0
-pub by_zero : (P : Bool → Type 0) (n : ℕ) → (n ≡ 0 → P true) → (n ≢ 0 → P false) → P (n == 0)
-by_zero P n none some = dite (ℕ_discrete n 0) (λ e. subst P (sym (eq-eqb n 0 e)) (none e)) (λ e. subst P (sym (ne_eqb n 0 e)) (some e))
-
--- by what an option is
-pub by_option : {P : Type 0} (o : Option ℕ) → (o ≡ None → P) → ((k : ℕ) → o ≡ Some k → P) → P
-by_option None none some = none refl
-by_option (Some k) none some = some k refl
 
 pub look_here : (l : List Party) (p : ℕ) (y : Party) → party_of (put_party l p y) p ≡ y
 look_here [] zero y = refl

@@ -1,8 +1,6 @@
 -- What holds of a configuration that some schedule leads to: each subtraction and sum of the next step fits.
 use Rattle.std.proofs.Common.{◌≡◌, ◌≢◌, ℕ, zero, suc, inr, ◌+◌, ◌<◌, ◌≤◌, Bool, true, false, ◌||◌, eqb, ne_eqb, List, [], ◌∷◌, ◌++◌, length, length-append, sym}
 use Rattle.std.proofs.Common.{refl, ap, ◌∙◌, subst, arith, Option, Some}
-use mathlib.Core.Logic.{dite}
-use native.Mathlib.Decide.{ℕ_discrete}
 use Rattle.std.proofs.Math.Nat.{mod-le}
 use Rattle.std.specs.List.{list_any, IsDistinct, AllByRecursion}
 use Rattle.std.proofs.lemmas.Map.Keys.{IsDistinct-cons}
@@ -14,7 +12,7 @@ use Rattle.spindle_parts.specs.Runs.{state, IsRun}
 use Rattle.spindle_parts.specs.Machine.{Configuration, status, is_inside, is_waiting, counter, own}
 use Rattle.spindle_parts.specs.EverySchedule.{machine, run_of}
 use Rattle.spindle_parts.specs.Registers.{IsReached}
-use Rattle.spindle_parts.proofs.Parties.{by_option, total_at, total_put, look_else, inside_le_members, in_le_member, tick_same, tick_else, put_here}
+use Rattle.spindle_parts.proofs.Parties.{by_equal, by_option, total_at, total_put, look_else, inside_le_members, in_le_member, tick_same, tick_else, put_here}
 use Rattle.spindle_parts.proofs.Fates.{over}
 use Rattle.spindle_parts.proofs.Soundness.{sound, run_once, no_closer, no_jobs, none_in, out_of}
 use Rattle.spindle_parts.proofs.Tests.{in_by, waiting_by}
@@ -37,7 +35,7 @@ pub record Bounds (m : Configuration) : Type 0 where
 -- a list with no number twice is free of repeats
 absent_all : (x : ℕ) (xs : List ℕ) → times x xs ≡ 0 → AllByRecursion (λ y. eqb x y ≡ false) xs
 absent_all x [] z = tt
-absent_all x (y ∷ ys) z = dite (ℕ_discrete y x) (λ e. let a = tick_same x in let b = ap (λ (i : ℕ). times x (i ∷ ys)) e in absurd (omega arith))
+absent_all x (y ∷ ys) z = by_equal y x (λ e. let a = tick_same x in let b = ap (λ (i : ℕ). times x (i ∷ ys)) e in absurd (omega arith))
     (λ n. (ne_eqb x y (λ e. n (sym e)), absent_all x ys (let a = tick_else y x n in omega arith)))
 
 no_repeats : (xs : List ℕ) → ((k : ℕ) → times k xs ≤ 1) → IsDistinct eqb xs
@@ -48,7 +46,7 @@ no_repeats (x ∷ xs) once =
 
 some_times : (q : ℕ) (xs : List ℕ) → list_any (eqb q) xs ≡ true → 0 < times q xs
 some_times q [] e = absurd cc
-some_times q (x ∷ xs) e = dite (ℕ_discrete x q) (λ i. let a = tick_same q in let b = ap (λ (z : ℕ). times q (z ∷ xs)) i in omega arith)
+some_times q (x ∷ xs) e = by_equal x q (λ i. let a = tick_same q in let b = ap (λ (z : ℕ). times q (z ∷ xs)) i in omega arith)
     (λ n. let a = some_times q xs (sym (ap (λ (b : Bool). b || list_any (eqb q) xs) (ne_eqb q x (λ i. n (sym i)))) ∙ e) in omega arith)
 
 -- with one more finished the numbers are below the jobs, so they are at most as many

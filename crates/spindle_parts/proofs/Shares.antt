@@ -1,10 +1,9 @@
 -- Which jobs counters and remainder stand for: at a publish all, after a claim all but one.
 use Rattle.std.proofs.Common.{◌≡◌, ◌≢◌, inl, inr, ⊎_elim, ℕ, suc, ◌+◌, ◌*◌, ◌-◌, ◌/◌, ◌%◌, ◌<◌, ◌≤◌, List, [], ◌∷◌, length, get_or, sum, ap, arith}
-use mathlib.Core.Logic.{dite}
-use native.Mathlib.Decide.{ℕ_discrete, dec_le}
 use Rattle.std.proofs.lemmas.Nat.{mul-le}
 use Rattle.std.proofs.lemmas.List.Sums.{sum_by-cons, get_or-le-sum_by}
 use Rattle.spindle_parts.specs.EverySchedule.{StandsFor}
+use Rattle.spindle_parts.proofs.Parties.{by_equal, by_order}
 
 module _ (T d : ℕ) where
   -- the own jobs of a later thread come later
@@ -21,10 +20,10 @@ module _ (T d : ℕ) where
 
     -- full counters and the full remainder stand for every job
     pub all_stand : (c : ℕ → ℕ) → ((t : ℕ) → t < T → c t ≡ d) → (k : ℕ) → k < n → StandsFor T d c rest n k
-    all_stand c full k lt = dite (dec_le (d * T) k) (λ late. inr (lt, omega arith))
-        (λ early. let pos : 0 < d = dite (ℕ_discrete d 0) (λ z. let a = ap (λ (x : ℕ). x * T) z in absurd (omega arith)) (λ p. omega arith) in
+    all_stand c full k lt = by_order (d * T) k (λ late. inr (lt, omega arith))
+        (λ early. let pos : 0 < d = by_equal d 0 (λ z. let a = ap (λ (x : ℕ). x * T) z in absurd (omega arith)) (λ p. omega arith) in
         let q : d * (k / d) + k % d ≡ k = omega arith in let r : k % d < d = omega arith in
-        let at : k / d < T = dite (dec_le T (k / d)) (λ le. let a = mul-le d T d (k / d) (omega arith) le in absurd (omega arith)) (λ no. omega arith) in
+        let at : k / d < T = by_order T (k / d) (λ le. let a = mul-le d T d (k / d) (omega arith) le in absurd (omega arith)) (λ no. omega arith) in
         inl (k / d, at, omega arith, let f = full (k / d) at in omega arith))
 
     -- a counter that isn't 0 stands for a job, and so does the remainder
@@ -40,7 +39,7 @@ module _ (T d : ℕ) where
         pub stays_left : (j : ℕ) → j ≢ d * t + d - c t → StandsFor T d c rem n j → StandsFor T d c' rem n j
         stays_left j other = ⊎_elim
             (λ (x : (i : ℕ) × (i < T) × (j < d * i + d) × (d * i + d ≤ j + c i)). let i = x.0 in let below = x.2 in let above = x.3 in
-            let still : d * i + d ≤ j + c' i = dite (ℕ_discrete i t)
+            let still : d * i + d ≤ j + c' i = by_equal i t
             (λ e. let a = ap c' e in let b = ap c e in let f = ap (λ (z : ℕ). d * z) e in omega arith) (λ o. let a = same i o in omega arith) in
             inl (i, x.1, below, still)) inr
 
@@ -48,9 +47,9 @@ module _ (T d : ℕ) where
         was_left j = ⊎_elim
             (λ (x : (i : ℕ) × (i < T) × (j < d * i + d) × (d * i + d ≤ j + c' i)). let i = x.0 in
             let below = x.2 in let above = x.3 in let high = most t lt in
-            dite (ℕ_discrete i t)
+            by_equal i t
             (λ e. let a = ap c' e in let b = ap c e in let f = ap (λ (z : ℕ). d * z) e in (inl (i, x.1, below, omega arith), λ is. omega arith))
-            (λ o. let a = same i o in let m = most i x.1 in let apart : j ≢ d * t + d - c t = λ is. dite (dec_le i t)
+            (λ o. let a = same i o in let m = most i x.1 in let apart : j ≢ d * t + d - c t = λ is. by_order i t
             (λ before. let b = own_before i t (omega arith) in omega arith) (λ after. let b = own_before t i (omega arith) in omega arith) in
             (inl (i, x.1, below, omega arith), apart)))
             (λ (x : (j < n) × (n ≤ j + rem)). let x₀ = x.0 in
@@ -71,7 +70,7 @@ module _ (T d : ℕ) where
 pub some_part : (cs : List ℕ) → 0 < sum cs → (t : ℕ) × (t < length cs) × (0 < get_or cs t 0)
 some_part [] lt = absurd (omega arith)
 some_part (x ∷ xs) lt = let a = sum_by-cons (λ (k : ℕ). k) x xs in
-    dite (ℕ_discrete x 0) (λ z. let r = some_part xs (omega arith) in let r₁ = r.1 in (suc r.0, omega arith, r.2)) (λ n. (0, omega arith, omega arith))
+    by_equal x 0 (λ z. let r = some_part xs (omega arith) in let r₁ = r.1 in (suc r.0, omega arith, r.2)) (λ n. (0, omega arith, omega arith))
 
 -- where nothing is left, nothing is stood for
 pub none_stands : (T d : ℕ) (cs : List ℕ) (rem n k : ℕ) → T ≡ length cs → sum cs + rem ≡ 0 → StandsFor T d (λ t. get_or cs t 0) rem n k → ⊥

@@ -1,15 +1,13 @@
 -- Each event keeps what is true of the rounds.
 use Rattle.std.proofs.Common.{◌≡◌, ◌≢◌, ◌⊎◌, inl, inr, ⊎_elim, ℕ, ◌+◌, ◌<◌, ◌≤◌, Bool, true, false, ◌||◌, eq-eqb, ne_eqb, List, [], ◌∷◌, ◌++◌, sym, refl, ap}
 use Rattle.std.proofs.Common.{◌∙◌, subst, arith, Option, Some, None, if◌then◌else◌, ◌==◌}
-use mathlib.Core.Logic.{dite}
-use native.Mathlib.Decide.{ℕ_discrete, dec_le}
 use Rattle.spindle_parts.specs.State.{Status, Out, In, Arrived, Party, Round, State, put, blank, fresh, no_set, party_of, put_party, times, is_in, is_member}
 use Rattle.spindle_parts.specs.State.{weight_in, weight_member, inside, members, waking, wake, now, party, change, change_round, Free}
 use Rattle.spindle_parts.specs.Steps.{with_status, Allowed, IsIdle, after, arrived, publish, ended_by, Event, Join, Publish, PublishTry, Take, Begin, Finish}
 use Rattle.spindle_parts.specs.Steps.{Stop, See, PutBack, Arrive, Leave, Exit, Clear, End}
 use Rattle.spindle_parts.specs.Runs.{state, IsRun, IsOnce}
-use Rattle.spindle_parts.proofs.Parties.{by_zero, by_option, moved, with_parties, next_round, put_here, put_else, put_all, put_again, look_here, look_else}
-use Rattle.spindle_parts.proofs.Parties.{total_put, total_at, inside_le_members, look_wake, inside_wake, members_wake}
+use Rattle.spindle_parts.proofs.Parties.{by_equal, by_order, by_zero, by_option, moved, with_parties, next_round, put_here, put_else, put_all, put_again}
+use Rattle.spindle_parts.proofs.Parties.{look_here, look_else, total_put, total_at, inside_le_members, look_wake, inside_wake, members_wake}
 use Rattle.spindle_parts.proofs.Fates.{Fate, Open, Held, Ran, Done, started, over, Work, status_work, begin_work, finish_work, take_work, put_back_work}
 use Rattle.spindle_parts.proofs.Fates.{see_work, completes, restarts, publish_work, free_is_open, open_is_free, idle_out, open_work, Complete}
 
@@ -48,7 +46,7 @@ module _ (s : State) (h : Sound s) (p : ℕ) where
   same_members y e = let a = total_put weight_member refl s.parties p y in let b = ap is_member e in omega arith
 
   same_status : (y : Party) → y.status ≡ (party s p).status → (q : ℕ) → (party_of (put_party s.parties p y) q).status ≡ (party s q).status
-  same_status y e q = dite (ℕ_discrete q p) (λ i. ap (λ (z : ℕ). (party_of (put_party s.parties p y) z).status) i
+  same_status y e q = by_equal q p (λ i. ap (λ (z : ℕ). (party_of (put_party s.parties p y) z).status) i
       ∙ (ap (λ (z : Party). z.status) (look_here s.parties p y) ∙ (e ∙ ap (λ (z : ℕ). (party s z).status) (sym i))))
       (λ n. ap (λ (z : Party). z.status) (look_else s.parties p y q n))
 
@@ -92,7 +90,7 @@ module _ (s : State) (h : Sound s) (p : ℕ) where
       let c₁ = total_put weight_member refl s.parties p (with_status t (party s p)) in (omega arith, omega arith)
 
   leads : (P : Status → Type 0) (t : Status) → (p ≡ 0 → P t) → (p ≢ 0 → P (party s 0).status) → P (party_of (moved s p t) 0).status
-  leads P t mine other = dite (ℕ_discrete p 0) (λ e. subst (λ (z : ℕ). P (party_of (moved s p t) z).status) e
+  leads P t mine other = by_equal p 0 (λ e. subst (λ (z : ℕ). P (party_of (moved s p t) z).status) e
       (subst (λ (z : Party). P z.status) (sym (look_here s.parties p (with_status t (party s p)))) (mine e)))
       (λ n. subst (λ (z : Party). P z.status) (sym (look_else s.parties p (with_status t (party s p)) 0 (λ e. n (sym e)))) (other n))
 
@@ -127,7 +125,7 @@ hidden_out s h out = by_option s.published (λ e. e) (λ n e. let a = h.gate.sho
 
 -- where the last member goes, nothing is published
 pub alone_hidden : (s : State) (h : Sound s) (p : ℕ) → (party s p).status ≡ In → (p ≡ 0 → s.published ≡ None) → members (moved s p Out) ≡ 0 → s.published ≡ None
-alone_hidden s h p at_in fine z = dite (ℕ_discrete p 0) fine
+alone_hidden s h p at_in fine z = by_equal p 0 fine
     (λ n. hidden_out s h (sym (ap (λ (x : Party). x.status) (look_else s.parties p (with_status Out (party s p)) 0 (λ e. n (sym e))))
     ∙ out_of (party_of (moved s p Out) 0).status (let a = total_at weight_member refl (moved s p Out) 0 in omega arith)))
 
@@ -143,7 +141,7 @@ leaves s h p ok = let c = counts s h p Out Arrived ok.0 in let c₀ = c.0 in let
 
 -- where a test of the count decides the closer
 pub closers : (P : Option ℕ → Type 0) (i p : ℕ) (c : Option ℕ) → (i ≡ 0 → P (Some p)) → (i ≢ 0 → P c) → P (if i == 0 then Some p else c)
-closers P i p c none_in some_in = dite (ℕ_discrete i 0) (λ e. subst (λ (b : Bool). P (if b then Some p else c)) (sym (eq-eqb i 0 e)) (none_in e))
+closers P i p c none_in some_in = by_equal i 0 (λ e. subst (λ (b : Bool). P (if b then Some p else c)) (sym (eq-eqb i 0 e)) (none_in e))
     (λ n. subst (λ (b : Bool). P (if b then Some p else c)) (sym (ne_eqb i 0 n)) (some_in n))
 
 -- who was in goes, and a member is left
@@ -181,7 +179,7 @@ ends s h ps qs w z used same going few hidden = let next : s.rounds (s.round + 1
       (gate (λ q e. absurd cc) (λ _. going) few (λ n e. absurd cc) (λ _ _. refl) (λ lt. absurd (omega arith)));
   spent = subst (λ (r : Round). Spent (λ _. Open) r.jobs r.stopped (party_of qs 0).status) (sym next) (λ lt. absurd (omega arith));
   later = λ q lt. h.later q (omega arith);
-  ended = λ q lt. dite (ℕ_discrete q s.round)
+  ended = λ q lt. by_equal q s.round
       (λ e. subst (λ (i : ℕ). Complete (s.rounds i)) (sym e) (completes h.fate (now s) ps w (none_in ps z) used)) (λ n. h.ended q (omega arith));
 }
 
@@ -198,7 +196,7 @@ exits s h p ok = let c = counts s h p Out In ok.0 in let c₁ = c.1 in let few =
 
 closes : (s : State) → Sound s → (p : ℕ) → Allowed s (End p) → Sound (after s (End p))
 closes s h p ok = let g = h.gate in let c = g.closing p ok.0 in
-    ends s h s.parties (wake s.parties) h.work c.0 (dite (ℕ_discrete (now s).jobs 0)
+    ends s h s.parties (wake s.parties) h.work c.0 (by_equal (now s).jobs 0
     (λ z. inl (λ k lt. absurd (omega arith))) (λ n. h.spent (omega arith) (arrived_of (party s 0).status (g.led (omega arith)) (none_in s.parties c.0 0))))
     (λ q. (waking (party s q).status, look_wake s.parties q))
     (λ lt. let a = inside_wake s.parties in let b = members_wake s.parties in omega arith)
@@ -264,7 +262,7 @@ sound [] r = starts
 sound (e ∷ es) r = kept (state es) e (sound es r.1) r.0
 
 once : (s : State) → Sound s → IsOnce s
-once s h q k = dite (ℕ_discrete q s.round)
+once s h q k = by_equal q s.round
     (λ e. subst (λ (i : ℕ). (times k (s.rounds i).begun ≤ 1) × (times k (s.rounds i).finished ≤ times k (s.rounds i).begun)) (sym e)
     (let a = h.work.begun k in let b = h.work.finished k in let c = weights (h.fate k) in let c₀ = c.0 in let c₁ = c.1 in (omega arith, omega arith)))
     (λ n. ⊎_elim (λ (lt : q < s.round). let c = h.ended q lt in let a = c.once k in let b = c.same k in (a, omega arith))
@@ -276,7 +274,7 @@ once s h q k = dite (ℕ_discrete q s.round)
     weights f = (omega arith, omega arith)
 
     apart : (a b : ℕ) → a ≢ b → (a < b) ⊎ (b < a)
-    apart a b n = dite (dec_le a b) (λ le. inl (omega arith)) (λ no. inr (omega arith))
+    apart a b n = by_order a b (λ le. inl (omega arith)) (λ no. inr (omega arith))
 
 pub run_once : (es : List Event) → IsRun es → IsOnce (state es)
 run_once es r = once (state es) (sound es r)

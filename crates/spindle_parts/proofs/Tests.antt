@@ -1,11 +1,10 @@
 -- The machine's tests, each with the fact that it decides, and what it means that a whole list of them fails.
 use Rattle.std.proofs.Common.{◌≡◌, ◌≢◌, ℕ, Bool, true, false, not, ◌&&◌, eq-eqb, ne_eqb, List, [], ◌∷◌, ◌++◌, refl, ap, ◌∙◌, Option, Some, None, is_some, ◌==◌}
 use Rattle.std.proofs.Common.{if◌then◌else◌}
-use mathlib.Core.Logic.{dite}
-use native.Mathlib.Decide.{ℕ_discrete}
 use Rattle.spindle_parts.specs.State.{Status, Out, In, Arrived}
 use Rattle.spindle_parts.specs.Machine.{is_out, is_inside, is_waiting, is_party, first}
 use Rattle.spindle_parts.specs.declared.steps.Why.{Why}
+use Rattle.spindle_parts.proofs.Parties.{by_equal}
 
 -- every test fails
 abbrev pub AllFail : List (Why × Bool) → Type 0
@@ -57,13 +56,13 @@ is_some_of (Some k) n = refl
 
 pub party_by : (o : Option ℕ) (p : ℕ) → is_party o p ≡ true → o ≡ Some p
 party_by None p e = absurd cc
-party_by (Some c) p e = dite (ℕ_discrete c p) (λ z. ap (λ (k : ℕ). let o : Option ℕ = Some k in o) z) (λ n. let f = ne_eqb c p n in absurd cc)
+party_by (Some c) p e = by_equal c p (λ z. ap (λ (k : ℕ). let o : Option ℕ = Some k in o) z) (λ n. let f = ne_eqb c p n in absurd cc)
 
 pub is_party_of : (o : Option ℕ) (p : ℕ) → o ≡ Some p → is_party o p ≡ true
 is_party_of o p e = ap (λ (z : Option ℕ). is_party z p) e ∙ eq-eqb p p refl
 
 pub equal_by : (a b : ℕ) → (a == b) ≡ true → a ≡ b
-equal_by a b e = dite (ℕ_discrete a b) (λ z. z) (λ n. let f = ne_eqb a b n in absurd cc)
+equal_by a b e = by_equal a b (λ z. z) (λ n. let f = ne_eqb a b n in absurd cc)
 
 pub differ_by : (a b : ℕ) → (a == b) ≡ false → a ≢ b
 differ_by a b e z = let f = eq-eqb a b z in cc

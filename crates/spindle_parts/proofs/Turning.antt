@@ -1,7 +1,5 @@
 -- The round's end: the sense flips, and by it every member that has arrived is in.
 use Rattle.std.proofs.Common.{◌≡◌, ◌≢◌, ℕ, ◌≤◌, Bool, true, false, not, List, [], sym, refl, ap, ◌∙◌, subst, Option, Some, None, ◌==◌}
-use mathlib.Core.Logic.{dite}
-use native.Mathlib.Decide.{ℕ_discrete}
 use Rattle.std.specs.List.{list_any, IsDistinct}
 use Rattle.std.specs.Ordering.{nat_cmp}
 use Rattle.std.specs.BTreeMap.{BTreeMap, get, btree_map_len}
@@ -11,7 +9,7 @@ use Rattle.spindle_parts.specs.Entries.{sense_of, running_of, IsMarked}
 use Rattle.spindle_parts.specs.Registers.{shown, stands}
 use Rattle.spindle_parts.specs.declared.steps.registers.Entry.{Entry}
 use Rattle.spindle_parts.specs.declared.steps.registers.Registers.{Registers}
-use Rattle.spindle_parts.proofs.Parties.{put_here, put_else}
+use Rattle.spindle_parts.proofs.Parties.{by_equal, put_here, put_else}
 
 -- who isn't in is woken by the flip
 flips : (word : Bool) (own : Option Bool) → stands word own ≢ In → stands (not word) own ≡ waking (stands word own)
@@ -51,7 +49,7 @@ no_marks entries saw room e fits = subst (λ (l : List ℕ). IsMarked entries l 
 
 -- where the last member goes, nobody is in
 pub nobody : (m : Configuration) (p : ℕ) → ((q : ℕ) → q ≢ p → status m q ≡ Out) → (q : ℕ) → (standing m p Out q).status ≢ In
-nobody m p others q e = dite (ℕ_discrete q p)
+nobody m p others q e = by_equal q p
     (λ i. let a = ap (λ (z : ℕ). (standing m p Out z).status) i in
     let b = ap (λ (x : Seat). x.status) (put_here m.seat p (record (m.seat p) { status = Out })) in cc)
     (λ n. let a = ap (λ (x : Seat). x.status) (put_else m.seat p (record (m.seat p) { status = Out }) q n) in let b = others q n in cc)

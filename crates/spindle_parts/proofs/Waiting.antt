@@ -1,13 +1,11 @@
 -- What a run says of a party that takes no step in it, and of each of its events.
 use Rattle.std.proofs.Common.{◌≡◌, ◌≢◌, ◌⊎◌, inl, inr, ⊎_elim, ℕ, ◌+◌, ◌%◌, ◌<◌, Bool, List, [], ◌∷◌, ◌++◌, sym, refl, ap, ◌∙◌, subst, arith, None, ne_eqb}
 use Rattle.std.proofs.Common.{if◌then◌else◌}
-use mathlib.Core.Logic.{dite}
-use native.Mathlib.Decide.{ℕ_discrete}
 use Rattle.spindle_parts.specs.State.{Out, In, Arrived, Party, Round, State, members, now, party}
 use Rattle.spindle_parts.specs.Steps.{Allowed, after, arrived, Event, Begin, Exit, End}
 use Rattle.spindle_parts.specs.Runs.{state, IsRun}
 use Rattle.spindle_parts.specs.EveryRun.{AtEach, BeginsWithin, EndsCleared, NoneBy, sense_shown, Waits, IsWhole, EveryRun}
-use Rattle.spindle_parts.proofs.Parties.{moved, next_round, inside_le_members}
+use Rattle.spindle_parts.proofs.Parties.{by_equal, moved, next_round, inside_le_members}
 use Rattle.spindle_parts.proofs.Fates.{Complete}
 use Rattle.spindle_parts.proofs.Soundness.{Sound, sound, run_once, alone_hidden}
 use Rattle.spindle_parts.proofs.Frames.{Steady, Turned, frame}
@@ -76,7 +74,7 @@ begins_within = at_each BeginsWithin (λ es e h ok p k is. within (state es) h p
 
 -- an exit that ends the round
 exit_cleared : (s : State) (h : Sound s) (p : ℕ) → Allowed s (Exit p) → (after s (Exit p)).round ≢ s.round → s.published ≡ None
-exit_cleared s h p ok turns = let ps : List Party = moved s p Out in dite (ℕ_discrete (members ps) 0) (alone_hidden s h p ok.0 ok.2)
+exit_cleared s h p ok turns = let ps : List Party = moved s p Out in by_equal (members ps) 0 (alone_hidden s h p ok.0 ok.2)
     (λ n. absurd (turns (ap (λ (b : Bool). (if b then next_round s ps s.closer else arrived s p ps).round) (ne_eqb (members ps) 0 n))))
 
 cleared_at : (s : State) (h : Sound s) (e : Event) → Allowed s e → (after s e).round ≢ s.round → s.published ≡ None
