@@ -30,6 +30,11 @@ known_waiting r p w = known_by r.sense (get nat_cmp r.entries p) (λ e. let a = 
 pub known_inside : (r : Registers) (p : ℕ) → is_inside (status (shown r) p) ≡ true → IsKnown r.entries p
 known_inside r p w = known_by r.sense (get nat_cmp r.entries p) (λ e. let a = ap is_inside e in cc)
 
+-- what is written to the entry of a party that is known
+written_to : {old new : BTreeMap ℕ Entry} {p : ℕ} (f : Entry → Entry) (k : IsKnown old p)
+    → IfSome (get nat_cmp old p) (λ e. Writes old new p (f e)) → Writes old new p (f k.0)
+written_to {old} {new} {p} f k w = subst (λ (o : Option Entry). IfSome o (λ e. Writes old new p (f e))) k.1 w
+
 module _ (old new : BTreeMap ℕ Entry) (saw : List ℕ) (room p : ℕ) (m : IsMarked old saw room) (k : IsKnown old p) where
   -- an entry that keeps its mark
   marks_kept : (e' : Entry) → e'.mark ≡ k.0.mark → Writes old new p e' → IsMarked new saw room
@@ -43,11 +48,10 @@ module _ (old new : BTreeMap ℕ Entry) (saw : List ℕ) (room p : ℕ) (m : IsM
   }
 
   pub sense_kept : (s : Option Bool) → IfSome (get nat_cmp old p) (λ e. Writes old new p (record e { sense = s })) → IsMarked new saw room
-  sense_kept s w = marks_kept (record k.0 { sense = s }) refl (subst (λ (o : Option Entry). IfSome o (λ e. Writes old new p (record e { sense = s }))) k.1 w)
+  sense_kept s w = marks_kept (record k.0 { sense = s }) refl (written_to (λ e. record e { sense = s }) k w)
 
   pub running_kept : (j : Option ℕ) → IfSome (get nat_cmp old p) (λ e. Writes old new p (record e { running = j })) → IsMarked new saw room
-  running_kept j w =
-      marks_kept (record k.0 { running = j }) refl (subst (λ (o : Option Entry). IfSome o (λ e. Writes old new p (record e { running = j }))) k.1 w)
+  running_kept j w = marks_kept (record k.0 { running = j }) refl (written_to (λ e. record e { running = j }) k w)
 
 -- a party in a list stands at some place
 found : (p : ℕ) (l : List ℕ) → list_any (λ q. p == q) l ≡ true → (i : ℕ) × (slice_get l i ≡ Some p)
@@ -108,8 +112,7 @@ module _ (entries : BTreeMap ℕ Entry) (saw : List ℕ) (room p : ℕ) (m : IsM
 
     pub marked_more : (new : BTreeMap ℕ Entry) (mark : ℕ)
         → mark ≡ length saw → IfSome (get nat_cmp entries p) (λ e. Writes entries new p (record e { mark = mark })) → IsMarked new (saw ++ p ∷ []) room
-    marked_more new mark is written = let w : Writes entries new p (record k.0 { mark = mark }) =
-        subst (λ (o : Option Entry). IfSome o (λ e. Writes entries new p (record e { mark = mark }))) k.1 written in record {
+    marked_more new mark is written = let w = written_to (λ e. record e { mark = mark }) k written in record {
           marked = λ i q e. ⊎_elim
               (λ (o : slice_get saw i ≡ Some q). let x = m.marked i q o in
               (x.0, w.others q (λ same. let t = any_passes_from_place (λ z. p == z) saw i q o (eq-eqb p q (sym same)) in cc) ∙ x.1, x.2))
@@ -126,8 +129,7 @@ module _ (sense : Bool) (saw : List ℕ) (old new : BTreeMap ℕ Entry) (p : ℕ
       record { status = stands sense (sense_of (get nat_cmp entries q)); running = running_of (get nat_cmp entries q); seen = list_any (λ x. q == x) saw }
 
   seat_by : (q : ℕ) → seat new q ≡ put (seat old) p (record (seat old p) { running = j }) q
-  seat_by q = let w : Writes old new p (record k.0 { running = j }) =
-      subst (λ (o : Option Entry). IfSome o (λ e. Writes old new p (record e { running = j }))) k.1 written in by_equal q p
+  seat_by q = let w = written_to (λ e. record e { running = j }) k written in by_equal q p
       (λ e. subst (λ (z : ℕ). seat new z ≡ put (seat old) p (record (seat old p) { running = j }) z) (sym e)
       ((λ i. record {
         status = stands sense ((ap sense_of w.mine ∙ sym (ap sense_of k.1)) i);

@@ -1,5 +1,5 @@
 -- Which jobs counters and remainder stand for: at a publish all, after a claim all but one.
-use Rattle.std.proofs.Common.{◌≡◌, ◌≢◌, inl, inr, ⊎_elim, ℕ, suc, ◌+◌, ◌*◌, ◌-◌, ◌/◌, ◌%◌, ◌<◌, ◌≤◌, List, [], ◌∷◌, length, get_or, sum, ap, arith}
+use Rattle.std.proofs.Common.{◌≡◌, ◌≢◌, inl, inr, ℕ, suc, ◌+◌, ◌*◌, ◌-◌, ◌/◌, ◌%◌, ◌<◌, ◌≤◌, List, [], ◌∷◌, length, get_or, sum, ap, arith}
 use Rattle.std.proofs.lemmas.Nat.{mul-le}
 use Rattle.std.proofs.lemmas.List.Sums.{sum_by-cons, get_or-le-sum_by}
 use Rattle.spindle_parts.specs.EverySchedule.{StandsFor}
@@ -13,10 +13,8 @@ module _ (T d : ℕ) where
   module _ (n rest : ℕ) (whole : n ≡ d * T + rest) where
     -- whatever is stood for is a job
     pub stands_below : (c : ℕ → ℕ) (rem k : ℕ) → StandsFor T d c rem n k → k < n
-    stands_below c rem k = ⊎_elim
-        (λ (x : (t : ℕ) × (t < T) × (k < d * t + d) × (d * t + d ≤ k + c t)). let t = x.0 in
-        let lt = x.1 in let below = x.2 in let a = own_before t T lt in omega arith)
-        (λ (x : (k < n) × (n ≤ k + rem)). x.0)
+    stands_below c rem k (inl x) = let a = own_before x.0 T x.1 in omega arith
+    stands_below c rem k (inr x) = x.0
 
     -- full counters and the full remainder stand for every job
     pub all_stand : (c : ℕ → ℕ) → ((t : ℕ) → t < T → c t ≡ d) → (k : ℕ) → k < n → StandsFor T d c rest n k
@@ -37,34 +35,28 @@ module _ (T d : ℕ) where
       -- a claim of counter t, which falls by one to c'
       module _ (c' : ℕ → ℕ) (t : ℕ) (lt : t < T) (some : 0 < c t) (falls : c' t ≡ c t - 1) (same : (i : ℕ) → i ≢ t → c' i ≡ c i) where
         pub stays_left : (j : ℕ) → j ≢ d * t + d - c t → StandsFor T d c rem n j → StandsFor T d c' rem n j
-        stays_left j other = ⊎_elim
-            (λ (x : (i : ℕ) × (i < T) × (j < d * i + d) × (d * i + d ≤ j + c i)). let i = x.0 in let below = x.2 in let above = x.3 in
-            let still : d * i + d ≤ j + c' i = by_equal i t
-            (λ e. let a = ap c' e in let b = ap c e in let f = ap (λ (z : ℕ). d * z) e in omega arith) (λ o. let a = same i o in omega arith) in
-            inl (i, x.1, below, still)) inr
+        stays_left j other (inl x) = let still : d * x.0 + d ≤ j + c' x.0 = by_equal x.0 t
+            (λ e. let a = ap c' e in let b = ap c e in let f = ap (λ (z : ℕ). d * z) e in omega arith) (λ o. let a = same x.0 o in omega arith) in
+            inl (x.0, x.1, x.2, still)
+        stays_left j other (inr x) = inr x
 
         pub was_left : (j : ℕ) → StandsFor T d c' rem n j → StandsFor T d c rem n j × (j ≢ d * t + d - c t)
-        was_left j = ⊎_elim
-            (λ (x : (i : ℕ) × (i < T) × (j < d * i + d) × (d * i + d ≤ j + c' i)). let i = x.0 in
-            let below = x.2 in let above = x.3 in let high = most t lt in
-            by_equal i t
-            (λ e. let a = ap c' e in let b = ap c e in let f = ap (λ (z : ℕ). d * z) e in (inl (i, x.1, below, omega arith), λ is. omega arith))
-            (λ o. let a = same i o in let m = most i x.1 in let apart : j ≢ d * t + d - c t = λ is. by_order i t
-            (λ before. let b = own_before i t (omega arith) in omega arith) (λ after. let b = own_before t i (omega arith) in omega arith) in
-            (inl (i, x.1, below, omega arith), apart)))
-            (λ (x : (j < n) × (n ≤ j + rem)). let x₀ = x.0 in
-            let x₁ = x.1 in let a = own_before t T lt in let high = most t lt in (inr x, λ is. omega arith))
+        was_left j (inl x) = let high = most t lt in by_equal x.0 t
+            (λ e. let a = ap c' e in let b = ap c e in let f = ap (λ (z : ℕ). d * z) e in (inl (x.0, x.1, x.2, omega arith), λ is. omega arith))
+            (λ o. let a = same x.0 o in let m = most x.0 x.1 in let apart : j ≢ d * t + d - c t = λ is. by_order x.0 t
+            (λ before. let b = own_before x.0 t (omega arith) in omega arith) (λ after. let b = own_before t x.0 (omega arith) in omega arith) in
+            (inl (x.0, x.1, x.2, omega arith), apart))
+        was_left j (inr x) = let a = own_before t T lt in let high = most t lt in (inr x, λ is. omega arith)
 
       -- a claim of the remainder
       module _ (some : 0 < rem) where
         pub stays_rest : (j : ℕ) → j ≢ n - rem → StandsFor T d c rem n j → StandsFor T d c (rem - 1) n j
-        stays_rest j other = ⊎_elim inl (λ (x : (j < n) × (n ≤ j + rem)). let x₀ = x.0 in let x₁ = x.1 in inr (x₀, omega arith))
+        stays_rest j other (inl x) = inl x
+        stays_rest j other (inr x) = inr (x.0, omega arith)
 
         pub was_rest : (j : ℕ) → StandsFor T d c (rem - 1) n j → StandsFor T d c rem n j × (j ≢ n - rem)
-        was_rest j = ⊎_elim
-            (λ (x : (i : ℕ) × (i < T) × (j < d * i + d) × (d * i + d ≤ j + c i)). let i = x.0 in
-            let below = x.2 in let a = own_before i T x.1 in (inl x, λ is. omega arith))
-            (λ (x : (j < n) × (n ≤ j + (rem - 1))). let x₀ = x.0 in let x₁ = x.1 in (inr (x₀, omega arith), λ is. omega arith))
+        was_rest j (inl x) = let a = own_before x.0 T x.1 in (inl x, λ is. omega arith)
+        was_rest j (inr x) = (inr (x.0, omega arith), λ is. omega arith)
 
 -- a sum above 0 has a part above 0
 pub some_part : (cs : List ℕ) → 0 < sum cs → (t : ℕ) × (t < length cs) × (0 < get_or cs t 0)
@@ -74,7 +66,5 @@ some_part (x ∷ xs) lt = let a = sum_by-cons (λ (k : ℕ). k) x xs in
 
 -- where nothing is left, nothing is stood for
 pub none_stands : (T d : ℕ) (cs : List ℕ) (rem n k : ℕ) → T ≡ length cs → sum cs + rem ≡ 0 → StandsFor T d (λ t. get_or cs t 0) rem n k → ⊥
-none_stands T d cs rem n k size none = ⊎_elim
-    (λ (x : (t : ℕ) × (t < T) × (k < d * t + d) × (d * t + d ≤ k + get_or cs t 0)). let t = x.0 in
-    let lt = x.1 in let below = x.2 in let above = x.3 in let a = get_or-le-sum_by (λ (z : ℕ). z) cs t 0 (omega arith) in omega arith)
-    (λ (x : (k < n) × (n ≤ k + rem)). let x₀ = x.0 in let x₁ = x.1 in omega arith)
+none_stands T d cs rem n k size none (inl x) = let a = get_or-le-sum_by (λ (z : ℕ). z) cs x.0 0 (omega arith) in omega arith
+none_stands T d cs rem n k size none (inr x) = omega arith

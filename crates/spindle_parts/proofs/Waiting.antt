@@ -28,14 +28,10 @@ abbrev Waiting : State → ℕ → State → Type 0
 Waiting s p s' = ((s'.round ≡ s.round) × ((party s' p).status ≡ Arrived)) ⊎ ((s'.round ≡ s.round + 1) × ((party s' p).status ≡ In))
 
 one_more : (s s' s'' : State) (p : ℕ) → Waiting s p s' → Steady s' s'' p ⊎ Turned s' s'' p → Waiting s p s''
-one_more s s' s'' p w f = ⊎_elim
-    (λ (g : Steady s' s'' p). let same = ap (λ (x : Party). x.status) g.same in
-    ⊎_elim (λ (a : (s'.round ≡ s.round) × ((party s' p).status ≡ Arrived)). inl (g.round ∙ a.0, same ∙ a.1))
-    (λ (a : (s'.round ≡ s.round + 1) × ((party s' p).status ≡ In)). inr (g.round ∙ a.0, same ∙ a.1)) w)
-    (λ (g : Turned s' s'' p).
-    ⊎_elim (λ (a : (s'.round ≡ s.round) × ((party s' p).status ≡ Arrived)). let n = g.round in
-    let o = a.0 in let same = ap (λ (x : Party). x.status) g.same in let woken = a.1 in inr (omega arith, cc))
-    (λ (a : (s'.round ≡ s.round + 1) × ((party s' p).status ≡ In)). absurd (g.out a.1)) w) f
+one_more s s' s'' p (inl a) (inl g) = inl (g.round ∙ a.0, ap (λ (x : Party). x.status) g.same ∙ a.1)
+one_more s s' s'' p (inr a) (inl g) = inr (g.round ∙ a.0, ap (λ (x : Party). x.status) g.same ∙ a.1)
+one_more s s' s'' p (inl a) (inr g) = let same = ap (λ (x : Party). x.status) g.same in let n = g.round in let o = a.0 in let i = a.1 in inr (omega arith, cc)
+one_more s s' s'' p (inr a) (inr g) = absurd (g.out a.1)
 
 waiting : (es rs : List Event) (p : ℕ) → IsRun (es ++ rs) → NoneBy p es → (party (state rs) p).status ≡ Arrived → Waiting (state rs) p (state (es ++ rs))
 waiting [] rs p run none at = inl (refl, at)
@@ -47,14 +43,9 @@ top_bit : (s : State) → Sound s → sense_shown s ≡ s.round % 2
 top_bit s h = let few = h.gate.few in let le = inside_le_members s.parties in omega arith
 
 seen_end : (s s' : State) (p : ℕ) → Sound s' → Waiting s p s' → Waits s s' p
-seen_end s s' p h w = let bit = top_bit s' h in record {
-  next = w;
-  sees = ⊎_elim
-      (λ (a : (s'.round ≡ s.round) × ((party s' p).status ≡ Arrived)).
-      let o = a.0 in ((λ e. omega arith), (λ lt. absurd (omega arith))))
-      (λ (a : (s'.round ≡ s.round + 1) × ((party s' p).status ≡ In)).
-      let o = a.0 in ((λ _. omega arith), (λ _. bit ∙ ap (λ (n : ℕ). n % 2) o))) w;
-}
+seen_end s s' p h (inl a) = let bit = top_bit s' h in let o = a.0 in record { next = inl a; sees = ((λ e. omega arith), (λ lt. absurd (omega arith))) }
+seen_end s s' p h (inr a) = let bit = top_bit s' h in let o = a.0 in
+    record { next = inr a; sees = ((λ _. omega arith), (λ _. bit ∙ ap (λ (n : ℕ). n % 2) o)) }
 
 -- each ended round is whole
 pub is_whole : (r : Round) → Complete r → IsWhole r
