@@ -20,6 +20,10 @@ abbrev pub over : Fate → ℕ
 over Done = 1
 over f = 0
 
+pub weights : (f : Fate) → (started f ≤ 1) × (over f ≤ started f)
+weights Done = (omega arith, omega arith)
+weights f = (omega arith, omega arith)
+
 pub record Fits (fate : ℕ → Fate) (p : ℕ) (x : Party) : Type 0 where
   pub held : (k : ℕ) → x.taken k ≡ true → fate k ≡ Held p
   pub holds : (k : ℕ) → fate k ≡ Held p → x.taken k ≡ true
@@ -247,10 +251,9 @@ module _ (fate : ℕ → Fate) (r : Round) (ps : List Party) (w : Work fate r ps
 
   pub completes : ((q : ℕ) → (party_of ps q).status ≢ In) → ((k : ℕ) → k < r.jobs → fate k ≢ Open) ⊎ (r.stopped ≡ true) → Complete r
   completes none_in spent = record {
-    once = λ k. ⊎_elim
-        (λ e. let a = w.begun k in let b = ap started e in omega arith) (λ e. let a = w.begun k in let b = ap started e in omega arith) (settled none_in k);
-    same = λ k. ⊎_elim (λ e. let a = w.begun k in let b = ap started e in let c = w.finished k in let d = ap over e in omega arith)
-        (λ e. let a = w.begun k in let b = ap started e in let c = w.finished k in let d = ap over e in omega arith) (settled none_in k);
+    once = λ k. let a = w.begun k in let b = (weights (fate k)).0 in omega arith;
+    same = λ k. let a = w.begun k in let b = w.finished k in let c : over (fate k) ≡ started (fate k) =
+        ⊎_elim (λ e. ap over e ∙ sym (ap started e)) (λ e. ap over e ∙ sym (ap started e)) (settled none_in k) in omega arith;
     below = λ k some. ⊎_elim (λ e. let a = w.begun k in let b = ap started e in absurd (omega arith)) (λ e. w.below k (λ o. cc)) (settled none_in k);
     full = λ going k lt. ⊎_elim (λ all. ⊎_elim (λ e. absurd (all k lt e)) (λ e. w.begun k ∙ ap started e) (settled none_in k)) (λ st. absurd cc) spent;
     stops = λ e. (w.stops e).0;

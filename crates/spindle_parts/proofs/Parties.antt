@@ -49,31 +49,25 @@ put_all P f k x here away j = by_equal j k
     (λ e. subst (λ (z : ℕ). P z (put f k x z)) (sym e) (subst (P k) (sym (put_here f k x)) here)) (λ n. subst (P j) (sym (put_else f k x j n)) (away j n))
 
 pub look_here : (l : List Party) (p : ℕ) (y : Party) → party_of (put_party l p y) p ≡ y
-look_here [] zero y = refl
 look_here [] (suc p) y = look_here [] p y
-look_here (x ∷ xs) zero y = refl
 look_here (x ∷ xs) (suc p) y = look_here xs p y
+look_here l p y = refl
 
 pub look_else : (l : List Party) (p : ℕ) (y : Party) (q : ℕ) → q ≢ p → party_of (put_party l p y) q ≡ party_of l q
 look_else [] zero y zero other = absurd (other refl)
-look_else [] zero y (suc q) other = refl
-look_else [] (suc p) y zero other = refl
 look_else [] (suc p) y (suc q) other = look_else [] p y q (λ e. other (ap suc e))
 look_else (x ∷ xs) zero y zero other = absurd (other refl)
-look_else (x ∷ xs) zero y (suc q) other = refl
-look_else (x ∷ xs) (suc p) y zero other = refl
 look_else (x ∷ xs) (suc p) y (suc q) other = look_else xs p y q (λ e. other (ap suc e))
+look_else l p y q other = refl
 
 pub total_put : (w : Party → ℕ) → w absent ≡ 0 → (l : List Party) (p : ℕ) (y : Party) → total w (put_party l p y) + w (party_of l p) ≡ total w l + w y
-total_put w z [] zero y = omega arith
 total_put w z [] (suc p) y = let r = total_put w z [] p y in omega arith
-total_put w z (x ∷ xs) zero y = omega arith
 total_put w z (x ∷ xs) (suc p) y = let r = total_put w z xs p y in omega arith
+total_put w z l p y = omega arith
 
 pub total_at : (w : Party → ℕ) → w absent ≡ 0 → (l : List Party) (p : ℕ) → w (party_of l p) ≤ total w l
-total_at w z [] p = omega arith
-total_at w z (x ∷ xs) zero = omega arith
 total_at w z (x ∷ xs) (suc p) = let r = total_at w z xs p in omega arith
+total_at w z l p = omega arith
 
 pub in_le_member : (t : Status) → is_in t ≤ is_member t
 in_le_member Out = omega arith

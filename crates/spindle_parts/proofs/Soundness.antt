@@ -8,8 +8,8 @@ use Rattle.spindle_parts.specs.Steps.{Stop, See, PutBack, Arrive, Leave, Exit, C
 use Rattle.spindle_parts.specs.Runs.{state, IsRun, IsOnce}
 use Rattle.spindle_parts.proofs.Parties.{by_equal, by_order, by_zero, by_option, moved, with_parties, next_round, put_here, put_else, put_all, put_again}
 use Rattle.spindle_parts.proofs.Parties.{look_here, look_else, total_put, total_at, inside_le_members, look_wake, inside_wake, members_wake}
-use Rattle.spindle_parts.proofs.Fates.{Fate, Open, Held, Ran, Done, started, over, Work, status_work, begin_work, finish_work, take_work, put_back_work}
-use Rattle.spindle_parts.proofs.Fates.{see_work, completes, restarts, publish_work, free_is_open, open_is_free, idle_out, open_work, Complete}
+use Rattle.spindle_parts.proofs.Fates.{weights, Fate, Open, Held, Ran, Done, Work, status_work, begin_work, finish_work, take_work, put_back_work, see_work}
+use Rattle.spindle_parts.proofs.Fates.{completes, restarts, publish_work, free_is_open, open_is_free, idle_out, open_work, Complete}
 
 pub record Gate (closer published : Option ℕ) (i m jobs : ℕ) (leader : Status) : Type 0 where
   pub closing : (c : ℕ) → closer ≡ Some c → (i ≡ 0) × (0 < m)
@@ -269,10 +269,6 @@ once s h q k = by_equal q s.round
     (λ (lt : s.round < q). subst
     (λ (r : Round). (times k r.begun ≤ 1) × (times k r.finished ≤ times k r.begun)) (sym (h.later q lt)) (omega arith, omega arith)) (apart q s.round n))
   where
-    weights : (f : Fate) → (started f ≤ 1) × (over f ≤ started f)
-    weights Open = (omega arith, omega arith)
-    weights f = (omega arith, omega arith)
-
     apart : (a b : ℕ) → a ≢ b → (a < b) ⊎ (b < a)
     apart a b n = by_order a b (λ le. inl (omega arith)) (λ no. inr (omega arith))
 
