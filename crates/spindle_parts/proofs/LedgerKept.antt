@@ -1,5 +1,6 @@
 -- Every step on the ledger keeps the books in balance.
-use Rattle.std.proofs.Common.{◌≡◌, ◌≢◌, ⊎_elim, ℕ, zero, suc, ◌+◌, ◌-◌, ◌%◌, ◌^◌, ◌<◌, ◌≤◌, Bool, eq-eqb, ne_eqb, List, [], ◌∷◌, length, length-set, get_or, ap}
+use Rattle.std.proofs.Common.{inl, inr, ◌≡◌, ◌≢◌, ⊎_elim, ℕ, zero, suc, ◌+◌, ◌-◌, ◌%◌, ◌^◌, ◌<◌, ◌≤◌, Bool, eq-eqb, ne_eqb, List, [], ◌∷◌, length, length-set}
+use Rattle.std.proofs.Common.{get_or, ap}
 use Rattle.std.proofs.Common.{set, get_or-set_same, get_or-set_other, sum_by, sym, refl, ◌∙◌, subst, arith, if◌then◌else◌}
 use Rattle.std.proofs.lemmas.List.Sums.{sum_by-cons, sum_by-set}
 use mathlib.Core.Option.{some, some-injective, some-ne-none}
@@ -49,6 +50,10 @@ total_but f g (suc n) k lt h = by_equal n k
     (λ (e : n ≡ k). let a = total_same f g n (λ i lt. h i (omega arith) (λ z. omega arith)) in
     subst (λ (z : ℕ). total f n + f n + g z ≡ total g n + g n + f z) e (omega arith))
     (λ ne. let a = total_but f g n k (omega arith) (λ i lt. h i (omega arith)) in let b = h n (omega arith) ne in omega arith)
+
+pub flag_within : (i : ℕ) → IsFlag i → (8 ≤ i) × (i ≤ 16)
+flag_within i (inl e) = (omega arith, omega arith)
+flag_within i (inr e) = (omega arith, omega arith)
 
 onto_here : (i : ℕ) (f : Log → ℕ) (x : Log) → x.word ≡ place_word i → onto i f x ≡ f x
 onto_here i f x e = ap (λ (b : Bool). if b then f x else 0) (eq-eqb x.word (place_word i) e)
@@ -139,7 +144,7 @@ module _ (slots : ℕ) where
         (let sums = sum_by_seat (λ v. v.credit) s.views id me.0 (noted c x me.0) at in
         let parts = total_but (unfilled V) (unfilled s.views) slots k low (λ j lt ne. as_before j ne) in
         other 0 (λ e. omega arith) ∙ r.requests ∙ ap (λ (z : ℕ). z % 2 ^ 64) (omega arith))
-        (λ j f. subst (λ (z : ℕ). z ≤ 1) (sym (other j (λ e. ⊎_elim (λ (h : j ≡ 8). omega arith) (λ (h : j ≡ 16). omega arith) f))) (r.flags j f))
+        (λ j f. let at = flag_within j f in subst (λ (z : ℕ). z ≤ 1) (sym (other j (λ e. omega arith))) (r.flags j f))
       where
         apart : (j : ℕ) → j ≢ k → x.word ≢ place_word j
         apart j ne e = ne (let t = there in omega arith)

@@ -16,7 +16,7 @@ use Rattle.spindle_parts.specs.declared.requests.plays.Account.{Account}
 use Rattle.spindle_parts.specs.Ledger.{place_word, IsFlag, gain, cost, opened, removed, IsCredit, onto, opened_at, removed_at, unfilled, total}
 use Rattle.spindle_parts.specs.LedgerSteps.{noted, blank, loading, announcing, asking, subtracting, installing, taking, missing, closing, loaded, announced}
 use Rattle.spindle_parts.specs.LedgerSteps.{asked, subtracted, installed, taken, closed}
-use Rattle.spindle_parts.proofs.LedgerKept.{M, Table, Rule, total_same, elsewhere, at_slot}
+use Rattle.spindle_parts.proofs.LedgerKept.{flag_within, M, Table, Rule, total_same, elsewhere, at_slot}
 use Rattle.spindle_parts.proofs.Parties.{by_equal}
 
 -- a flag as its word
@@ -44,12 +44,10 @@ module _ (slots : ℕ) where
 
   pub announces : (n id : ℕ) (me : M) (i flag : ℕ) → IsFlag i → flag ≤ 1
       → Allows (Rule slots) n id me i (λ _. flag) (λ _. announced (step n i flag 0 none) me flag)
-  announces n id me i flag is small s r _ at _ = let wide = r.wide in
-      let low : i < 24 = ⊎_elim (λ (h : i ≡ 8). omega arith) (λ (h : i ≡ 16). omega arith) is in
-      let off : i ≢ 0 = (λ e. ⊎_elim (λ (h : i ≡ 8). omega arith) (λ (h : i ≡ 16). omega arith) is) in
+  announces n id me i flag is small s r _ at _ = let wide = r.wide in let within = flag_within i is in
       let other : (j : ℕ) → j ≢ i → get_or (set s.words i flag) j 0 ≡ get_or s.words j 0 = (λ j ne. get_or-set_other s.words i j flag 0 ne) in
       let kept = elsewhere slots s r i flag id me me.0.credit (trace i Announce flag flag) at refl refl refl (λ j. other (place_word j) (λ e. omega arith))
-      (λ t t' eq more. other 0 (λ e. off (sym e)) ∙ eq ∙ ap (λ (z : ℕ). z % 2 ^ 64) (omega arith))
+      (λ t t' eq more. other 0 (λ e. omega arith) ∙ eq ∙ ap (λ (z : ℕ). z % 2 ^ 64) (omega arith))
       (λ j f. by_equal j i
       (λ (e : j ≡ i). subst (λ (z : ℕ). get_or (set s.words i flag) z 0 ≤ 1) (sym e)
       (let here = get_or-set_same s.words i flag 0 (omega arith) in omega arith)) (λ ne. subst (λ (z : ℕ). z ≤ 1) (sym (other j ne)) (r.flags j f))) in
@@ -64,7 +62,7 @@ module _ (slots : ℕ) where
       let same : (j : ℕ) → j ≢ 0 → get_or (set s.words 0 new) j 0 ≡ get_or s.words j 0 = (λ j ne. get_or-set_other s.words 0 j new 0 ne) in
       elsewhere slots s r 0 new id me c (trace 0 k (get_or s.words 0 0) new) at credit opens removes (λ j. same (place_word j) (λ e. omega arith))
       (λ t t' is more. get_or-set_same s.words 0 new 0 (omega arith) ∙ moves t t' is more)
-      (λ j f. subst (λ (z : ℕ). z ≤ 1) (sym (same j (λ e. ⊎_elim (λ (h : j ≡ 8). omega arith) (λ (h : j ≡ 16). omega arith) f))) (r.flags j f))
+      (λ j f. let at = flag_within j f in subst (λ (z : ℕ). z ≤ 1) (sym (same j (λ e. omega arith))) (r.flags j f))
 
   pub asks : (n id : ℕ) (me : M) (k : ℕ) → Allows (Rule slots) n id me 0 (λ x. (x + k) % 2 ^ 64) (asked (step n 0 k 0 none) me)
   asks n id me k s r _ at _ = let x : ℕ = get_or s.words 0 0 in

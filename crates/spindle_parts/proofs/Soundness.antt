@@ -265,12 +265,8 @@ once : (s : State) → Sound s → IsOnce s
 once s h q k = by_equal q s.round
     (λ e. subst (λ (i : ℕ). (times k (s.rounds i).begun ≤ 1) × (times k (s.rounds i).finished ≤ times k (s.rounds i).begun)) (sym e)
     (let a = h.work.begun k in let b = h.work.finished k in let c = weights (h.fate k) in let c₀ = c.0 in let c₁ = c.1 in (omega arith, omega arith)))
-    (λ n. ⊎_elim (λ (lt : q < s.round). let c = h.ended q lt in let a = c.once k in let b = c.same k in (a, omega arith))
-    (λ (lt : s.round < q). subst
-    (λ (r : Round). (times k r.begun ≤ 1) × (times k r.finished ≤ times k r.begun)) (sym (h.later q lt)) (omega arith, omega arith)) (apart q s.round n))
-  where
-    apart : (a b : ℕ) → a ≢ b → (a < b) ⊎ (b < a)
-    apart a b n = by_order a b (λ le. inl (omega arith)) (λ no. inr (omega arith))
+    (λ n. by_order q s.round (λ le. let c = h.ended q (omega arith) in let a = c.once k in let b = c.same k in (a, omega arith))
+    (λ no. subst (λ (r : Round). (times k r.begun ≤ 1) × (times k r.finished ≤ times k r.begun)) (sym (h.later q (omega arith))) (omega arith, omega arith)))
 
 pub run_once : (es : List Event) → IsRun es → IsOnce (state es)
 run_once es r = once (state es) (sound es r)
