@@ -113,13 +113,13 @@ module _ (entries : BTreeMap ℕ Entry) (saw : List ℕ) (room p : ℕ) (m : IsM
     pub marked_more : (new : BTreeMap ℕ Entry) (mark : ℕ)
         → mark ≡ length saw → IfSome (get nat_cmp entries p) (λ e. Writes entries new p (record e { mark = mark })) → IsMarked new (saw ++ p ∷ []) room
     marked_more new mark is written = let w = written_to (λ e. record e { mark = mark }) k written in record {
-          marked = λ i q e. ⊎_elim
-              (λ (o : slice_get saw i ≡ Some q). let x = m.marked i q o in
-              (x.0, w.others q (λ same. let t = any_passes_from_place (λ z. p == z) saw i q o (eq-eqb p q (sym same)) in cc) ∙ x.1, x.2))
-              (λ (o : (i ≡ length saw) × (q ≡ p)). (record k.0 { mark = mark }, ap (get nat_cmp new) o.1 ∙ w.mine, is ∙ sym o.0)) (last_or saw p i q e);
-          distinct = more;
-          room = let a = w.size in let b = m.room in omega arith;
-        }
+      marked = λ i q e. ⊎_elim
+          (λ (o : slice_get saw i ≡ Some q). let x = m.marked i q o in
+          (x.0, w.others q (λ same. let t = any_passes_from_place (λ z. p == z) saw i q o (eq-eqb p q (sym same)) in cc) ∙ x.1, x.2))
+          (λ (o : (i ≡ length saw) × (q ≡ p)). (record k.0 { mark = mark }, ap (get nat_cmp new) o.1 ∙ w.mine, is ∙ sym o.0)) (last_or saw p i q e);
+      distinct = more;
+      room = let a = w.size in let b = m.room in omega arith;
+    }
 
 -- a written job shows in the party's seat, and in no other
 module _ (sense : Bool) (saw : List ℕ) (old new : BTreeMap ℕ Entry) (p : ℕ) (j : Option ℕ) (k : IsKnown old p)

@@ -44,8 +44,7 @@ top_bit s h = let few = h.gate.few in let le = inside_le_members s.parties in om
 
 seen_end : (s s' : State) (p : ℕ) → Sound s' → Waiting s p s' → Waits s s' p
 seen_end s s' p h (inl a) = let bit = top_bit s' h in let o = a.0 in record { next = inl a; sees = ((λ e. omega arith), (λ lt. absurd (omega arith))) }
-seen_end s s' p h (inr a) = let bit = top_bit s' h in let o = a.0 in
-    record { next = inr a; sees = ((λ _. omega arith), (λ _. bit ∙ ap (λ (n : ℕ). n % 2) o)) }
+seen_end s s' p h (inr a) = let bit = top_bit s' h in let o = a.0 in record { next = inr a; sees = ((λ _. omega arith), (λ _. bit ∙ ap (λ (n : ℕ). n % 2) o)) }
 
 -- each ended round is whole
 pub is_whole : (r : Round) → Complete r → IsWhole r
