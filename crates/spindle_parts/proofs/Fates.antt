@@ -278,8 +278,7 @@ module _ (fate : ℕ → Fate) (r : Round) (ps : List Party) (w : Work fate r ps
       go : (f : Fate) → fate k ≡ f → fate k ≡ Open
       go Open e = e
       go (Held q) e = let a = (w.fits q).holds k e in let b = free q in absurd cc
-      go (Ran q) e = let a = w.begun k in let b = ap started e in absurd (omega arith)
-      go Done e = let a = w.begun k in let b = ap started e in absurd (omega arith)
+      go f e = let a = w.begun k in let b = ap started e in absurd (omega arith)
 
   pub open_is_free : (k : ℕ) → fate k ≡ Open → (times k r.begun ≡ 0) × ((p : ℕ) → (party_of ps p).taken k ≡ false)
   open_is_free k e = (w.begun k ∙ ap started e, λ p. not_true ((party_of ps p).taken k) (λ t. let a = (w.fits p).held k t in cc))

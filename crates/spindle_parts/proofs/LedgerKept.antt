@@ -1,7 +1,6 @@
 -- Every step on the ledger keeps the books in balance.
 use Rattle.std.proofs.Common.{inl, inr, ◌≡◌, ◌≢◌, ⊎_elim, ℕ, zero, suc, ◌+◌, ◌-◌, ◌%◌, ◌^◌, ◌<◌, ◌≤◌, Bool, eq-eqb, ne_eqb, List, [], ◌∷◌, length, length-set}
-use Rattle.std.proofs.Common.{get_or, ap}
-use Rattle.std.proofs.Common.{set, get_or-set_same, get_or-set_other, sum_by, sym, refl, ◌∙◌, subst, arith, if◌then◌else◌}
+use Rattle.std.proofs.Common.{get_or, ap, set, get_or-set_same, get_or-set_other, sum_by, sym, refl, ◌∙◌, subst, arith, if◌then◌else◌}
 use Rattle.std.proofs.lemmas.List.Sums.{sum_by-cons, sum_by-set}
 use mathlib.Core.Option.{some, some-injective, some-ne-none}
 use lib.ListN.{get_elem?}

@@ -1,5 +1,5 @@
 -- Lists compared place by place, and lists cut into runs.
-use Rattle.std.proofs.Common.{◌≡◌, ℕ, ◌+◌, ◌≤◌, List, [], ◌∷◌, ◌++◌, length, take, drop, refl, ap, sym, ◌∙◌, zero, suc, Bool, ◌&&◌, arith, ◌-◌, slice_range}
+use Rattle.std.proofs.Common.{◌≡◌, ℕ, ◌+◌, ◌≤◌, List, [], ◌∷◌, ◌++◌, length, take, drop, refl, ap, sym, ◌∙◌, suc, Bool, ◌&&◌, arith, ◌-◌, slice_range}
 use Rattle.std.proofs.lemmas.List.{drop-take, drop-drop, take-take, length-take-le, length-drop}
 use Rattle.std.proofs.Math.Bool.{and-true, and_assoc}
 use Rattle.std.specs.Cmp.Lexicographic.{pointwise}
@@ -15,9 +15,8 @@ pointwise_snoc E xs ys x y e = absurd (omega (arith, e))
 
 -- a part of the sum is at most the sum
 pub total_part : (i : ℕ) (ls : List ℕ) → total (take i ls) ≤ total ls
-total_part zero ls = omega arith
-total_part (suc i) [] = omega arith
 total_part (suc i) (l ∷ ls) = omega (arith, total_part i ls)
+total_part i ls = omega arith
 
 -- a range within a range
 pub slice_range-slice_range : {A : Type 0} (xs : List A) (f t a b : ℕ) → a ≤ b → f + b ≤ t

@@ -75,8 +75,7 @@ take_holding threads Again v w none_yet h = ap (λ u. u.holding) h.6 ∙ (readin
 -- the number taken is below the threads
 pub take_below : (threads : ℕ) (a : Take) (v w : View) → IsTake threads a v w → w.holding ≡ holding_after a → (k : ℕ) → w.holding ≡ Has k → k < threads
 take_below threads (Taken t) v w h after k has = let e : Has t ≡ Has k = sym after ∙ has in let same : t ≡ k = cc in let lt = h.1 in omega arith
-take_below threads AllInUse v w h after k has = let e : Nothing ≡ Has k = sym after ∙ has in absurd cc
-take_below threads Again v w h after k has = let e : Nothing ≡ Has k = sym after ∙ has in absurd cc
+take_below threads a v w h after k has = let e : Nothing ≡ Has k = sym after ∙ has in absurd cc
 
 -- the number b of the word i is tried, whose word was found as x
 module _ (threads i b x : ℕ) (found : ℕ → ℕ) (low : b < 32) (below : 32 * i + b < threads) (unset : bit_at x b ≡ 0)

@@ -261,9 +261,8 @@ gives t slots id me n below own s r d at fits =
 -- ---- a fresh table
 
 pub zero_at : (n i : ℕ) → let none_there : ℕ = 0 in get_or (replicate n none_there) i none_there ≡ none_there
-zero_at zero i = refl
-zero_at (suc n) zero = refl
 zero_at (suc n) (suc i) = zero_at n i
+zero_at n i = refl
 
 -- word 0 is 1, and all others are 0
 pub opens : (t : ℕ) → 1 ≤ t → IsNumbering t (opening (set (replicate (8 * word_count t) 0) 0 1) [] leader_view)

@@ -78,9 +78,8 @@ inside_le_members [] = omega arith
 inside_le_members (x ∷ xs) = let a = in_le_member x.status in let r = inside_le_members xs in omega arith
 
 pub look_wake : (l : List Party) (p : ℕ) → party_of (wake l) p ≡ with_status (waking (party_of l p).status) (party_of l p)
-look_wake [] p = refl
-look_wake (x ∷ xs) zero = refl
 look_wake (x ∷ xs) (suc p) = look_wake xs p
+look_wake l p = refl
 
 woken : (t : Status) → (is_in (waking t) ≡ is_member t) × (is_member (waking t) ≡ is_member t)
 woken Out = (refl, refl)

@@ -122,10 +122,8 @@ same_word m s a = let i = a.inside in let n = a.members in let o = bit m.sense i
 memory_last : (a b c : Bool) → let o : Option Why = None in
     (if a then Some Member else (if b then Some Full else (if c then Some Closing else Some Memory))) ≡ Some
     (unwrap_or (if a then Some Member else (if b then Some Full else (if c then Some Closing else o))) Memory)
-memory_last true b c = refl
-memory_last false true c = refl
-memory_last false false true = refl
 memory_last false false false = refl
+memory_last a b c = refl
 
 refused_for_memory : (m : Configuration) (e : Step) → IsRefusedForMemory m e
 refused_for_memory m (Join p) = memory_last _ _ _

@@ -15,11 +15,10 @@ module _ {T : Type 0} where
 
   -- the last item, as a read
   pub last_is : (before : T) (items : List T) → get_or items (length items - 1) before ≡ last_of before items
-  last_is b [] = refl
-  last_is b (x ∷ []) = refl
   last_is b (x ∷ y ∷ items) =
       let last : ℕ = length (y ∷ items) - 1 in
       let next : length (x ∷ y ∷ items) - 1 ≡ suc last = omega arith in
       ap (λ k. get_or (x ∷ y ∷ items) k b) next
       ∙ get_or_default (y ∷ items) last b x (omega arith)
       ∙ last_is x (y ∷ items)
+  last_is b items = refl

@@ -13,11 +13,9 @@ use Rattle.spindle_parts.proofs.Parties.{by_equal, put_here, put_else}
 
 -- who isn't in is woken by the flip
 flips : (word : Bool) (own : Option Bool) → stands word own ≢ In → stands (not word) own ≡ waking (stands word own)
-flips word None n = refl
 flips true (Some true) n = absurd (n refl)
-flips true (Some false) n = refl
-flips false (Some true) n = refl
 flips false (Some false) n = absurd (n refl)
+flips word own n = refl
 
 -- the registers once the round has ended
 abbrev pub flipped : (r r' : Registers) → Registers

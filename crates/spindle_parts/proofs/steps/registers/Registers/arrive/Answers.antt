@@ -7,8 +7,7 @@ use Rattle.spindle_parts.proofs.steps.registers.Registers.arrive.Goals as goal
 
 pub overflow_sub-self : goal.overflow_sub-self
 overflow_sub-self c =
-    let b = (bounds (shown c.args.self.now) c.requires.reached).in_counts c.args.party (sym c.is_inside.ensures ∙ c.if-not-is_inside.false) in
-    let b₀ = b.0 in omega arith
+    let b₀ = ((bounds (shown c.args.self.now) c.requires.reached).in_counts c.args.party (sym c.is_inside.ensures ∙ c.if-not-is_inside.false)).0 in omega arith
 
 pub returns-clause-served : goal.returns-clause-served
 returns-clause-served c = search rules

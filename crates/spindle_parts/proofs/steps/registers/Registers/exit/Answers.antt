@@ -11,13 +11,11 @@ use Rattle.spindle_parts.proofs.steps.registers.Registers.exit.Goals as goal
 
 pub overflow_sub-self : goal.overflow_sub-self
 overflow_sub-self c =
-    let b = (bounds (shown c.args.self.now) c.requires.reached).in_counts c.args.party (sym c.is_inside.ensures ∙ c.if-not-is_inside.false) in
-    let b₀ = b.0 in omega arith
+    let b₀ = ((bounds (shown c.args.self.now) c.requires.reached).in_counts c.args.party (sym c.is_inside.ensures ∙ c.if-not-is_inside.false)).0 in omega arith
 
 pub overflow_sub-self-2 : goal.overflow_sub-self-2
 overflow_sub-self-2 c =
-    let b = (bounds (shown c.args.self.now) c.requires.reached).in_counts c.args.party (sym c.is_inside.ensures ∙ c.if-not-is_inside.false) in
-    let b₁ = b.1 in omega arith
+    let b₁ = ((bounds (shown c.args.self.now) c.requires.reached).in_counts c.args.party (sym c.is_inside.ensures ∙ c.if-not-is_inside.false)).1 in omega arith
 
 pub returns-then-self-eq0-clause-served : goal.returns-then-self-eq0-clause-served
 returns-then-self-eq0-clause-served c = let r = c.args.self.now in let p = c.args.party in
