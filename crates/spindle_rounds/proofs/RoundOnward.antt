@@ -17,18 +17,7 @@ use Rattle.spindle_rounds.proofs.RoundWords.{by_less, by_equal}
 -- Going on.
 
 pub onward_same : {N : Type 0} (v : View N) → Onward v v
-onward_same v = record {
-  leader = refl;
-  threads = refl;
-  standing = refl;
-  number = refl;
-  may_stop = refl;
-  unpublished = refl;
-  emptied = λ i l. l;
-  laid = refl;
-  board = refl;
-  published = refl;
-}
+onward_same v = search
 
 pub onward_then : {N : Type 0} (u v w : View N) → Onward u v → Onward v w → Onward u w
 onward_then u v w a b = record {
@@ -86,18 +75,7 @@ read_empty x le = by_less (start_of x) (end_of x) (λ b. (if b then false else t
 
 module _ {N : Type 0} where
   pub searched_on : (i x : ℕ) (v : View N) → Onward v (searching i x v)
-  searched_on i x v = record {
-    leader = refl;
-    threads = refl;
-    standing = refl;
-    number = refl;
-    may_stop = refl;
-    unpublished = refl;
-    emptied = λ j l. more_listed v.known.number (if nat_lt (start_of x) (end_of x) then false else true) i j v.known.emptied l;
-    laid = refl;
-    board = refl;
-    published = refl;
-  }
+  searched_on i x v = search more_listed
 
   -- an empty range is listed
   pub searched_empty : (n i x : ℕ) (v : View N) → v.known.number ≡ Some n → end_of x ≤ start_of x → IsListed i (searching i x v).known.emptied
@@ -105,18 +83,7 @@ module _ {N : Type 0} where
       (read_empty x le)
 
   pub remainder_on : (x : ℕ) (v : View N) → Onward v (reading_remainder x v)
-  remainder_on x v = record {
-    leader = refl;
-    threads = refl;
-    standing = refl;
-    number = refl;
-    may_stop = refl;
-    unpublished = refl;
-    emptied = λ j l. more_listed v.known.number (x == 0) v.threads j v.known.emptied l;
-    laid = refl;
-    board = refl;
-    published = refl;
-  }
+  remainder_on x v = search more_listed
 
   -- and an empty remainder
   pub remainder_empty : (n x : ℕ) (v : View N) → v.known.number ≡ Some n → x ≡ 0 → IsListed v.threads (reading_remainder x v).known.emptied
@@ -144,141 +111,31 @@ module _ {N : Type 0} where
 
 module _ {N : Type 0} where
   pub missed_on : (i found : ℕ) (v : View N) → Onward v (missing i found v)
-  missed_on i found v = record {
-    leader = refl;
-    threads = refl;
-    standing = refl;
-    number = refl;
-    may_stop = refl;
-    unpublished = refl;
-    emptied = λ i l. l;
-    laid = refl;
-    board = refl;
-    published = refl;
-  }
+  missed_on i found v = search
 
   pub began_on : (i k found new : ℕ) (x : Option N) (v : View N) → Onward v (beginning i k found new x v)
-  began_on i k found new x v = record {
-    leader = refl;
-    threads = refl;
-    standing = refl;
-    number = refl;
-    may_stop = refl;
-    unpublished = refl;
-    emptied = λ i l. l;
-    laid = refl;
-    board = refl;
-    published = refl;
-  }
+  began_on i k found new x v = search
 
   pub stole_on : (i found : ℕ) (x : Option N) (v : View N) → Onward v (stealing i found x v)
-  stole_on i found x v = record {
-    leader = refl;
-    threads = refl;
-    standing = refl;
-    number = refl;
-    may_stop = refl;
-    unpublished = refl;
-    emptied = λ i l. l;
-    laid = refl;
-    board = refl;
-    published = refl;
-  }
+  stole_on i found x v = search
 
   pub shared_on : (i stored : ℕ) (x : Option N) (v : View N) → Onward v (sharing i stored x v)
-  shared_on i stored x v = record {
-    leader = refl;
-    threads = refl;
-    standing = refl;
-    number = refl;
-    may_stop = refl;
-    unpublished = refl;
-    emptied = λ i l. l;
-    laid = refl;
-    board = refl;
-    published = refl;
-  }
+  shared_on i stored x v = search
 
   pub recalled_on : (n : ℕ) (v : View N) → Onward v (recalling n v)
-  recalled_on n v = record {
-    leader = refl;
-    threads = refl;
-    standing = refl;
-    number = refl;
-    may_stop = refl;
-    unpublished = refl;
-    emptied = λ i l. l;
-    laid = refl;
-    board = refl;
-    published = refl;
-  }
+  recalled_on n v = search
 
   pub finished_on : (found : ℕ) (v : View N) → Onward v (finishing found v)
-  finished_on found v = record {
-    leader = refl;
-    threads = refl;
-    standing = refl;
-    number = refl;
-    may_stop = refl;
-    unpublished = refl;
-    emptied = λ i l. finished_still v.known.number (found + 1) v.threads v.known.emptied i l;
-    laid = refl;
-    board = refl;
-    published = refl;
-  }
+  finished_on found v = search finished_still
 
   pub stopped_on : (stored : ℕ) (v : View N) → Onward v (stopping stored v)
-  stopped_on stored v = record {
-    leader = refl;
-    threads = refl;
-    standing = refl;
-    number = refl;
-    may_stop = refl;
-    unpublished = refl;
-    emptied = λ i l. l;
-    laid = refl;
-    board = refl;
-    published = refl;
-  }
+  stopped_on stored v = search
 
   pub saw_on : (found : ℕ) (v : View N) → Onward v (seeing found v)
-  saw_on found v = record {
-    leader = refl;
-    threads = refl;
-    standing = refl;
-    number = refl;
-    may_stop = refl;
-    unpublished = refl;
-    emptied = λ i l. l;
-    laid = refl;
-    board = refl;
-    published = refl;
-  }
+  saw_on found v = search
 
   pub found_on : (i found : ℕ) (v : View N) → Onward v (finding i found v)
-  found_on i found v = record {
-    leader = refl;
-    threads = refl;
-    standing = refl;
-    number = refl;
-    may_stop = refl;
-    unpublished = refl;
-    emptied = λ i l. l;
-    laid = refl;
-    board = refl;
-    published = refl;
-  }
+  found_on i found v = search
 
   pub put_on : (i found : ℕ) (v : View N) → Onward v (putting_back i found v)
-  put_on i found v = record {
-    leader = refl;
-    threads = refl;
-    standing = refl;
-    number = refl;
-    may_stop = refl;
-    unpublished = refl;
-    emptied = λ i l. l;
-    laid = refl;
-    board = refl;
-    published = refl;
-  }
+  put_on i found v = search
