@@ -27,7 +27,8 @@ use Rattle.spindle_rounds.specs.Words.{barrier_at, published_at, finished_at, st
 use Rattle.spindle_rounds.specs.RoundSteps.{round_of, filling, publish_word, publishing}
 use Rattle.spindle_rounds.specs.RoundTells.{FillTells, PublishTells, PublishTryTells}
 use Rattle.spindle_rounds.specs.RoundRuns.{Store}
-use Rattle.spindle_rounds.proofs.RoundMoves.{Rule, SeatOf, Before, stores, moves_with, untrue}
+use Rattle.spindle_rounds.proofs.RoundQuiet.{unchanged}
+use Rattle.spindle_rounds.proofs.RoundMoves.{Rule, SeatOf, Before, stores, moves_with, untrue, shown, knowing}
 use Rattle.spindle_rounds.proofs.RoundWords.{by_equal, by_less}
 
 module _ {X N : Type 0} (D : Discipline X N) (law : Lawful D) (t : ℕ) where
@@ -50,19 +51,8 @@ module _ {X N : Type 0} (D : Discipline X N) (law : Lawful D) (t : ℕ) where
         counters = λ m e. absurd cc;
         barren = r.words.barren;
       }
-      record {
-        stands = shows.stands;
-        leads = shows.leads;
-        claim = shows.claim;
-        share = shows.share;
-        inside = λ q e. let k = shows.inside q e in record {
-          number = k.number;
-          unpublished = k.unpublished;
-          seen = k.seen;
-          emptied = k.emptied;
-          unread = k.unread;
-        };
-      }
+      (shown shows.stands shows.leads shows.claim shows.share (λ q e. let k = shows.inside q e in
+      knowing k.number k.unpublished k.seen k.emptied k.unread))
       seat.1 refl
       (λ v e. ⊎_elim (λ (h : (0 ≡ id) × (w ≡ v)). let l = r.lays me.0 (subst (λ (a : ℕ). get_elem? s.views a ≡ some me.0) (sym h.0) at) in
       subst (Laid t S (set s.words i x)) h.1
@@ -80,13 +70,7 @@ module _ {X N : Type 0} (D : Discipline X N) (law : Lawful D) (t : ℕ) where
         left = λ q e. absurd cc;
       })
       (λ (h : (0 ≢ id) × (get_elem? s.views 0 ≡ some v)). absurd (h.0 (sym only.0))) (at_set s.views id 0 w v e))
-      (law.stays S S s.homes s.views id me.0 w r.slots record {
-        begun = λ _ _. refl;
-        finished = λ _ _. refl;
-        jobs = λ _. refl;
-        published = λ n z. (z, refl);
-        running = λ _ _ _. refl;
-      } at (refl, refl, refl)))
+      (law.stays S S s.homes s.views id me.0 w r.slots (unchanged S) at (refl, refl, refl)))
 
   pub fills_range : (slots id : ℕ) (me : SeatOf D t) (q i x : ℕ) → i < t → me.0.standing ≡ Inside q → me.0.known.unpublished ≡ true → Store D t slots id me
       (range_at i) x [] FillTells
@@ -221,19 +205,9 @@ module _ {X N : Type 0} (D : Discipline X N) (law : Lawful D) (t slots id : ℕ)
             other (range_at i) (λ z. omega arith) ∙ (ap (λ (z : ℕ). get_or s.words z 0) j ∙ stored (suc (suc (suc i))) (omega arith))));
         barren = λ z. absurd (omega arith);
       })
-      (subst (λ (z : State). Shows z id w) is record {
-        stands = subst (Stands S' id) (sym inside_q) (st.0, st.1);
-        leads = shows.leads;
-        claim = shows.claim;
-        share = shows.share;
-        inside = λ a e. record {
-          number = λ m e. let a : n ≡ m = cc in (ap (λ (z : ℕ). Some z) a, ap (λ (z : Round). z.stoppable) now_is);
-          unpublished = λ e. absurd cc;
-          seen = ap (λ (z : Round). z.seen id) now_is ∙ untrue ((now S).seen id) (λ saw. let a = h.work.saw id saw in absurd cc);
-          emptied = λ _ _ _ l. absurd l;
-          unread = λ _. refl;
-        };
-      })
+      (subst (λ (z : State). Shows z id w) is (shown (subst (Stands S' id) (sym inside_q) (st.0, st.1)) shows.leads shows.claim shows.share (λ a e. knowing
+      (λ m e. let a : n ≡ m = cc in (ap (λ (z : ℕ). Some z) a, ap (λ (z : Round). z.stoppable) now_is)) (λ e. absurd cc)
+      (ap (λ (z : Round). z.seen id) now_is ∙ untrue ((now S).seen id) (λ saw. let a = h.work.saw id saw in absurd cc)) (λ _ _ _ l. absurd l) (λ _. refl))))
       ((λ z. Showed (sym own z) n may_stop ∷ seat.1 z) ∙ sym (ap (λ (b : Bool). (if b then deed S e else []) ++ deeds id run)
       (eq-eqb (by e) id (its_own may_stop S n id)) ∙ ap (λ (l : List Deed). l ++ deeds id run) (its_deed may_stop S n id))) refl
       (λ v e. ⊎_elim (λ (z : (0 ≡ id) × (w ≡ v)). subst (λ (y : State × View N). Laid t y.0 (set s.words published_at x) y.1) (λ i. (is i, z.1 i)) record {

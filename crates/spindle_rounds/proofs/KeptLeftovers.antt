@@ -20,7 +20,8 @@ use Rattle.spindle_rounds.specs.Words.{finished_at, remainder_at, range_at, star
 use Rattle.spindle_rounds.specs.RoundSteps.{reading, searching, reading_remainder}
 use Rattle.spindle_rounds.specs.Leftovers.{is_between, finding, FindTells, FindRestTells}
 use Rattle.spindle_rounds.specs.RoundRuns.{PlainLoad}
-use Rattle.spindle_rounds.proofs.RoundMoves.{Rule, SeatOf, moves_with}
+use Rattle.spindle_rounds.proofs.RoundQuiet.{unchanged}
+use Rattle.spindle_rounds.proofs.RoundMoves.{Rule, SeatOf, moves_with, shown, knowing}
 use Rattle.spindle_rounds.proofs.RoundWords.{by_equal}
 use Rattle.spindle_rounds.proofs.KeptLoads.{search_shows, remainder_shows}
 
@@ -56,19 +57,8 @@ module _ {X N : Type 0} (D : Discipline X N) (law : Lawful D) (t : ℕ) where
       let w : View N = finding i x (reading i j empty x me.0) in let here = set-get_or s.words i 0 in let seat = r.seats id me.0 at in
       let st : List (ℕ × ℕ) = me.0.known.stored in let b : Bool = is_between me.0.standing me.0.known.unpublished in
       moves_with D t run s r i x id me w keeps [] at tt r.is_run (subst (Words t S) (sym here) r.words)
-      record {
-        stands = shows.stands;
-        leads = shows.leads;
-        claim = shows.claim;
-        share = shows.share;
-        inside = λ q e. let k = shows.inside q e in record {
-          number = k.number;
-          unpublished = k.unpublished;
-          seen = k.seen;
-          emptied = k.emptied;
-          unread = k.unread;
-        };
-      }
+      (shown shows.stands shows.leads shows.claim shows.share (λ q e. let k = shows.inside q e in
+      knowing k.number k.unpublished k.seen k.emptied k.unread))
       seat.1 refl
       (λ v e. subst (λ (ws : List ℕ). Laid t S ws v) (sym here) (⊎_elim
       (λ (h : (0 ≡ id) × (w ≡ v)). let l = r.lays me.0 (subst (λ (a : ℕ). get_elem? s.views a ≡ some me.0) (sym h.0) at) in
@@ -81,13 +71,7 @@ module _ {X N : Type 0} (D : Discipline X N) (law : Lawful D) (t : ℕ) where
         left = l.left;
       })
       (λ (h : (0 ≢ id) × (get_elem? s.views 0 ≡ some v)). r.lays v h.1) (at_set s.views id 0 w v e)))
-      (law.stays S S s.homes s.views id me.0 w r.slots record {
-        begun = λ _ _. refl;
-        finished = λ _ _. refl;
-        jobs = λ _. refl;
-        published = λ n z. (z, refl);
-        running = λ _ _ _. refl;
-      } at (refl, refl, refl))
+      (law.stays S S s.homes s.views id me.0 w r.slots (unchanged S) at (refl, refl, refl))
 
   -- what is left of a range
   pub finds : (slots id : ℕ) (me : SeatOf D t) (i : ℕ) → i < t → PlainLoad D t slots id me (range_at i) FindTells

@@ -27,7 +27,8 @@ use Rattle.spindle_rounds.specs.RoundConditions.{MayTakeOut, MayPutAll, MayGiveB
 use Rattle.spindle_rounds.specs.RoundRuns.{PlainLoad}
 use Rattle.spindle_rounds.specs.Words.{published_at}
 use Rattle.spindle_rounds.specs.SpotPlaces.{spot_else}
-use Rattle.spindle_rounds.proofs.RoundMoves.{Rule, SeatOf, moves_with, still_laid}
+use Rattle.spindle_rounds.proofs.RoundQuiet.{unchanged}
+use Rattle.spindle_rounds.proofs.RoundMoves.{Rule, SeatOf, moves_with, still_laid, shown}
 use Rattle.spindle_rounds.proofs.PlainRounds.{at_rest, was_shown, plain_finished}
 
 module _ {A : Type 0} where
@@ -57,16 +58,7 @@ module _ {X N : Type 0} (D : Discipline X N) (law : Lawful D) where
   -- the view changes in nothing that the slots see
   unmoved : (S : State) (hs : List (m.Option X)) (vs : List (View N)) (v w : View N) → D.clause S hs vs → get_elem? vs 0 ≡ some v → w.board ≡ v.board
       → w.note ≡ v.note → w.claim ≡ v.claim → D.clause S hs (set vs 0 w)
-  unmoved S hs vs v w c at b n l = law.stays S S hs vs 0 v w c record {
-    begun = λ _ _. refl;
-    finished = λ _ _. refl;
-    jobs = λ _. refl;
-    published = λ n z. (
-      z,
-      refl,
-    );
-    running = λ _ _ _. refl;
-  } at (b, n, l)
+  unmoved S hs vs v w c at b n l = law.stays S S hs vs 0 v w c (unchanged S) at (b, n, l)
 
   -- the first n slots go out, the last of them first
   takes_down : (S : State) (n : ℕ) (hs : List (m.Option X)) (vs : List (View N)) (v : View N) (c : List (ℕ × X)) → AtRest S → D.clause S hs vs
@@ -142,7 +134,7 @@ module _ {X N : Type 0} (D : Discipline X N) (law : Lawful D) where
         let w : View N = noted x (record me.0 { board = b }) in
         moves_with D t run s r published_at (get_or s.words published_at 0) id me w a [] at tt r.is_run
         (subst (Words t S) (sym (set-get_or s.words published_at 0)) r.words)
-        record { stands = shows.stands; leads = shows.leads; claim = shows.claim; share = shows.share; inside = shows.inside }
+        (shown shows.stands shows.leads shows.claim shows.share shows.inside)
         (ap (λ (d : List _). d ++ deeds_of me.0.trail) none_done ∙ (r.seats id me.0 at).1) refl
         (still_laid D t run s r published_at (get_or s.words published_at 0) id me w [] at (inr refl) refl refl (λ _. refl)
         (inl (omega arith, (λ _. refl), λ _ _. refl)))

@@ -107,7 +107,11 @@ chains a b c f g = record {
       (ap (λ (z : ℕ). times k (b.rounds z).finished) r ∙ (e₁ ∙ y)) ∙ r;
 }
 
+-- no event
+pub unchanged : (s : State) → Quiet s s
+unchanged s = same s s refl refl (λ n z. z)
+
 pub quiet_run : (new run : List Event) → AllQuiet new → IsRun (new ++ run) → Quiet (state run) (state (new ++ run))
-quiet_run [] run all ok = same (state run) (state run) refl refl (λ n z. z)
+quiet_run [] run all ok = unchanged (state run)
 quiet_run (e ∷ es) run all ok = chains (state run) (state (es ++ run)) (state (e ∷ (es ++ run))) (quiet_run es run all.1 ok.1)
     (quiet (state (es ++ run)) (sound (es ++ run) ok.1) e all.0 ok.0)
