@@ -20,17 +20,13 @@ use Rattle.spindle_rounds.specs.RoundSteps.{round_of, unknown, standing, loading
 use Rattle.spindle_rounds.specs.RoundTells.{JoinTells, ArrivalTells, LookTells, CloserReadTells}
 use Rattle.spindle_rounds.specs.RoundConditions.{IsDone}
 use Rattle.spindle_rounds.specs.RoundRuns.{PlainLoad, Exchange, Subtraction}
-use Rattle.spindle_rounds.proofs.RoundMoves.{Rule, SeatOf, Before, turns, hits, misses, moves, stays, noted_shows, untrue}
+use Rattle.spindle_rounds.proofs.RoundMoves.{Rule, SeatOf, Before, turns, hits, misses, moves, stays, noted_shows, untrue, shown, knows_none, reseated}
 use Rattle.spindle_rounds.proofs.RoundWords.{word_fields, by_equal, status_words}
 use Rattle.spindle_rounds.proofs.KeptLoads.{used_up}
 
 pub none_of : (o : Option ℕ) → ((c : ℕ) → o ≡ Some c → ⊥) → o ≡ None
 none_of None n = refl
 none_of (Some c) n = absurd (n c refl)
-
--- a seat's share is its party's, whatever becomes of its status
-pub share_of : {N : Type 0} (v : View N) (x y : Party) → y.taken ≡ x.taken → IsShare x.taken v.from v.to → IsShare y.taken v.from v.to
-share_of v x y e h k = subst (λ (f : ℕ → Bool). ((f k ≡ true) → (v.from ≤ k) × (k < v.to)) × ((v.from ≤ k) × (k < v.to) → f k ≡ true)) (sym e) (h k)
 
 -- a seat with neither share nor claim is of a party that is idle
 pub idle_seat : {N : Type 0} (s : State) (p : ℕ) (v : View N) → Shows s p v → v.claim ≡ None → v.to ≤ v.from → IsIdle s p
@@ -66,19 +62,8 @@ module _ {X N : Type 0} (D : Discipline X N) (law : Lawful D) (t : ℕ) where
           hits D law t slots id me barrier_at run s old (old + one_party) (Join id ∷ []) w keeps hit
               (moves D law t run s r barrier_at (old + one_party) id me w (Join id ∷ []) at (refl, tt) (tt, tt) (refl, refl, refl) (ok, r.is_run)
               (status_words t S s.words id (old + one_party) In S.closer r.words (omega arith))
-              record {
-                stands = (ap (λ (z : Party). z.status) look, refl);
-                leads = shows.leads;
-                claim = ap (λ (z : Party). z.running) look ∙ shows.claim;
-                share = share_of me.0 (party S id) (party (after S (Join id)) id) (ap (λ (z : Party). z.taken) look) shows.share;
-                inside = λ q e. record {
-                  number = λ n k. absurd cc;
-                  unpublished = λ lead. let p = shows.leads.0 lead in (p, hidden_out S h (ap (λ (z : ℕ). (party S z).status) (sym p) ∙ st.0));
-                  seen = refl;
-                  emptied = λ n i k l. absurd l;
-                  unread = λ _. refl;
-                };
-              }
+              (reseated _ _ _ shows look (ap (λ (z : Party). z.status) look, refl) (λ q e. knows_none me.0.leader ((now S).seen id)
+              (λ lead. let p = shows.leads.0 lead in (p, hidden_out S h (ap (λ (z : ℕ). (party S z).status) (sym p) ∙ st.0))) refl))
               ((r.seats id me.0 at).1 ∙ sym (no_deed id (deeds id run))) refl (inl refl) refl refl (inl (omega arith))),
           (refl, (λ _. (S.round, (now S).seen id, sym f.sense, refl)), λ not. absurd (not hit)),
         ))
@@ -121,31 +106,21 @@ module _ {X N : Type 0} (D : Discipline X N) (law : Lawful D) (t : ℕ) where
           moves D law t run s r barrier_at ((x + 18446744073709551615) % 18446744073709551616) id me (arriving x me.0) (Arrive id ∷ []) at (refl, tt) (tt, tt)
           (refl, refl, refl) (ok, r.is_run)
           (status_words t S s.words id ((x + 18446744073709551615) % 18446744073709551616) Arrived (closer_after S ps id) r.words (omega arith))
-          record {
-            stands = by_equal (x % field_size) 1 (λ b. Stands (after S (Arrive id)) id
-                (if b then Closing (round_of me.0.standing) true false None else Waiting (round_of me.0.standing) quiet))
-                (λ one. (
-                  ap (λ (b : Bool). if b then Some id else S.closer) (eq-eqb (inside ps) 0 (omega arith)),
-                  own,
-                  (λ z. absurd cc),
-                  ap
-                      (λ (z : Party). z.status) look,
-                  λ n z. absurd cc,
-                ))
-                (λ more. inl (
-                  ap (λ (z : Party). z.status) look,
-                  own,
-                  (λ z. let a = ap (λ (b : Bool). if b then Some id else S.closer)
-                      (ne_eqb (inside ps) 0 (λ zero_in. more (omega arith))) in let b = no_closer S h id st.0 in cc),
-                  knows.unpublished,
-                ));
-            leads = shows.leads;
-            claim = ap (λ (z : Party). z.running) look ∙ shows.claim;
-            share = share_of me.0 (party S id) (party (after S (Arrive id)) id) (ap (λ (z : Party). z.taken) look) shows.share;
-            inside = λ q e. by_equal (x % field_size) 1 (λ b. (if b then Closing (round_of me.0.standing) true false None else Waiting
-                (round_of me.0.standing) quiet) ≡ Inside q → Knows me.0.threads (after S (Arrive id)) id (unknown false false)) (λ _ z. absurd cc)
-                (λ _ z. absurd cc) e;
-          }
+          (reseated _ _ _ shows look
+          (by_equal (x % field_size) 1 (λ b. Stands (after S (Arrive id)) id
+          (if b then Closing (round_of me.0.standing) true false None else Waiting (round_of me.0.standing) quiet))
+          (λ one. let closes = ap (λ (b : Bool). if b then Some id else S.closer) (eq-eqb (inside ps) 0 (omega arith)) in
+          (closes, own, (λ z. absurd cc), ap (λ (z : Party). z.status) look, λ n z. absurd cc))
+          (λ more. inl (
+            ap (λ (z : Party). z.status) look,
+            own,
+            (λ z. let a = ap (λ (b : Bool). if b then Some id else S.closer)
+                (ne_eqb (inside ps) 0 (λ zero_in. more (omega arith))) in let b = no_closer S h id st.0 in cc),
+            knows.unpublished,
+          )))
+          (λ q e. by_equal (x % field_size) 1 (λ b. (if b then Closing (round_of me.0.standing) true false None else Waiting
+          (round_of me.0.standing) quiet) ≡ Inside q → Knows me.0.threads (after S (Arrive id)) id (unknown false false)) (λ _ z. absurd cc)
+          (λ _ z. absurd cc) e))
           (seat.1 ∙ sym (no_deed id (deeds id run))) refl (inl refl) refl refl (inl (omega arith))
 
   -- a seat that waits reads the word, which shows its sense exactly if its round has ended
@@ -164,19 +139,9 @@ module _ {X N : Type 0} (D : Discipline X N) (law : Lawful D) (t : ℕ) where
               (λ over. stays D law t run s r barrier_at id me w₁ at (refl, refl, refl)
               (⊎_elim (λ (a : ((party S id).status ≡ Arrived) × (S.round ≡ q) × (S.closer ≢ Some id) ×
               (quiet ≡ true → (id ≡ 0) × (S.published ≡ None))). let a₁ = a.1 in absurd (over (sense ∙ ap (λ (z : ℕ). z % 2) (a₁ ∙ sym own))))
-              (λ (a : ((party S id).status ≡ In) × (S.round ≡ suc q) × (id ≡ 0 → S.published ≡ None) × ((now S).seen id ≡ false)). let a₁ = a.1 in record {
-                stands = (a.0, omega arith);
-                leads = shows.leads;
-                claim = shows.claim;
-                share = shows.share;
-                inside = λ _ _. record {
-                  number = λ n e. absurd cc;
-                  unpublished = λ lead. (shows.leads.0 lead, a.2 (shows.leads.0 lead));
-                  seen = a.3;
-                  emptied = λ n i k l. absurd l;
-                  unread = λ _. refl;
-                };
-              }) st) refl refl (inl refl) refl),
+              (λ (a : ((party S id).status ≡ In) × (S.round ≡ suc q) × (id ≡ 0 → S.published ≡ None) × ((now S).seen id ≡ false)). let a₁ = a.1 in
+              shown (a.0, omega arith) shows.leads shows.claim shows.share
+              (λ _ _. knows_none me.0.leader false (λ lead. (shows.leads.0 lead, a.2 (shows.leads.0 lead))) a.3)) st) refl refl (inl refl) refl),
           (refl, refl, f.small),
         );
   }
@@ -192,13 +157,9 @@ module _ {X N : Type 0} (D : Discipline X N) (law : Lawful D) (t : ℕ) where
           keeps,
           tt,
           stays D law t run s r barrier_at id me (closer_reading x me.0) at (refl, refl, refl)
-              record {
-                stands = subst (Stands S id) (sym is) (st.0, st.1, st.2, st.3, λ n e. let same : x ≡ n = cc in sym r.words.barrier ∙ same);
-                leads = shows.leads;
-                claim = shows.claim;
-                share = shows.share;
-                inside = λ q' e. let no : Closing q member cleared (Some x) ≡ Inside q' = sym is ∙ e in absurd cc;
-              } refl refl (inr refl) refl,
+              (shown (subst (Stands S id) (sym is) (st.0, st.1, st.2, st.3, λ n e. let same : x ≡ n = cc in sym r.words.barrier ∙ same))
+              shows.leads shows.claim shows.share (λ q' e. let no : Closing q member cleared (Some x) ≡ Inside q' = sym is ∙ e in absurd cc))
+              refl refl (inr refl) refl,
           (refl, refl, f.small),
         );
   }

@@ -14,13 +14,13 @@ use Rattle.spindle_parts.proofs.Soundness.{sound}
 use Rattle.spindle_rounds.specs.declared.round_table.view.Standing.TheVariants.{Inside}
 use Rattle.spindle_rounds.specs.declared.round_table.view.View.{View}
 use Rattle.spindle_rounds.specs.RoundSlots.{Discipline, Lawful}
-use Rattle.spindle_rounds.specs.RoundShown.{Began, deeds, Stands, Counters, IsWithin, home_of}
+use Rattle.spindle_rounds.specs.RoundShown.{Began, deeds, Stands, Counters, IsWithin, IsShare}
 use Rattle.spindle_rounds.specs.Words.{remainder_at, range_at, words_of, high_half, start_of}
 use Rattle.spindle_rounds.specs.RoundSteps.{round_of, beginning, claiming}
 use Rattle.spindle_rounds.specs.RoundTells.{ClaimTells}
 use Rattle.spindle_rounds.specs.RoundConditions.{MayClaim}
 use Rattle.spindle_rounds.specs.RoundRuns.{Exchange, claim_of}
-use Rattle.spindle_rounds.proofs.RoundMoves.{Rule, SeatOf, Before, begins_by, moves_with, still_laid}
+use Rattle.spindle_rounds.proofs.RoundMoves.{Rule, SeatOf, Before, begins_by, moves_with, still_laid, shown, knows_on}
 use Rattle.spindle_rounds.proofs.RoundNumbers.{or_false, or_right, true_or, with_some, taken_first, then_begun, first_party, last_party, last_round, last_words}
 use Rattle.spindle_rounds.proofs.RoundNumbers.{was_free, range_taken, begun_here}
 
@@ -47,10 +47,10 @@ module _ {X N : Type 0} (D : Discipline X N) (law : Lawful D) (t slots id : ℕ)
       (carried_after me.1 a)
   takes run s b hit = let r = b.rule in let at = b.at in let S : State = state run in let h = sound run r.is_run in let seat = r.seats id me.0 at in
       let shows = seat.0 in let st = subst (Stands S id) inside_q shows.stands in let knows = shows.inside q inside_q in
-      let shown : S.published ≡ Some n = (knows.number n known).0 in let c = r.words.counters n shown in let is_free = take.free S s.words c hit in
+      let is_shown : S.published ≡ Some n = (knows.number n known).0 in let c = r.words.counters n is_shown in let is_free = take.free S s.words c hit in
       let S' : State = then_begun S id k some take.mine in
       let b' = law.begins S S' s.homes s.views id me.0 me.1 k claimer r.slots
-      (begun_here S id k some take.mine run refl r.is_run n (is_free k take.mine) shown) at (λ o. (refl, refl, refl)) in
+      (begun_here S id k some take.mine run refl r.is_run n (is_free k take.mine) is_shown) at (λ o. (refl, refl, refl)) in
       let first = first_party S id k some take.mine in let last = last_party S id k some take.mine in
       let own : S.round ≡ round_of me.0.standing = st.1 ∙ sym (ap round_of inside_q) in
       let took : Allowed S (Take id some) = ((λ z. cc), st.0, knows.seen ∙ unseen, (k, take.mine), is_free) in
@@ -67,32 +67,18 @@ module _ {X N : Type 0} (D : Discipline X N) (law : Lawful D) (t slots id : ℕ)
         b'.1,
         b'.2,
         moves_with D t run s r i new id me (claimer b'.0) b'.1 (Begin id k ∷ Take id some ∷ []) at (refl, (refl, tt)) (began, (took, r.is_run))
-            (last_words S id k some take.mine t s.words i new take.high r.words (λ m e. let same : n ≡ m = (let z = shown in cc) in
+            (last_words S id k some take.mine t s.words i new take.high r.words (λ m e. let same : n ≡ m = (let z = is_shown in cc) in
             subst (Counters t S' (set s.words i new)) same (take.less S id s.words c r.words.wide hit)))
-            record {
-              stands = subst (Stands S' id) (sym inside_q) (ap (λ (z : Party). z.status) last ∙ st.0, st.1);
-              leads = shows.leads;
-              claim = ap (λ (z : Party). z.running) last;
-              share = λ j. subst (λ (f : ℕ → Bool). ((f j ≡ true) → (from ≤ j) × (j < to)) × ((from ≤ j) × (j < to) → f j ≡ true))
-                  (sym (ap (λ (z : Party). z.taken) last))
-                  (dite (ℕ_discrete j k)
-                  (λ e. ((λ on. let a = put_here y k false in let b = ap (put y k false) e in absurd cc), (λ z. absurd (((take.kept j).1 z).1 e))))
-                  (λ apart. (
-                    (λ on. ⊎_elim (λ (z : some j ≡ true). (take.kept j).0 z apart)
-                        (λ (z : some j ≡ false). absurd (none_held j (sym (or_false ((party S id).taken j) (some j) z) ∙
-                        (sym (put_else y k false j apart) ∙ on)))) (true_or (some j))),
-                    (λ z. put_else y k false j apart ∙ or_right ((party S id).taken j) (some j) ((take.kept j).1 z).0),
-                  )));
-              inside = λ a e. record {
-                number = λ m e. let old = knows.number m e in (old.0, ap (λ (z : Round). z.stoppable) (last_round S id k some take.mine) ∙ old.1);
-                unpublished = knows.unpublished;
-                seen = ap (λ (z : Round). z.seen id) (last_round S id k some take.mine) ∙ knows.seen;
-                emptied = λ m j e l. ⊎_elim (λ (u : (a : ℕ) → Free S a → home_of me.0.threads m a ≡ j → ⊥). inl
-                    (λ a f. u a (was_free S id k some take.mine a f).1)) (λ u. inr (ap (λ (z : Round). z.stopped) (last_round S id k some take.mine) ∙ u))
-                    (knows.emptied m j e l);
-                unread = knows.unread;
-              };
-            }
+            (shown (subst (Stands S' id) (sym inside_q) (ap (λ (z : Party). z.status) last ∙ st.0, st.1)) shows.leads (ap (λ (z : Party). z.running) last)
+            (subst (λ (f : ℕ → Bool). IsShare f from to) (sym (ap (λ (z : Party). z.taken) last)) (λ j. dite (ℕ_discrete j k)
+            (λ e. ((λ on. let a = put_here y k false in let b = ap (put y k false) e in absurd cc), (λ z. absurd (((take.kept j).1 z).1 e))))
+            (λ apart. (
+              (λ on. ⊎_elim (λ (z : some j ≡ true). (take.kept j).0 z apart)
+                  (λ (z : some j ≡ false). absurd (none_held j (sym (or_false ((party S id).taken j) (some j) z) ∙ (sym (put_else y k false j apart) ∙ on))))
+                  (true_or (some j))),
+              (λ z. put_else y k false j apart ∙ or_right ((party S id).taken j) (some j) ((take.kept j).1 z).0),
+            ))))
+            (λ a e. knows_on knows refl (last_round S id k some take.mine) refl refl refl (λ j f. (was_free S id k some take.mine j f).1)))
             ((λ z. Began (sym own z) k ∷ seat.1 z) ∙ sym (ap (λ (b : Bool). (if b then Began S.round k ∷ [] else []) ++
             ((if b then [] else []) ++ deeds id run)) (eq-eqb id id refl))) refl
             (still_laid D t run s r i new id me (claimer b'.0) (Begin id k ∷ Take id some ∷ []) at (inr refl) refl refl (λ _. refl) (inr (λ z. cc))) b'.3,

@@ -31,9 +31,9 @@ use Rattle.spindle_rounds.specs.RoundTells.{ExitTells, ClearTells, EndTells}
 use Rattle.spindle_rounds.specs.RoundConditions.{MayExit}
 use Rattle.spindle_rounds.specs.RoundRuns.{Exchange, Store}
 use Rattle.spindle_rounds.proofs.RoundQuiet.{quiet_run}
-use Rattle.spindle_rounds.proofs.RoundMoves.{Rule, SeatOf, Before, exchanges, stores, moves, moves_with, stands_on}
+use Rattle.spindle_rounds.proofs.RoundMoves.{Rule, SeatOf, Before, exchanges, stores, moves, moves_with, stands_on, shown, knows_none, reseated}
 use Rattle.spindle_rounds.proofs.RoundWords.{word_fields, status_words, by_equal}
-use Rattle.spindle_rounds.proofs.KeptBarrier.{share_of, idle_seat, no_deed}
+use Rattle.spindle_rounds.proofs.KeptBarrier.{idle_seat, no_deed}
 
 -- nothing is published before or after a step on the barrier word
 pub hidden_words : (t : ℕ) (s s' : State) (ws : List ℕ) (x : ℕ) → Words t s ws → s.published ≡ None → s'.published ≡ None → x ≡ word s' → Words t s'
@@ -47,17 +47,6 @@ hidden_words t s s' ws x w hidden hides is = let wide = w.wide in record {
   stopped = λ some. absurd (some hides);
   counters = λ n e. absurd cc;
   barren = λ _. hides;
-}
-
--- the seat of a party that has gone out
-gone : {N : Type 0} (s s' : State) (p : ℕ) (v : View N) (st : Standing) (x : Trace Kind) → Shows s p v → party s' p ≡ with_status Out (party s p)
-    → Stands s' p st → ((q : ℕ) → st ≢ Inside q) → Shows s' p (noted x (outside st v))
-gone s s' p v st x w look stands out = record {
-  stands = stands;
-  leads = w.leads;
-  claim = ap (λ (z : Party). z.running) look ∙ w.claim;
-  share = share_of v (party s p) (party s' p) (ap (λ (z : Party). z.taken) look) w.share;
-  inside = λ q e. absurd (out q e);
 }
 
 module _ {X N : Type 0} (D : Discipline X N) (law : Lawful D) (t : ℕ) where
@@ -102,8 +91,8 @@ module _ {X N : Type 0} (D : Discipline X N) (law : Lawful D) (t : ℕ) where
                 (sym (le-ltb 1 (most_of old) (omega arith)))
                 (by_equal (count_of old) 1 (λ z. Shows on id (noted (trace barrier_at kind.Exit old (exit_word old))
                 (outside (if z && false then Closing (round_of me.0.standing) false false None else Away) me.0)))
-                (λ _. gone S on id me.0 Away _ shows look (ap (λ (z : Party). z.status) look, λ e. cc) (λ _ e. cc))
-                (λ _. gone S on id me.0 Away _ shows look (ap (λ (z : Party). z.status) look, λ e. cc) (λ _ e. cc))),
+                (λ _. reseated _ Away _ shows look (ap (λ (z : Party). z.status) look, λ e. cc) (λ _ e. cc))
+                (λ _. reseated _ Away _ shows look (ap (λ (z : Party). z.status) look, λ e. cc) (λ _ e. cc))),
             refl,
           ))
           (λ others. let more : most_of old ≢ 1 = (λ e. others (omega arith)) in
@@ -115,7 +104,7 @@ module _ {X N : Type 0} (D : Discipline X N) (law : Lawful D) (t : ℕ) where
                 (sym (lt-ltb 1 (most_of old) (omega arith)))
                 (by_equal (count_of old) 1 (λ z. Shows s' id (noted (trace barrier_at kind.Exit old (exit_word old))
                 (outside (if z && true then Closing (round_of me.0.standing) false false None else Away) me.0)))
-                (λ one. gone S s' id me.0 (Closing (round_of me.0.standing) false false None) _ shows look (
+                (λ one. reseated _ (Closing (round_of me.0.standing) false false None) _ shows look (
                   ap (λ (z : Bool). if z then Some id else S.closer) (eq-eqb (inside ps) 0 (omega arith)),
                   own,
                   (λ z. absurd cc),
@@ -123,7 +112,7 @@ module _ {X N : Type 0} (D : Discipline X N) (law : Lawful D) (t : ℕ) where
                       (λ (z : Party). z.status) look,
                   λ n z. absurd cc,
                 ) (λ _ e. cc))
-                (λ some. gone S s' id me.0 Away _ shows look (
+                (λ some. reseated _ Away _ shows look (
                   ap (λ (z : Party). z.status) look,
                   λ e. let a = ap (λ (z : Bool). if z then Some id else S.closer)
                       (ne_eqb (inside ps) 0 (λ z. some (omega arith))) in cc,
@@ -148,26 +137,11 @@ module _ {X N : Type 0} (D : Discipline X N) (law : Lawful D) (t : ℕ) where
       over : (S : State) → Sound S → Shows S id me.0 → (S.closer ≡ Some id) → S.published ≡ None → S.round ≡ q → (m : Bool) → (party S id).status ≡
           (if m then Arrived else Out) → let x = after_end me.0.leader (Closing q m true (Some n)) in
           Shows (after S (End id)) id (noted (trace barrier_at kind.End (turned_word n) (turned_word n)) (standing x.1 x.0 me.0))
-      over S h shows c hidden own true st = let look = look_wake S.parties id in record {
-        stands = (ap (λ (z : Party). z.status) look ∙ ap waking st, omega arith);
-        leads = shows.leads;
-        claim = ap (λ (z : Party). z.running) look ∙ shows.claim;
-        share = share_of me.0 (party S id) (party (after S (End id)) id) (ap (λ (z : Party). z.taken) look) shows.share;
-        inside = λ _ _. record {
-          number = λ n e. absurd cc;
-          unpublished = λ lead. (shows.leads.0 lead, hidden);
-          seen = ap (λ (r : Round). r.seen id) (h.later (S.round + 1) (omega arith));
-          emptied = λ n i k l. absurd l;
-          unread = λ _. refl;
-        };
-      }
-      over S h shows c hidden own false st = let look = look_wake S.parties id in record {
-        stands = (ap (λ (z : Party). z.status) look ∙ ap waking st, λ e. cc);
-        leads = shows.leads;
-        claim = ap (λ (z : Party). z.running) look ∙ shows.claim;
-        share = share_of me.0 (party S id) (party (after S (End id)) id) (ap (λ (z : Party). z.taken) look) shows.share;
-        inside = λ q e. absurd cc;
-      }
+      over S h shows c hidden own true st = let look = look_wake S.parties id in
+          reseated _ _ _ shows look (ap (λ (z : Party). z.status) look ∙ ap waking st, omega arith)
+          (λ _ _. knows_none me.0.leader false (λ lead. (shows.leads.0 lead, hidden)) (ap (λ (r : Round). r.seen id) (h.later (S.round + 1) (omega arith))))
+      over S h shows c hidden own false st = let look = look_wake S.parties id in
+          reseated _ _ _ shows look (ap (λ (z : Party). z.status) look ∙ ap waking st, λ e. cc) (λ q e. absurd cc)
 
       keeps_stored : (lead m : Bool) → (after_end lead (Closing q m true (Some n))).0.stored ≡ []
       keeps_stored lead true = refl
@@ -235,13 +209,8 @@ module _ {X N : Type 0} (D : Discipline X N) (law : Lawful D) (t : ℕ) where
             counters = λ n e. absurd cc;
             barren = λ _. refl;
           }
-          record {
-            stands = subst (Stands (after S (Clear id)) id) (sym is) (st.0, st.1, (λ _. refl), st.3, st.4);
-            leads = shows.leads;
-            claim = shows.claim;
-            share = shows.share;
-            inside = λ q' e. let no : Closing q member true read ≡ Inside q' = sym is ∙ e in absurd cc;
-          }
+          (shown (subst (Stands (after S (Clear id)) id) (sym is) (st.0, st.1, (λ _. refl), st.3, st.4)) shows.leads shows.claim shows.share
+          (λ q' e. let no : Closing q member true read ≡ Inside q' = sym is ∙ e in absurd cc))
           (seat.1 ∙ sym (no_deed id (deeds id run))) refl
           (λ v e. ⊎_elim (λ (z : (0 ≡ id) × (w ≡ v)). let l = r.lays me.0 (subst (λ (a : ℕ). get_elem? s.views a ≡ some me.0) (sym z.0) at) in
           subst (Laid t (after S (Clear id)) (set s.words published_at 0)) z.1

@@ -14,13 +14,13 @@ use Rattle.spindle_parts.proofs.Parties.{put_here, put_all, look_here, look_else
 use Rattle.spindle_parts.proofs.Soundness.{Sound, sound}
 use Rattle.spindle_rounds.specs.declared.round_table.view.View.{View}
 use Rattle.spindle_rounds.specs.RoundSlots.{Discipline, Lawful, Finishes}
-use Rattle.spindle_rounds.specs.RoundShown.{Ended, ended_in, deeds, Stands, Words, home_of, IsListed, IsEmptied}
+use Rattle.spindle_rounds.specs.RoundShown.{Ended, ended_in, deeds, Stands, Knows, Words, IsListed, IsEmptied}
 use Rattle.spindle_rounds.specs.Words.{finished_at, stopped_at, remainder_at, range_at, most_jobs}
 use Rattle.spindle_rounds.specs.RoundSteps.{round_of, number_or, list_all, list_finished, finishing}
 use Rattle.spindle_rounds.specs.RoundTells.{FinishTells}
 use Rattle.spindle_rounds.specs.RoundConditions.{MayFinish}
 use Rattle.spindle_rounds.specs.RoundRuns.{Addition}
-use Rattle.spindle_rounds.proofs.RoundMoves.{SeatOf, moves_with, still_laid}
+use Rattle.spindle_rounds.proofs.RoundMoves.{SeatOf, moves_with, still_laid, shown, knowing, knows_on}
 use Rattle.spindle_rounds.proofs.RoundWords.{by_equal, counts_stay, word_stays, counters_stay}
 use Rattle.spindle_rounds.proofs.RoundChanges.{changed_words, some_published}
 
@@ -175,8 +175,8 @@ module _ {X N : Type 0} (D : Discipline X N) (law : Lawful D) (t : ℕ) where
         let shows = (r.seats id me.0 at).0 in let st = subst (Stands S id) may.0.1 shows.stands in let knows = shows.inside may.0.0 may.0.1 in
         let runs : (party S id).running ≡ Some k = shows.claim ∙ may.1 in let S' : State = done S id k runs in let w : View N = finishing x me.0 in
         let ran = (h.work.fits id).ran k runs in
-        let below : k < (now S).jobs = h.work.below k (λ e. cc) in let shown : S.published ≢ None = some_published S h id st.0 (omega arith) in
-        let few = few_finished S h (few_jobs S h shown) in let is = r.words.finished shown in
+        let below : k < (now S).jobs = h.work.below k (λ e. cc) in let is_shown : S.published ≢ None = some_published S h id st.0 (omega arith) in
+        let few = few_finished S h (few_jobs S h is_shown) in let is = r.words.finished is_shown in
         let new : (x + 1) % 18446744073709551616 ≡ length (now S).finished + 1 = omega arith in
         let alone : (p : ℕ) (u : View N) → p ≢ id → get_elem? s.views p ≡ some u → u.claim ≢ Some k =
         (λ p u n e c. let a = (h.work.fits p).ran k ((r.seats p u e).0.claim ∙ c) in let b : Ran p ≡ Ran id = sym a ∙ ran in let d : p ≡ id = cc in n d) in
@@ -187,29 +187,19 @@ module _ {X N : Type 0} (D : Discipline X N) (law : Lawful D) (t : ℕ) where
           D.gives,
           g.0,
           moves_with D t run s r finished_at ((x + 1) % 18446744073709551616) id me w D.gives (Finish id ∷ []) at (refl, tt) ((k, runs), r.is_run)
-              (words_after S id k runs t s.words ((x + 1) % 18446744073709551616) r.words shown new)
-              record {
-                stands = subst (Stands S' id) (sym may.0.1) (ap (λ (z : Party). z.status) look ∙ st.0, st.1);
-                leads = shows.leads;
-                claim = ap (λ (z : Party). z.running) look;
-                share = λ j. subst (λ (z : Bool). ((z ≡ true) → (me.0.from ≤ j) × (j < me.0.to)) × ((me.0.from ≤ j) × (j < me.0.to) → z ≡ true))
-                    (sym (taken_same S id k runs id j)) (shows.share j);
-                inside = λ a e. record {
-                  number = λ m e. let old = knows.number m e in (old.0, ap (λ (z : Round). z.stoppable) round ∙ old.1);
-                  unpublished = knows.unpublished;
-                  seen = ap (λ (z : Round). z.seen id) round ∙ knows.seen;
-                  emptied = λ m j e l. listed_finished me.0.known.number m (x + 1) me.0.threads me.0.known.emptied (IsEmptied me.0.threads m S') e
-                      (λ last i. inl (λ a f _. none_free S' (sound (Finish id ∷ run) ((k, runs), r.is_run))
-                      (all_done S id k runs x m is last (h.gate.shown m (knows.number m e).0).0) a f))
-                      (λ i' l'. ⊎_elim (λ (u : (a : ℕ) → Free S a → home_of me.0.threads m a ≡ i' → ⊥). inl (λ a f. u a (free_back S id k runs a f)))
-                      (λ u. inr (ap (λ (z : Round). z.stopped) round ∙ u)) (knows.emptied m i' e l')) j l;
-                  unread = λ e. unlisted_finished me.0.known.number (x + 1) me.0.threads me.0.known.emptied e (knows.unread e);
-                };
-              }
+              (words_after S id k runs t s.words ((x + 1) % 18446744073709551616) r.words is_shown new)
+              (shown (subst (Stands S' id) (sym may.0.1) (ap (λ (z : Party). z.status) look ∙ st.0, st.1)) shows.leads (ap (λ (z : Party). z.running) look)
+              (λ j. subst (λ (z : Bool). ((z ≡ true) → (me.0.from ≤ j) × (j < me.0.to)) × ((me.0.from ≤ j) × (j < me.0.to) → z ≡ true))
+              (sym (taken_same S id k runs id j)) (shows.share j))
+              (λ a e. let old : Knows me.0.threads S' id me.0.known = knows_on knows refl round refl refl refl (free_back S id k runs) in knowing old.number old.unpublished old.seen
+              (λ m j e l. listed_finished me.0.known.number m (x + 1) me.0.threads me.0.known.emptied (IsEmptied me.0.threads m S') e
+              (λ last i. inl (λ a f _. none_free S' (sound (Finish id ∷ run) ((k, runs), r.is_run))
+              (all_done S id k runs x m is last (h.gate.shown m (knows.number m e).0).0) a f)) (λ i' l'. old.emptied m i' e l') j l)
+              (λ e. unlisted_finished me.0.known.number (x + 1) me.0.threads me.0.known.emptied e (knows.unread e))))
               ((λ z. Ended (sym own z) (number_or (may.1 z)) ∷ (r.seats id me.0 at).1 z) ∙ sym
               (ap (λ (b : Bool). (if b then ended_in S.round (party S id).running else []) ++ deeds id run) (eq-eqb id id refl) ∙ ap
               (λ (o : Option ℕ). ended_in S.round o ++ deeds id run) runs)) refl
-              (still_laid D t run s r finished_at ((x + 1) % 18446744073709551616) id me w (Finish id ∷ []) at (inr refl) refl refl (λ _. refl) (inr shown))
+              (still_laid D t run s r finished_at ((x + 1) % 18446744073709551616) id me w (Finish id ∷ []) at (inr refl) refl refl (λ _. refl) (inr is_shown))
               g.1,
           (refl, refl),
         );

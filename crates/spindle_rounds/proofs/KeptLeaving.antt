@@ -18,9 +18,9 @@ use Rattle.spindle_rounds.specs.RoundTells.{LeaveTells}
 use Rattle.spindle_rounds.specs.declared.round_table.view.Standing.{Standing}
 use Rattle.spindle_rounds.specs.RoundConditions.{MayLeave, HasSense}
 use Rattle.spindle_rounds.specs.RoundRuns.{Exchange}
-use Rattle.spindle_rounds.proofs.RoundMoves.{Rule, SeatOf, Before, exchanges, moves}
+use Rattle.spindle_rounds.proofs.RoundMoves.{Rule, SeatOf, Before, exchanges, moves, reseated}
 use Rattle.spindle_rounds.proofs.RoundWords.{word_fields, status_words}
-use Rattle.spindle_rounds.proofs.KeptBarrier.{share_of, no_deed, none_of}
+use Rattle.spindle_rounds.proofs.KeptBarrier.{no_deed, none_of}
 
 -- with a member in there is no closer
 still_open : (s : State) → Sound s → 0 < inside s.parties → s.closer ≡ None
@@ -52,13 +52,7 @@ module _ {X N : Type 0} (D : Discipline X N) (law : Lawful D) (t : ℕ) where
           let c₁ = total_put weight_member refl S.parties id (with_status Out (party S id)) in let b₀ = ap is_in st.0 in let b₁ = ap is_member st.0 in
           moves D law t run s r barrier_at (old - one_member) id me (leaving x me.0) (Leave id ∷ []) at (refl, tt) (tt, tt) (refl, refl, refl) (ok, r.is_run)
           (status_words t S s.words id (old - one_member) Out S.closer r.words (omega arith))
-          record {
-            stands = (ap (λ (z : Party). z.status) look, λ e. cc);
-            leads = shows.leads;
-            claim = ap (λ (z : Party). z.running) look ∙ shows.claim;
-            share = share_of me.0 (party S id) (party (after S (Leave id)) id) (ap (λ (z : Party). z.taken) look) shows.share;
-            inside = λ r e. absurd cc;
-          }
+          (reseated _ _ _ shows look (ap (λ (z : Party). z.status) look, λ e. cc) (λ r e. absurd cc))
           (seat.1 ∙ sym (no_deed id (deeds id run))) refl (inl refl) refl refl (inl (omega arith))
 
   -- the same, the word being computed elsewhere

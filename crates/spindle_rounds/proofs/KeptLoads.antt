@@ -19,7 +19,7 @@ use Rattle.spindle_rounds.specs.Words.{barrier_at, published_at, remainder_at, r
 use Rattle.spindle_rounds.specs.RoundSteps.{loading, learning, list_empty, reading, searching, reading_remainder}
 use Rattle.spindle_rounds.specs.RoundTells.{LoadTells, LearnTells, SearchTells, RemainderReadTells, RecallTells}
 use Rattle.spindle_rounds.specs.RoundRuns.{PlainLoad}
-use Rattle.spindle_rounds.proofs.RoundMoves.{Rule, SeatOf, turns, stays, noted_shows, untrue}
+use Rattle.spindle_rounds.proofs.RoundMoves.{Rule, SeatOf, turns, stays, noted_shows, untrue, shown, knowing}
 use Rattle.spindle_rounds.proofs.RoundWords.{by_less, by_equal, word_fields}
 
 stopped_or : (b : Bool) → (b ≡ true) ⊎ (b ≡ false)
@@ -93,26 +93,17 @@ module _ {X N : Type 0} (D : Discipline X N) (law : Lawful D) (t : ℕ) where
       let at = b.at in let x : ℕ = get_or s.words published_at 0 in let S : State = state run in let h = sound run r.is_run in
       let shows = (r.seats id me.0 at).0 in
       stays D law t run s r published_at id me (learning x me.0) at (refl, refl, refl)
-      record {
-        stands = shows.stands;
-        leads = shows.leads;
-        claim = shows.claim;
-        share = shows.share;
-        inside = λ q e. let k = shows.inside q e in let st = subst (Stands S id) e shows.stands in record {
-          number = λ n. by_equal x 0 (λ b. (if b then None else Some (x % high_half)) ≡ Some n → (S.published ≡ Some n) ×
-              ((now S).stoppable ≡ nat_lt most_jobs x)) (λ _ z. absurd cc)
-              (λ not_zero z. read S.published (now S).stoppable x n r.words.published not_zero (λ m y. let a = h.gate.shown m y in (a.1, a.2)) z);
-          unpublished = k.unpublished;
-          seen = by_less most_jobs x (λ b. (now S).seen id ≡ (if b then me.0.known.seen_stop else false)) (λ _. k.seen)
-              (λ le. untrue ((now S).seen id) (λ saw. plain S h st.0 x r.words.published le saw));
-          emptied = λ n i e' l. still_empty k n i (by_equal x 0 (λ b. (if b then None else Some (x % high_half)) ≡ Some n → S.published ≡ Some n)
-              (λ _ z. absurd cc)
-              (λ not_zero z. (read S.published (now S).stoppable x n r.words.published not_zero (λ m y. let a = h.gate.shown m y in (a.1, a.2)) z).0) e') l;
-          unread = by_equal x 0 (λ b. (if b then None else Some (x % high_half)) ≡ None → me.0.known.emptied ≡ [])
-              (λ zero_read _. unread_yet k (hidden S.published (now S).stoppable x r.words.published zero_read (λ m y. (h.gate.shown m y).1)))
-              (λ _ z. absurd cc);
-        };
-      } refl refl (inr refl) refl)
+      (shown shows.stands shows.leads shows.claim shows.share (λ q e. let k = shows.inside q e in let st = subst (Stands S id) e shows.stands in knowing
+      (λ n. by_equal x 0 (λ b. (if b then None else Some (x % high_half)) ≡ Some n → (S.published ≡ Some n) × ((now S).stoppable ≡ nat_lt most_jobs x))
+      (λ _ z. absurd cc) (λ not_zero z. read S.published (now S).stoppable x n r.words.published not_zero (λ m y. let a = h.gate.shown m y in (a.1, a.2)) z))
+      k.unpublished
+      (by_less most_jobs x (λ b. (now S).seen id ≡ (if b then me.0.known.seen_stop else false)) (λ _. k.seen)
+      (λ le. untrue ((now S).seen id) (λ saw. plain S h st.0 x r.words.published le saw)))
+      (λ n i e' l. still_empty k n i (by_equal x 0 (λ b. (if b then None else Some (x % high_half)) ≡ Some n → S.published ≡ Some n) (λ _ z. absurd cc)
+      (λ not_zero z. (read S.published (now S).stoppable x n r.words.published not_zero (λ m y. let a = h.gate.shown m y in (a.1, a.2)) z).0) e') l)
+      (by_equal x 0 (λ b. (if b then None else Some (x % high_half)) ≡ None → me.0.known.emptied ≡ [])
+      (λ zero_read _. unread_yet k (hidden S.published (now S).stoppable x r.words.published zero_read (λ m y. (h.gate.shown m y).1))) (λ _ z. absurd cc))))
+      refl refl (inr refl) refl)
     where
       read : (o : Option ℕ) (b : Bool) (x n : ℕ) → x ≡ number_of o b → x ≢ 0 → ((m : ℕ) → o ≡ Some m → (2 ≤ m) × (m ≤ most_jobs)) → Some
           (x % high_half) ≡ Some n → (o ≡ Some n) × (b ≡ nat_lt most_jobs x)
@@ -156,20 +147,11 @@ module _ {X N : Type 0} (D : Discipline X N) (law : Lawful D) (t : ℕ) where
   reading_shows : (id : ℕ) (me : SeatOf D t) (word i : ℕ) (empty : Bool) (run : List Event) (s : table.State X (View N)) (r : Rule D t run s)
       → get_elem? s.views id ≡ some me.0 → ((n : ℕ) → (state run).published ≡ Some n → empty ≡ true → IsEmptied t n (state run) i)
       → Shows (state run) id (reading word i empty (get_or s.words word 0) me.0)
-  reading_shows id me word i empty run s r at teaches = let S : State = state run in let seat = r.seats id me.0 at in let shows = seat.0 in record {
-    stands = shows.stands;
-    leads = shows.leads;
-    claim = shows.claim;
-    share = shows.share;
-    inside = λ q e. let k = shows.inside q e in record {
-      number = k.number;
-      unpublished = k.unpublished;
-      seen = k.seen;
-      emptied = λ n j e' l. listed me.0.known.number n i empty me.0.known.emptied (IsEmptied me.0.threads n S) e'
-          (λ z. subst (λ (a : ℕ). IsEmptied a n S i) (sym seat.2) (teaches n (k.number n e').0 z)) (λ j' l'. k.emptied n j' e' l') j l;
-      unread = λ z. unlisted me.0.known.number i empty me.0.known.emptied z (k.unread z);
-    };
-  }
+  reading_shows id me word i empty run s r at teaches = let S : State = state run in let seat = r.seats id me.0 at in let shows = seat.0 in
+      shown shows.stands shows.leads shows.claim shows.share (λ q e. let k = shows.inside q e in knowing k.number k.unpublished k.seen
+      (λ n j e' l. listed me.0.known.number n i empty me.0.known.emptied (IsEmptied me.0.threads n S) e'
+      (λ z. subst (λ (a : ℕ). IsEmptied a n S i) (sym seat.2) (teaches n (k.number n e').0 z)) (λ j' l'. k.emptied n j' e' l') j l)
+      (λ z. unlisted me.0.known.number i empty me.0.known.emptied z (k.unread z)))
 
   -- once a range is read
   pub search_shows : (id : ℕ) (me : SeatOf D t) (i : ℕ) → i < t → (run : List Event) (s : table.State X (View N)) → Rule D t run s

@@ -11,13 +11,13 @@ use Rattle.spindle_parts.proofs.Parties.{put_here, put_else, put_all, look_here,
 use Rattle.spindle_parts.proofs.Soundness.{Sound, sound}
 use Rattle.spindle_rounds.specs.declared.round_table.view.View.{View}
 use Rattle.spindle_rounds.specs.RoundSlots.{Discipline, Lawful, Begins}
-use Rattle.spindle_rounds.specs.RoundShown.{Began, deeds, Stands, Words, home_of}
+use Rattle.spindle_rounds.specs.RoundShown.{Began, deeds, Stands, Words, IsShare}
 use Rattle.spindle_rounds.specs.Words.{finished_at, stopped_at, remainder_at, range_at}
 use Rattle.spindle_rounds.specs.RoundSteps.{round_of, sharing}
 use Rattle.spindle_rounds.specs.RoundTells.{ShareTells}
 use Rattle.spindle_rounds.specs.RoundConditions.{MayBegin}
 use Rattle.spindle_rounds.specs.RoundRuns.{Store}
-use Rattle.spindle_rounds.proofs.RoundMoves.{SeatOf, moves_with, still_laid, some_of}
+use Rattle.spindle_rounds.proofs.RoundMoves.{SeatOf, moves_with, still_laid, some_of, shown, knows_on}
 use Rattle.spindle_rounds.proofs.RoundWords.{counts_stay, word_stays, counters_stay}
 use Rattle.spindle_rounds.proofs.RoundChanges.{changed_words, some_published}
 
@@ -108,29 +108,16 @@ module _ {X N : Type 0} (D : Discipline X N) (law : Lawful D) (t : ℕ) where
           b.2,
           moves_with D t run s r word_at new id me (w b.0) b.1 (Begin id k ∷ []) at (refl, tt) ((st.0, knows.seen ∙ may.2, shows.claim ∙ may.1, held), r.is_run)
               (words_after S h id k held t word_at new s.words (omega arith) r.words)
-              record {
-                stands = subst (Stands S' id) (sym may.0.1) (ap (λ (z : Party). z.status) last ∙ st.0, st.1);
-                leads = shows.leads;
-                claim = ap (λ (z : Party). z.running) last;
-                share = λ j. let old = shows.share j in subst (λ (f : ℕ → Bool). ((f j ≡ true) → (k + 1 ≤ j) × (j < me.0.to)) ×
-                    ((k + 1 ≤ j) × (j < me.0.to) → f j ≡ true)) (sym (ap (λ (z : Party). z.taken) last))
-                    (dite (ℕ_discrete j k)
-                    (λ e. (
-                      (λ on. let a = put_here (party S id).taken k false in let b = ap (put (party S id).taken k false) e in
-                          absurd cc),
-                      (λ z. let z₀ = z.0 in absurd (omega arith)),
-                    ))
-                    (λ apart. let same = put_else (party S id).taken k false j apart in
-                    ((λ on. let z = old.0 (sym same ∙ on) in let z₀ = z.0 in (omega arith, z.1)), (λ z. let z₀ = z.0 in same ∙ old.1 (omega arith, z.1)))));
-                inside = λ a e. record {
-                  number = λ m e. let old = knows.number m e in (old.0, ap (λ (z : Round). z.stoppable) round ∙ old.1);
-                  unpublished = knows.unpublished;
-                  seen = ap (λ (z : Round). z.seen id) round ∙ knows.seen;
-                  emptied = λ m j e l. ⊎_elim (λ (u : (a : ℕ) → Free S a → home_of me.0.threads m a ≡ j → ⊥). inl (λ a f. u a (free_back S h id k held a f)))
-                      (λ u. inr (ap (λ (z : Round). z.stopped) round ∙ u)) (knows.emptied m j e l);
-                  unread = knows.unread;
-                };
-              }
+              (shown (subst (Stands S' id) (sym may.0.1) (ap (λ (z : Party). z.status) last ∙ st.0, st.1)) shows.leads (ap (λ (z : Party). z.running) last)
+              (subst (λ (f : ℕ → Bool). IsShare f (k + 1) me.0.to) (sym (ap (λ (z : Party). z.taken) last)) (λ j. let old = shows.share j in
+              dite (ℕ_discrete j k)
+              (λ e. (
+                (λ on. let a = put_here (party S id).taken k false in let b = ap (put (party S id).taken k false) e in absurd cc),
+                (λ z. let z₀ = z.0 in absurd (omega arith)),
+              ))
+              (λ apart. let same = put_else (party S id).taken k false j apart in
+              ((λ on. let z = old.0 (sym same ∙ on) in let z₀ = z.0 in (omega arith, z.1)), (λ z. let z₀ = z.0 in same ∙ old.1 (omega arith, z.1))))))
+              (λ a e. knows_on knows refl round refl refl refl (free_back S h id k held)))
               ((λ z. Began (sym own z) k ∷ seat.1 z) ∙ sym (ap (λ (b : Bool). (if b then Began S.round k ∷ [] else []) ++ deeds id run)
               (eq-eqb id id refl))) refl
               (still_laid D t run s r word_at new id me (w b.0) (Begin id k ∷ []) at (inr refl) refl refl (λ _. refl) (inr is_shown)) b.3,

@@ -22,7 +22,7 @@ use Rattle.spindle_rounds.specs.RoundSteps.{stopping, seeing, putting_back, roun
 use Rattle.spindle_rounds.specs.RoundTells.{StopTells, SeeTells, PutBackTells}
 use Rattle.spindle_rounds.specs.RoundConditions.{MayStop, MaySee, MayPutBack}
 use Rattle.spindle_rounds.specs.RoundRuns.{Load, Store, Exchange}
-use Rattle.spindle_rounds.proofs.RoundMoves.{Rule, SeatOf, stores, exchanges, moves, stays, untrue}
+use Rattle.spindle_rounds.proofs.RoundMoves.{Rule, SeatOf, stores, exchanges, moves, stays, untrue, shown, knowing}
 use Rattle.spindle_rounds.proofs.RoundNumbers.{true_or}
 use Rattle.spindle_rounds.proofs.RoundWords.{counts_stay, word_stays, counters_stay}
 use Rattle.spindle_rounds.proofs.RoundChanges.{changed_words, some_published}
@@ -65,19 +65,9 @@ module _ {N : Type 0} (S : State) (id q : ℕ) (v : View N) (shows : Shows S id 
   -- the seat of the party that stops the round, or sees the stop
   pub sees_stop : (trail : List (Trace Kind)) → let w : View N = record v { known = record v.known { seen_stop = true }; trail = trail } in Shows with_seen id w
   sees_stop trail = let round = its_round S true (put (now S).seen id true) in let st = subst (Stands S id) inside_q shows.stands in
-      let knows = shows.inside q inside_q in record {
-        stands = subst (Stands with_seen id) (sym inside_q) (st.0, st.1);
-        leads = shows.leads;
-        claim = shows.claim;
-        share = shows.share;
-        inside = λ a e. record {
-          number = λ m e. let old = knows.number m e in (old.0, ap (λ (z : Round). z.stoppable) round ∙ old.1);
-          unpublished = knows.unpublished;
-          seen = ap (λ (z : Round). z.seen id) round ∙ put_here (now S).seen id true;
-          emptied = λ m j e l. inr (ap (λ (z : Round). z.stopped) round);
-          unread = knows.unread;
-        };
-      }
+      let knows = shows.inside q inside_q in shown (subst (Stands with_seen id) (sym inside_q) (st.0, st.1)) shows.leads shows.claim shows.share
+      (λ a e. knowing (λ m e. let old = knows.number m e in (old.0, ap (λ (z : Round). z.stoppable) round ∙ old.1)) knows.unpublished
+      (ap (λ (z : Round). z.seen id) round ∙ put_here (now S).seen id true) (λ m j e l. inr (ap (λ (z : Round). z.stopped) round)) knows.unread)
 
 module _ {X N : Type 0} (D : Discipline X N) (law : Lawful D) (t : ℕ) where
   pub halts : (slots id : ℕ) (me : SeatOf D t) (k : ℕ) → MayStop k me.0 → Store D t slots id me stopped_at 1 (Stop id ∷ []) StopTells
@@ -129,19 +119,8 @@ module _ {X N : Type 0} (D : Discipline X N) (law : Lawful D) (t : ℕ) where
           tt,
           subst (λ b. Rule D t ((if b then See id ∷ [] else []) ++ run) (stepped s stopped_at x id me.1 w keeps)) (sym (ap (λ (z : ℕ). z == 1) zero_read))
               (stays D law t run s r stopped_at id me w at (refl, refl, refl)
-              record {
-                stands = shows.stands;
-                leads = shows.leads;
-                claim = shows.claim;
-                share = shows.share;
-                inside = λ a e. record {
-                  number = knows.number;
-                  unpublished = knows.unpublished;
-                  seen = untrue ((now S).seen id) (λ e. let a = h.work.saw id e in cc) ∙ sym (ap (λ (z : ℕ). z == 1) zero_read);
-                  emptied = knows.emptied;
-                  unread = knows.unread;
-                };
-              }
+              (shown shows.stands shows.leads shows.claim shows.share (λ a e. knowing knows.number knows.unpublished
+              (untrue ((now S).seen id) (λ e. let a = h.work.saw id e in cc) ∙ sym (ap (λ (z : ℕ). z == 1) zero_read)) knows.emptied knows.unread))
               refl refl (inr refl) refl),
           (refl, refl, omega arith),
         )) (true_or (now S).stopped);
@@ -248,7 +227,7 @@ module _ {X N : Type 0} (D : Discipline X N) (law : Lawful D) (t : ℕ) where
       let S : State = state run in let h = sound run r.is_run in
       let seat = r.seats id me.0 at in let shows = seat.0 in let q = may.0.0 in let st = subst (Stands S id) may.0.1 shows.stands in
       let knows = shows.inside q may.0.1 in let seen : (now S).seen id ≡ true = knows.seen ∙ may.2 in
-      let stopped = h.work.saw id seen in let shown : S.published ≢ None = some_published S h id st.0 (h.work.stops stopped).1 in
+      let stopped = h.work.saw id seen in let is_shown : S.published ≢ None = some_published S h id st.0 (h.work.stops stopped).1 in
       let S' : State = given S h id me.0.from me.0.to shows.share in
       let y : Party = emptied S h id me.0.from me.0.to shows.share in let look = look_here S.parties id y in
       let w : View N = putting_back word_at (get_or s.words word_at 0) me.0 in let wide = r.words.wide in
@@ -265,18 +244,9 @@ module _ {X N : Type 0} (D : Discipline X N) (law : Lawful D) (t : ℕ) where
       ))
       (λ n e. given_counters S h id me.0.from me.0.to shows.share t n i old new s.words (r.words.counters n e) stopped low
       (omega arith) hit vacant start_is end_is tidy))
-      record {
-        stands = subst (Stands S' id) (sym may.0.1) (ap (λ (z : Party). z.status) look ∙ st.0, st.1);
-        leads = shows.leads;
-        claim = ap (λ (z : Party). z.running) look ∙ shows.claim;
-        share = λ j. subst (λ (f : ℕ → Bool). ((f j ≡ true) → (me.0.to ≤ j) × (j < me.0.to)) × ((me.0.to ≤ j) × (j < me.0.to) → f j ≡ true))
-            (sym (ap (λ (z : Party). z.taken) look)) ((λ e. absurd cc), (λ z. let z₀ = z.0 in let z₁ = z.1 in absurd (omega arith)));
-        inside = λ a e. record {
-          number = knows.number;
-          unpublished = knows.unpublished;
-          seen = knows.seen;
-          emptied = λ m j e l. inr stopped;
-          unread = knows.unread;
-        };
-      }
-      (seat.1 ∙ sym (no_deed id (deeds id run))) refl (inr refl) refl refl (inr shown))
+      (shown (subst (Stands S' id) (sym may.0.1) (ap (λ (z : Party). z.status) look ∙ st.0, st.1)) shows.leads
+      (ap (λ (z : Party). z.running) look ∙ shows.claim)
+      (subst (λ (f : ℕ → Bool). IsShare f me.0.to me.0.to) (sym (ap (λ (z : Party). z.taken) look))
+      (λ j. ((λ e. absurd cc), (λ z. let z₀ = z.0 in let z₁ = z.1 in absurd (omega arith)))))
+      (λ a e. knowing knows.number knows.unpublished knows.seen (λ m j e l. inr stopped) knows.unread))
+      (seat.1 ∙ sym (no_deed id (deeds id run))) refl (inr refl) refl refl (inr is_shown))

@@ -14,7 +14,7 @@ use Rattle.spindle_rounds.specs.RoundRule.{Laid}
 use Rattle.spindle_rounds.specs.RoundShown.{Shows, deeds, deeds_of}
 use Rattle.spindle_rounds.specs.Words.{barrier_at, published_at, words_of}
 use Rattle.spindle_rounds.specs.RoundSteps.{outsider}
-use Rattle.spindle_rounds.proofs.RoundMoves.{Rule}
+use Rattle.spindle_rounds.proofs.RoundMoves.{Rule, shown}
 
 module _ {N : Type 0} where
   at_end : (l : List (View N)) (a b : View N) (j : ℕ) → get_elem? (l ++ a ∷ []) j ≡ some b → (get_elem? l j ≡ some b) ⊎ ((j ≡ length l) × (a ≡ b))
@@ -30,13 +30,8 @@ module _ {N : Type 0} where
   -- who has done nothing shows as an outsider
   blank_shows : (s : State) (t p : ℕ) (leads : Bool) → (leads ≡ true → p ≡ 0) × (leads ≡ false → p ≢ 0) → party s p ≡ absent → s.closer ≢ Some p
       → let v : View N = outsider t leads in Shows s p v
-  blank_shows s t p leads first is c = record {
-    stands = (ap (λ (x : Party). x.status) is, c);
-    leads = first;
-    claim = ap (λ (x : Party). x.running) is;
-    share = λ k. ((λ e. let a = ap (λ (x : Party). x.taken k) is in absurd cc), (λ z. let z₁ = z.1 in absurd (omega arith)));
-    inside = λ q e. absurd cc;
-  }
+  blank_shows s t p leads first is c = shown (ap (λ (x : Party). x.status) is, c) first (ap (λ (x : Party). x.running) is)
+      (λ k. ((λ e. let a = ap (λ (x : Party). x.taken k) is in absurd cc), (λ z. let z₁ = z.1 in absurd (omega arith)))) (λ q e. absurd cc)
 
   -- and has stored nothing
   blank_laid : (t : ℕ) (s : State) (ws : List ℕ) (leads : Bool) → (s.published ≡ None) → let v : View N = outsider t leads in Laid t s ws v
