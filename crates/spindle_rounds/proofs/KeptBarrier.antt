@@ -20,7 +20,7 @@ use Rattle.spindle_rounds.specs.RoundSteps.{round_of, unknown, standing, loading
 use Rattle.spindle_rounds.specs.RoundTells.{JoinTells, ArrivalTells, LookTells, CloserReadTells}
 use Rattle.spindle_rounds.specs.RoundConditions.{IsDone}
 use Rattle.spindle_rounds.specs.RoundRuns.{PlainLoad, Exchange, Subtraction}
-use Rattle.spindle_rounds.proofs.RoundMoves.{Rule, SeatOf, Before, turns, hits, misses, moves, stays, noted_shows, untrue, shown, knows_none, reseated}
+use Rattle.spindle_rounds.proofs.RoundMoves.{Rule, SeatOf, Before, turns, reads, hits, misses, moves, stays, noted_shows, untrue, shown, knows_none, reseated}
 use Rattle.spindle_rounds.proofs.RoundWords.{word_fields, by_equal, status_words}
 use Rattle.spindle_rounds.proofs.KeptLoads.{used_up}
 
@@ -149,17 +149,12 @@ module _ {X N : Type 0} (D : Discipline X N) (law : Lawful D) (t : ℕ) where
   -- the closer reads the word, which stands from then on
   pub closer_reads : (slots id : ℕ) (me : SeatOf D t) (q : ℕ) (member cleared : Bool) (was : Option ℕ) → me.0.standing ≡ Closing q member cleared was
       → PlainLoad D t slots id me barrier_at CloserReadTells
-  closer_reads slots id me q member cleared was closes = record {
-    shows = λ run s r _ at _. let x : ℕ = get_or s.words barrier_at 0 in let S : State = state run in let h = sound run r.is_run in
-        let f = word_fields S h x r.words.barrier in let shows = (r.seats id me.0 at).0 in let st = subst (Stands S id) closes shows.stands in
-        let is : with_word x me.0.standing ≡ Closing q member cleared (Some x) = ap (with_word x) closes in (
-          closer_reading x me.0,
-          keeps,
-          tt,
-          stays D law t run s r barrier_at id me (closer_reading x me.0) at (refl, refl, refl)
-              (shown (subst (Stands S id) (sym is) (st.0, st.1, st.2, st.3, λ n e. let same : x ≡ n = cc in sym r.words.barrier ∙ same))
-              shows.leads shows.claim shows.share (λ q' e. let no : Closing q member cleared (Some x) ≡ Inside q' = sym is ∙ e in absurd cc))
-              refl refl (inr refl) refl,
-          (refl, refl, f.small),
-        );
-  }
+  closer_reads slots id me q member cleared was closes = reads D law t slots id me barrier_at (λ x. with_word x me.0.standing) (λ _. me.0.known) _ (λ _. refl)
+      (λ run s b. let r = b.rule in let x : ℕ = get_or s.words barrier_at 0 in let S : State = state run in
+      let f = word_fields S (sound run r.is_run) x r.words.barrier in let shows = (r.seats id me.0 b.at).0 in
+      let st = subst (Stands S id) closes shows.stands in
+      let is : with_word x me.0.standing ≡ Closing q member cleared (Some x) = ap (with_word x) closes in (
+        shown (subst (Stands S id) (sym is) (st.0, st.1, st.2, st.3, λ n e. let same : x ≡ n = cc in sym r.words.barrier ∙ same))
+            shows.leads shows.claim shows.share (λ q' e. let no : Closing q member cleared (Some x) ≡ Inside q' = sym is ∙ e in absurd cc),
+        (refl, refl, f.small),
+      ))

@@ -31,23 +31,16 @@ use Rattle.spindle_rounds.specs.RoundTells.{ExitTells, ClearTells, EndTells}
 use Rattle.spindle_rounds.specs.RoundConditions.{MayExit}
 use Rattle.spindle_rounds.specs.RoundRuns.{Exchange, Store}
 use Rattle.spindle_rounds.proofs.RoundQuiet.{quiet_run}
-use Rattle.spindle_rounds.proofs.RoundMoves.{Rule, SeatOf, Before, exchanges, stores, moves, moves_with, stands_on, shown, knows_none, reseated}
-use Rattle.spindle_rounds.proofs.RoundWords.{word_fields, status_words, by_equal}
+use Rattle.spindle_rounds.proofs.RoundMoves.{Rule, SeatOf, Before, exchanges, stores, moves, moves_with, stands_on, shown, knows_none, reseated, laid_hidden}
+use Rattle.spindle_rounds.proofs.RoundWords.{word_fields, status_words, by_equal, hidden_shown}
 use Rattle.spindle_rounds.proofs.KeptBarrier.{idle_seat, no_deed}
 
 -- nothing is published before or after a step on the barrier word
 pub hidden_words : (t : ℕ) (s s' : State) (ws : List ℕ) (x : ℕ) → Words t s ws → s.published ≡ None → s'.published ≡ None → x ≡ word s' → Words t s'
     (set ws barrier_at x)
-hidden_words t s s' ws x w hidden hides is = let wide = w.wide in record {
-  wide = length-set ws barrier_at x ∙ w.wide;
-  barrier = get_or-set_same ws barrier_at x 0 (omega arith) ∙ is;
-  published = get_or-set_other ws barrier_at published_at x 0 (λ e. omega arith) ∙
-      (w.published ∙ (ap (λ (o : Option ℕ). number_of o (now s).stoppable) hidden ∙ sym (ap (λ (o : Option ℕ). number_of o (now s').stoppable) hides)));
-  finished = λ some. absurd (some hides);
-  stopped = λ some. absurd (some hides);
-  counters = λ n e. absurd cc;
-  barren = λ _. hides;
-}
+hidden_words t s s' ws x w hidden hides is = let wide = w.wide in hidden_shown (length-set ws barrier_at x ∙ w.wide)
+    (get_or-set_same ws barrier_at x 0 (omega arith) ∙ is) (get_or-set_other ws barrier_at published_at x 0 (λ e. omega arith) ∙
+    (w.published ∙ (ap (λ (o : Option ℕ). number_of o (now s).stoppable) hidden ∙ sym (ap (λ (o : Option ℕ). number_of o (now s').stoppable) hides)))) hides
 
 module _ {X N : Type 0} (D : Discipline X N) (law : Lawful D) (t : ℕ) where
   pub exits : (slots id : ℕ) (me : SeatOf D t) (q old : ℕ) → me.0.standing ≡ Inside q → me.0.claim ≡ None → me.0.to ≤ me.0.from → (me.0.leader ≡ false) ⊎
@@ -166,13 +159,10 @@ module _ {X N : Type 0} (D : Discipline X N) (law : Lawful D) (t : ℕ) where
   -- what the leader has stored stands after a clear: for the numbers of the round that were not begun
   still_stands : (S : State) → Sound S → (c : ℕ) → S.closer ≡ Some c → (ws : List ℕ) → Words t S ws → (u : View N) → Laid t S ws u → Laid t (after S (Clear c))
       (set ws published_at 0) u
-  still_stands S h c closes ws w u l = record {
-    stored = λ i x e. let old = l.stored i x e in let low = old.0 in (old.0, get_or-set_other ws published_at i 0 0 (λ z. omega arith) ∙ old.1);
-    unstored = λ is. absurd (is refl);
-    current = λ is. absurd (is refl);
-    left = λ q e _. stands_on t (S.rounds q) (S.rounds q) ws (set ws published_at 0) refl (λ _. refl)
-        (λ i le. get_or-set_other ws published_at i 0 0 (λ z. omega arith)) (go q e S.published refl);
-  }
+  still_stands S h c closes ws w u l = laid_hidden refl
+      (λ i x e. let old = l.stored i x e in let low = old.0 in (old.0, get_or-set_other ws published_at i 0 0 (λ z. omega arith) ∙ old.1))
+      (λ q e. stands_on t (S.rounds q) (S.rounds q) ws (set ws published_at 0) refl (λ _. refl)
+      (λ i le. get_or-set_other ws published_at i 0 0 (λ z. omega arith)) (go q e S.published refl))
     where
       go : (q : ℕ) → u.laid ≡ Some q → (o : Option ℕ) → S.published ≡ o → StandsFor t (S.rounds q) ws
       go q e None hidden = l.left q e hidden
@@ -197,23 +187,15 @@ module _ {X N : Type 0} (D : Discipline X N) (law : Lawful D) (t : ℕ) where
           let w : View N = clearing 0 me.0 in let is : with_clear me.0.standing ≡ Closing q member true read = ap with_clear closes in
           let wide = r.words.wide in let ok : IsRun (Clear id ∷ run) = (st.0, r.is_run) in
           let q' = quiet_run (Clear id ∷ []) run (tt, tt) ok in
-          let other : (i : ℕ) → i ≢ published_at → get_or (set s.words published_at 0) i 0 ≡ get_or s.words i 0 =
-          (λ i n. get_or-set_other s.words published_at i 0 0 n) in
           moves_with D t run s r published_at 0 id me w keeps (Clear id ∷ []) at (refl, tt) ok
-          record {
-            wide = length-set s.words published_at 0 ∙ r.words.wide;
-            barrier = other barrier_at (λ e. omega arith) ∙ r.words.barrier;
-            published = get_or-set_same s.words published_at 0 0 (omega arith);
-            finished = λ is. absurd (is refl);
-            stopped = λ is. absurd (is refl);
-            counters = λ n e. absurd cc;
-            barren = λ _. refl;
-          }
+          (hidden_shown (length-set s.words published_at 0 ∙ r.words.wide)
+          (get_or-set_other s.words published_at barrier_at 0 0 (λ e. omega arith) ∙ r.words.barrier)
+          (get_or-set_same s.words published_at 0 0 (omega arith)) refl)
           (shown (subst (Stands (after S (Clear id)) id) (sym is) (st.0, st.1, (λ _. refl), st.3, st.4)) shows.leads shows.claim shows.share
           (λ q' e. let no : Closing q member true read ≡ Inside q' = sym is ∙ e in absurd cc))
           (seat.1 ∙ sym (no_deed id (deeds id run))) refl
           (λ v e. ⊎_elim (λ (z : (0 ≡ id) × (w ≡ v)). let l = r.lays me.0 (subst (λ (a : ℕ). get_elem? s.views a ≡ some me.0) (sym z.0) at) in
           subst (Laid t (after S (Clear id)) (set s.words published_at 0)) z.1
-          (let k = still_stands S h id st.0 s.words r.words me.0 l in record { stored = k.stored; unstored = k.unstored; current = k.current; left = k.left }))
+          (let k = still_stands S h id st.0 s.words r.words me.0 l in laid_hidden refl k.stored (λ q e. k.left q e refl)))
           (λ (z : (0 ≢ id) × (get_elem? s.views 0 ≡ some v)). still_stands S h id st.0 s.words r.words v (r.lays v z.1)) (at_set s.views id 0 w v e))
           (law.stays S (after S (Clear id)) s.homes s.views id me.0 w r.slots q' at (refl, refl, refl))

@@ -28,8 +28,8 @@ use Rattle.spindle_rounds.specs.RoundSteps.{round_of, filling, publish_word, pub
 use Rattle.spindle_rounds.specs.RoundTells.{FillTells, PublishTells, PublishTryTells}
 use Rattle.spindle_rounds.specs.RoundRuns.{Store}
 use Rattle.spindle_rounds.proofs.RoundQuiet.{unchanged}
-use Rattle.spindle_rounds.proofs.RoundMoves.{Rule, SeatOf, Before, stores, moves_with, untrue, shown, knowing}
-use Rattle.spindle_rounds.proofs.RoundWords.{by_equal, by_less}
+use Rattle.spindle_rounds.proofs.RoundMoves.{Rule, SeatOf, Before, stores, moves_with, untrue, shown, knowing, laid_hidden}
+use Rattle.spindle_rounds.proofs.RoundWords.{by_equal, by_less, hidden_shown}
 
 module _ {X N : Type 0} (D : Discipline X N) (law : Lawful D) (t : ℕ) where
   pub fills : (slots id : ℕ) (me : SeatOf D t) (q j x : ℕ) → j < 3 + t → me.0.standing ≡ Inside q → me.0.known.unpublished ≡ true → Store D t slots id me
@@ -42,33 +42,18 @@ module _ {X N : Type 0} (D : Discipline X N) (law : Lawful D) (t : ℕ) where
       let other : (k : ℕ) → k < finished_at → get_or (set s.words i x) k 0 ≡ get_or s.words k 0 =
       (λ k lt. get_or-set_other s.words i k x 0 (λ e. omega arith)) in
       moves_with D t run s r i x id me w keeps [] at tt r.is_run
-      record {
-        wide = length-set s.words i x ∙ r.words.wide;
-        barrier = other barrier_at (omega arith) ∙ r.words.barrier;
-        published = other published_at (omega arith) ∙ r.words.published;
-        finished = λ is. absurd (is hidden);
-        stopped = λ is. absurd (is hidden);
-        counters = λ m e. absurd cc;
-        barren = r.words.barren;
-      }
+      (hidden_shown (length-set s.words i x ∙ r.words.wide) (other barrier_at (omega arith) ∙ r.words.barrier)
+      (other published_at (omega arith) ∙ r.words.published) hidden)
       (shown shows.stands shows.leads shows.claim shows.share (λ q e. let k = shows.inside q e in
       knowing k.number k.unpublished k.seen k.emptied k.unread))
       seat.1 refl
       (λ v e. ⊎_elim (λ (h : (0 ≡ id) × (w ≡ v)). let l = r.lays me.0 (subst (λ (a : ℕ). get_elem? s.views a ≡ some me.0) (sym h.0) at) in
       subst (Laid t S (set s.words i x)) h.1
-      record {
-        stored = λ k y. by_equal i k (λ b. (if b then Some x else stored_at me.0.known.stored k) ≡ Some y → (finished_at ≤ k) ×
-            (get_or (set s.words i x) k 0 ≡ y))
-            (λ same z. let a : x ≡ y = cc in (
-              omega arith,
-              subst (λ (c : ℕ). get_or (set s.words i x) c 0 ≡ y) same
-                  (get_or-set_same s.words i x 0 (omega arith) ∙ a),
-            ))
-            (λ apart z. let old = l.stored k y z in (old.0, get_or-set_other s.words i k x 0 (λ e. apart (sym e)) ∙ old.1));
-        unstored = λ is. absurd (is hidden);
-        current = λ is. absurd (is hidden);
-        left = λ q e. absurd cc;
-      })
+      (laid_hidden hidden (λ k y. by_equal i k (λ b. (if b then Some x else stored_at me.0.known.stored k) ≡ Some y → (finished_at ≤ k) ×
+      (get_or (set s.words i x) k 0 ≡ y))
+      (λ same z. let a : x ≡ y = cc in
+      (omega arith, subst (λ (c : ℕ). get_or (set s.words i x) c 0 ≡ y) same (get_or-set_same s.words i x 0 (omega arith) ∙ a)))
+      (λ apart z. let old = l.stored k y z in (old.0, get_or-set_other s.words i k x 0 (λ e. apart (sym e)) ∙ old.1))) (λ q e. absurd cc)))
       (λ (h : (0 ≢ id) × (get_elem? s.views 0 ≡ some v)). absurd (h.0 (sym only.0))) (at_set s.views id 0 w v e))
       (law.stays S S s.homes s.views id me.0 w r.slots (unchanged S) at (refl, refl, refl)))
 

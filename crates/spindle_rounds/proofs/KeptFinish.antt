@@ -21,7 +21,7 @@ use Rattle.spindle_rounds.specs.RoundTells.{FinishTells}
 use Rattle.spindle_rounds.specs.RoundConditions.{MayFinish}
 use Rattle.spindle_rounds.specs.RoundRuns.{Addition}
 use Rattle.spindle_rounds.proofs.RoundMoves.{SeatOf, moves_with, still_laid, shown, knowing, knows_on}
-use Rattle.spindle_rounds.proofs.RoundWords.{by_equal, counts_stay, word_stays, counters_stay}
+use Rattle.spindle_rounds.proofs.RoundWords.{by_equal, counts_stay, word_stays, counters_stay, taken_put}
 use Rattle.spindle_rounds.proofs.RoundChanges.{changed_words, some_published}
 
 -- the party id finishes k
@@ -39,20 +39,13 @@ module _ (S : State) (id k : ℕ) (runs : (party S id).running ≡ Some k) where
   its_round = put_here S.rounds S.round counted ∙ ap (λ (o : Option ℕ). let z : Round = record (now S) { finished = (now S).finished ++ ended_by o } in z) runs
 
   pub taken_same : (a j : ℕ) → (party done a).taken j ≡ (party S a).taken j
-  taken_same a j = dite (ℕ_discrete a id) (λ e. subst (λ (z : ℕ). (party done z).taken j ≡ (party S z).taken j) (sym e)
-      (ap (λ (z : Party). z.taken j) (look_here S.parties id idle)))
-      (λ n. ap (λ (z : Party). z.taken j) (look_else S.parties id idle a n))
+  taken_same a j = taken_put S.parties id idle j refl a
 
   free_on : (j : ℕ) → Free S j → Free done j
   free_on j f = (subst (λ (z : Round). j < z.jobs) (sym its_round) f.0, ap (λ (z : Round). times j z.begun) its_round ∙ f.1, λ a. taken_same a j ∙ f.2 a)
 
   pub free_back : (j : ℕ) → Free done j → Free S j
-  free_back j f = (
-    subst (λ (z : Round). j < z.jobs) its_round f.0,
-    sym (ap (λ (z : Round). times j z.begun) its_round) ∙ f.1,
-    λ a. sym (taken_same a j)
-        ∙ f.2 a,
-  )
+  free_back j f = (subst (λ (z : Round). j < z.jobs) its_round f.0, sym (ap (λ (z : Round). times j z.begun) its_round) ∙ f.1, λ a. sym (taken_same a j) ∙ f.2 a)
 
   -- where it is the last, as many have finished as there are jobs
   pub all_done : (x m : ℕ) → x ≡ length (now S).finished → m ≡ x + 1 → (now S).jobs ≡ m → length (now done).finished ≡ (now done).jobs

@@ -19,7 +19,7 @@ use Rattle.spindle_rounds.specs.Words.{barrier_at, published_at, remainder_at, r
 use Rattle.spindle_rounds.specs.RoundSteps.{loading, learning, list_empty, reading, searching, reading_remainder}
 use Rattle.spindle_rounds.specs.RoundTells.{LoadTells, LearnTells, SearchTells, RemainderReadTells, RecallTells}
 use Rattle.spindle_rounds.specs.RoundRuns.{PlainLoad}
-use Rattle.spindle_rounds.proofs.RoundMoves.{Rule, SeatOf, turns, stays, noted_shows, untrue, shown, knowing}
+use Rattle.spindle_rounds.proofs.RoundMoves.{Rule, SeatOf, turns, reads, stays, noted_shows, untrue, shown, knowing}
 use Rattle.spindle_rounds.proofs.RoundWords.{by_less, by_equal, word_fields}
 
 stopped_or : (b : Bool) → (b ≡ true) ⊎ (b ≡ false)
@@ -75,17 +75,9 @@ low_half false n few = omega arith
 module _ {X N : Type 0} (D : Discipline X N) (law : Lawful D) (t : ℕ) where
   -- the barrier word is read
   pub loads : (slots id : ℕ) (me : SeatOf D t) → PlainLoad D t slots id me barrier_at LoadTells
-  loads slots id me = record {
-    shows = λ run s r _ at _. let x : ℕ = get_or s.words barrier_at 0 in let S : State = state run in
-        let f = word_fields S (sound run r.is_run) x r.words.barrier in (
-          loading barrier_at x me.0,
-          keeps,
-          tt,
-          stays D law t run s r barrier_at id me (loading barrier_at x me.0) at (refl, refl, refl)
-              (noted_shows S id me.0 _ (r.seats id me.0 at).0) refl refl (inr refl) refl,
-          (refl, refl, f.small),
-        );
-  }
+  loads slots id me = reads D law t slots id me barrier_at (λ _. me.0.standing) (λ _. me.0.known) _ (λ _. refl) (λ run s b. let r = b.rule in
+      let f = word_fields (state run) (sound run r.is_run) (get_or s.words barrier_at 0) r.words.barrier in
+      (noted_shows (state run) id me.0 _ (r.seats id me.0 b.at).0, (refl, refl, f.small)))
 
   -- the published word is read
   pub learns : (slots id : ℕ) (me : SeatOf D t) → PlainLoad D t slots id me published_at LearnTells
@@ -171,47 +163,40 @@ module _ {X N : Type 0} (D : Discipline X N) (law : Lawful D) (t : ℕ) where
 
   -- a range is read
   pub searches : (slots id : ℕ) (me : SeatOf D t) (i : ℕ) → i < t → PlainLoad D t slots id me (range_at i) SearchTells
-  searches slots id me i low = record {
-    shows = λ run s r _ at _. let x : ℕ = get_or s.words (range_at i) 0 in (
-      searching i x me.0,
-      keeps,
-      tt,
-      stays D law t run s r (range_at i) id me (searching i x me.0) at (refl, refl, refl) (search_shows id me i low run s r at) refl refl (inr refl) refl,
-      (refl, λ j same. let ij : i ≡ j = omega arith in ap (λ (z : ℕ). searching z x me.0) ij),
-    );
-  }
+  searches slots id me i low = reads D law t slots id me (range_at i) (λ _. me.0.standing) (λ x. (searching i x me.0).known) _ (λ _. refl) (λ run s b. (
+    search_shows id me i low run s b.rule b.at,
+    (
+      refl,
+      λ j same. let ij : i ≡ j = omega arith in
+          ap (λ (z : ℕ). searching z (get_or s.words (range_at i) 0) me.0) ij,
+    ),
+  ))
 
   -- the remainder is read, which is no more than the number
   pub remainder_reads : (slots id : ℕ) (me : SeatOf D t) → PlainLoad D t slots id me remainder_at RemainderReadTells
-  remainder_reads slots id me = record {
-    shows = λ run s r _ at _. let x : ℕ = get_or s.words remainder_at 0 in let seat = r.seats id me.0 at in (
-      reading_remainder x me.0,
-      keeps,
-      tt,
-      stays D law t run s r remainder_at id me (reading_remainder x me.0) at (refl, refl, refl) (remainder_shows id me run s r at) refl refl (inr refl) refl,
-      (
-        refl,
-        refl,
-        λ q n inside_q known. let c = r.words.counters n ((seat.0.inside q inside_q).number n known).0 in let few = c.few in
-            let e = div-add-mod' n t in omega arith,
-      ),
-    );
-  }
+  remainder_reads slots id me = reads D law t slots id me remainder_at (λ _. me.0.standing) (λ x. (reading_remainder x me.0).known) _ (λ _. refl)
+      (λ run s b. let r = b.rule in (
+        remainder_shows id me run s r b.at,
+        (
+          refl,
+          refl,
+          λ q n inside_q known.
+              let c = r.words.counters n (((r.seats id me.0 b.at).0.inside q inside_q).number n known).0 in let few = c.few in
+              let e = div-add-mod' n t in omega arith,
+        ),
+      ))
 
   -- the published word is read by a member that knows the number
   pub recalls : (slots id : ℕ) (me : SeatOf D t) → PlainLoad D t slots id me published_at RecallTells
-  recalls slots id me = record {
-    shows = λ run s r _ at _. let x : ℕ = get_or s.words published_at 0 in let S : State = state run in let seat = r.seats id me.0 at in (
-      loading published_at x me.0,
-      keeps,
-      tt,
-      stays D law t run s r published_at id me (loading published_at x me.0) at (refl, refl, refl) (noted_shows S id me.0 _ seat.0) refl refl (inr refl) refl,
-      (
-        refl,
-        λ q n inside_q known. let k = (seat.0.inside q inside_q).number n known in
-            let is : x ≡ number_of (Some n) me.0.known.may_stop = r.words.published ∙ (λ i. number_of (k.0 i) (k.1 i)) in
-            let few = ((sound run r.is_run).gate.shown n k.0).2 in let low = low_half me.0.known.may_stop n few in
-            (ap (λ (z : ℕ). loading published_at z me.0) is, ap (λ (z : ℕ). z % high_half) is ∙ low),
-      ),
-    );
-  }
+  recalls slots id me = reads D law t slots id me published_at (λ _. me.0.standing) (λ _. me.0.known) _ (λ _. refl) (λ run s b. let r = b.rule in
+      let seat = r.seats id me.0 b.at in (
+        noted_shows (state run) id me.0 _ seat.0,
+        (
+          refl,
+          λ q n inside_q known.
+              let k = (seat.0.inside q inside_q).number n known in
+              let is : get_or s.words published_at 0 ≡ number_of (Some n) me.0.known.may_stop = r.words.published ∙ (λ i. number_of (k.0 i) (k.1 i)) in
+              let few = ((sound run r.is_run).gate.shown n k.0).2 in let low = low_half me.0.known.may_stop n few in
+              (ap (λ (z : ℕ). loading published_at z me.0) is, ap (λ (z : ℕ). z % high_half) is ∙ low),
+        ),
+      ))

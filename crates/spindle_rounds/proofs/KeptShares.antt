@@ -18,8 +18,8 @@ use Rattle.spindle_rounds.specs.RoundTells.{ShareTells}
 use Rattle.spindle_rounds.specs.RoundConditions.{MayBegin}
 use Rattle.spindle_rounds.specs.RoundRuns.{Store}
 use Rattle.spindle_rounds.proofs.RoundMoves.{SeatOf, moves_with, still_laid, some_of, shown, knows_on}
-use Rattle.spindle_rounds.proofs.RoundWords.{counts_stay, word_stays, counters_stay}
-use Rattle.spindle_rounds.proofs.RoundChanges.{changed_words, some_published}
+use Rattle.spindle_rounds.proofs.RoundWords.{counts_stay, word_stays, counters_stay, taken_put}
+use Rattle.spindle_rounds.proofs.RoundChanges.{later_words, some_published}
 
 -- the party id begins k, which it has taken
 module _ (S : State) (h : Sound S) (id k : ℕ) (held : (party S id).taken k ≡ true) where
@@ -45,10 +45,7 @@ module _ (S : State) (h : Sound S) (id k : ℕ) (held : (party S id).taken k ≡
   in_round = h.work.below k (λ e. let a = mine in cc)
 
   taken_else : (j a : ℕ) → j ≢ k → (party begun a).taken j ≡ (party S a).taken j
-  taken_else j a n = dite (ℕ_discrete a id)
-      (λ e. subst (λ (z : ℕ). (party begun z).taken j ≡ (party S z).taken j) (sym e)
-      (ap (λ (z : Party). z.taken j) its_party ∙ put_else (party S id).taken k false j n))
-      (λ m. ap (λ (z : Party). z.taken j) (look_else S.parties id without a m))
+  taken_else j a n = taken_put S.parties id without j (put_else (party S id).taken k false j n) a
 
   free_on : (j : ℕ) → Free S j → Free begun j
   free_on j f = let n : j ≢ k = (λ e. let a = ap (party S id).taken e in let b = f.2 id in cc) in (
@@ -64,16 +61,12 @@ module _ (S : State) (h : Sound S) (id k : ℕ) (held : (party S id).taken k ≡
       (subst (λ (z : Round). j < z.jobs) its_round f.0, sym (times_else j (now S).begun k n) ∙ (sym c ∙ f.1), λ a. sym (taken_else j a n) ∙ f.2 a)
 
   pub words_after : (t i x : ℕ) (ws : List ℕ) → range_at t ≤ i → Words t S ws → Words t begun (set ws i x)
-  words_after t i x ws high w = let other : (j : ℕ) → j < range_at t → get_or (set ws i x) j 0 ≡ get_or ws j 0 =
-      (λ j lt. get_or-set_other ws i j x 0 (λ e. omega arith)) in
-      changed_words t S begun ws i x (omega arith) w refl (ap (λ (z : Round). z.stoppable) its_round)
+  words_after t i x ws high w = later_words t S begun ws i x _ (omega arith) w refl its_round refl refl refl
       (word_stays S begun refl (counts_stay weight_in refl (λ x y e. ap is_in e) S.parties id without refl)
       (counts_stay weight_member refl (λ x y e. ap is_member e) S.parties id without refl))
-      (λ is. other finished_at (omega arith) ∙ (w.finished is ∙ sym (ap (λ (z : Round). length z.finished) its_round)))
-      (λ is. let e = ap (λ (z : Round). z.stopped) its_round in
-      ((λ on. other stopped_at (omega arith) ∙ (w.stopped is).0 (sym e ∙ on)), (λ on. other stopped_at (omega arith) ∙ (w.stopped is).1 (sym e ∙ on))))
-      (λ n e. counters_stay t S begun ws (set ws i x) n (other remainder_at (omega arith)) (λ j lt. other (range_at j) (omega arith)) free_on free_back
-      (λ on. sym (ap (λ (z : Round). z.stopped) its_round) ∙ on) (w.counters n e))
+      (λ n e. counters_stay t S begun ws (set ws i x) n (get_or-set_other ws i remainder_at x 0 (λ z. omega arith))
+      (λ j lt. get_or-set_other ws i (range_at j) x 0 (λ z. omega arith)) free_on free_back (λ on. sym (ap (λ (z : Round). z.stopped) its_round) ∙ on)
+      (w.counters n e))
 
   -- to the slots, k begins
   pub begins_here : (n : ℕ) → S.published ≡ Some n → Begins S begun k

@@ -25,7 +25,7 @@ use Rattle.spindle_rounds.specs.RoundRuns.{Load, Store, Exchange}
 use Rattle.spindle_rounds.proofs.RoundMoves.{Rule, SeatOf, stores, exchanges, moves, stays, untrue, shown, knowing}
 use Rattle.spindle_rounds.proofs.RoundNumbers.{true_or}
 use Rattle.spindle_rounds.proofs.RoundWords.{counts_stay, word_stays, counters_stay}
-use Rattle.spindle_rounds.proofs.RoundChanges.{changed_words, some_published}
+use Rattle.spindle_rounds.proofs.RoundChanges.{changed_words, later_words, some_published}
 use Rattle.spindle_rounds.proofs.KeptBarrier.{no_deed}
 
 -- The round's record changes in what is stopped and who has seen it.
@@ -134,25 +134,23 @@ module _ (S : State) (h : Sound S) (id from to : ℕ) (share : IsShare (party S 
   abbrev pub given : State
   given = after S (PutBack id)
 
+  -- nobody has what nobody else had
+  given_taken : (j a : ℕ) → (a ≢ id → (party S a).taken j ≡ false) → (party given a).taken j ≡ false
+  given_taken j a else_free = dite (ℕ_discrete a id)
+      (λ e. subst (λ (z : ℕ). (party given z).taken j ≡ false) (sym e) (ap (λ (z : Party). z.taken j) (look_here S.parties id emptied)))
+      (λ n. ap (λ (z : Party). z.taken j) (look_else S.parties id emptied a n) ∙ else_free n)
+
   -- its numbers are free, and what was free is
   pub given_free : (j : ℕ) → from ≤ j → j < to → Free given j
   given_free j low high = let mine = (h.work.fits id).held j ((share j).1 (low, high)) in (
     h.work.below j (λ e. cc),
     h.work.begun j ∙ ap started mine,
-    λ a. dite (ℕ_discrete a id)
-        (λ e. subst (λ (z : ℕ). (party given z).taken j ≡ false) (sym e) (ap (λ (z : Party). z.taken j) (look_here S.parties id emptied)))
-        (λ n. ap (λ (z : Party). z.taken j) (look_else S.parties id emptied a n) ∙ untrue ((party S a).taken j) (λ on. let other = (h.work.fits a).held j on in
+    λ a. given_taken j a (λ n. untrue ((party S a).taken j) (λ on. let other = (h.work.fits a).held j on in
         let both : Held id ≡ Held a = sym mine ∙ other in let same : id ≡ a = cc in n (sym same))),
   )
 
   given_on : (j : ℕ) → Free S j → Free given j
-  given_on j f = (
-    f.0,
-    f.1,
-    λ a. dite (ℕ_discrete a id)
-        (λ e. subst (λ (z : ℕ). (party given z).taken j ≡ false) (sym e) (ap (λ (z : Party). z.taken j) (look_here S.parties id emptied)))
-        (λ n. ap (λ (z : Party). z.taken j) (look_else S.parties id emptied a n) ∙ f.2 a),
-  )
+  given_on j f = (f.0, f.1, λ a. given_taken j a (λ _. f.2 a))
 
   free_or : (j : ℕ) → Free given j → (Free S j) ⊎ ((from ≤ j) × (j < to))
   free_or j f = ⊎_elim (λ on. inr ((share j).0 on)) (λ off. inl (
@@ -231,17 +229,10 @@ module _ {X N : Type 0} (D : Discipline X N) (law : Lawful D) (t : ℕ) where
       let S' : State = given S h id me.0.from me.0.to shows.share in
       let y : Party = emptied S h id me.0.from me.0.to shows.share in let look = look_here S.parties id y in
       let w : View N = putting_back word_at (get_or s.words word_at 0) me.0 in let wide = r.words.wide in
-      let other : (j : ℕ) → j < remainder_at → get_or (set s.words word_at new) j 0 ≡ get_or s.words j 0 =
-      (λ j lt. get_or-set_other s.words word_at j new 0 (λ e. omega arith)) in
       moves D law t run s r word_at new id me w (PutBack id ∷ []) at (refl, tt) (tt, tt) (refl, refl, refl) ((st.0, seen, shows.claim ∙ may.1), r.is_run)
-      (changed_words t S S' s.words word_at new (omega arith) r.words refl refl
+      (later_words t S S' s.words word_at new _ (omega arith) r.words refl refl refl refl refl
       (word_stays S S' refl (counts_stay weight_in refl (λ x y e. ap is_in e) S.parties id y refl)
       (counts_stay weight_member refl (λ x y e. ap is_member e) S.parties id y refl))
-      (λ some. other finished_at (omega arith) ∙ r.words.finished some)
-      (λ some. (
-        (λ on. other stopped_at (omega arith) ∙ (r.words.stopped some).0 on),
-        (λ off. other stopped_at (omega arith) ∙ (r.words.stopped some).1 off),
-      ))
       (λ n e. given_counters S h id me.0.from me.0.to shows.share t n i old new s.words (r.words.counters n e) stopped low
       (omega arith) hit vacant start_is end_is tidy))
       (shown (subst (Stands S' id) (sym may.0.1) (ap (λ (z : Party). z.status) look ∙ st.0, st.1)) shows.leads

@@ -49,12 +49,7 @@ module _ {X : Type 0} where
   there (y ∷ ys) zero lt = (y, refl)
   there (y ∷ ys) (suc k) lt = there ys k (omega arith)
 
-  -- the first of these slots is at the hand
-  pub first_at_hand : (c : List (ℕ × X)) (k : ℕ) (y : X) → get_elem? c 0 ≡ some (k, y) → IsAtHand k y c
-  first_at_hand [] k y e = absurd (some-ne-none (k, y) (sym e))
-  first_at_hand (x ∷ c) k y e = let same = some-injective x (k, y) e in ap (λ (z : ℕ × X). let l : List (ℕ × X) = z ∷ c in l) same
-
-  -- and there is one value at the hand
+  -- there is one value at the hand
   pub one_at_hand : (c : List (ℕ × X)) (k : ℕ) (y z : X) → IsAtHand k y c → IsAtHand k z c → y ≡ z
   one_at_hand [] k y z a b = absurd cc
   one_at_hand (x ∷ c) k y z a b = let first : (k, y) ≡ (k, z) = ap (λ (l : List (ℕ × X)). head_or x l) (sym a ∙ b) in ap (λ (p : ℕ × X). p.1) first

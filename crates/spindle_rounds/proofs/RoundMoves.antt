@@ -23,7 +23,7 @@ use Rattle.spindle_rounds.specs.declared.round_table.view.Known.{Known}
 use Rattle.spindle_rounds.specs.declared.round_table.view.View.{View}
 use prog.Atomic.{either}
 use Rattle.spindle_rounds.specs.Words.{barrier_at, finished_at, remainder_at, range_at, high_half}
-use Rattle.spindle_rounds.specs.RoundSteps.{noted, missing, standing, unknown}
+use Rattle.spindle_rounds.specs.RoundSteps.{noted, missing, loading, standing, unknown}
 use Rattle.spindle_rounds.specs.RoundTells.{Turns, Exchanges, Begun}
 use Rattle.spindle_rounds.specs.RoundSlots.{Discipline, Lawful, SameSlots}
 use Rattle.spindle_rounds.specs.RoundRule.{ShownBy, Shown}
@@ -62,6 +62,13 @@ pub reseated : {N : Type 0} {s s' : State} {p : ℕ} {v : View N} {st : Status} 
     → party s' p ≡ with_status st (party s p) → Stands s' p to → ((q : ℕ) → to ≡ Inside q → Knows v.threads s' p k) → Shows s' p (noted x (standing to k v))
 reseated {v = v} x to k w look stands inside = shown stands w.leads (ap (λ (z : Party). z.running) look ∙ w.claim)
     (subst (λ (f : ℕ → Bool). IsShare f v.from v.to) (sym (ap (λ (z : Party). z.taken) look)) w.share) inside
+
+-- while nothing is published the leader has laid what its words say
+pub laid_hidden : {N : Type 0} {t : ℕ} {s : State} {ws : List ℕ} {v : View N} → s.published ≡ None
+    → ((i x : ℕ) → stored_at v.known.stored i ≡ Some x → (finished_at ≤ i) × (get_or ws i 0 ≡ x))
+    → ((q : ℕ) → v.laid ≡ Some q → StandsFor t (s.rounds q) ws) → Laid t s ws v
+laid_hidden hidden stored left =
+    record { stored = stored; unstored = λ is. absurd (is hidden); current = λ is. absurd (is hidden); left = λ q e _. left q e }
 
 pub untrue : (b : Bool) → (b ≡ true → ⊥) → b ≡ false
 untrue true n = absurd (n refl)
@@ -273,6 +280,16 @@ module _ {X N : Type 0} (D : Discipline X N) (law : Lawful D) (t slots id : ℕ)
       owed run s record { rule = r; at = at; small = small },
       (refl, refl),
     );
+  }
+
+  -- a load after which the seat has this standing, and knows this
+  pub reads : (st : ℕ → Standing) (k : ℕ → Known) (says : ℕ → Me X (View N) → Type 0) → ((x : ℕ) → (k x).stored ≡ me.0.known.stored) →
+      ((run : List Event) (s : table.State X (View N)) → Before run s → let x : ℕ = get_or s.words i 0 in
+      let w : View N = loading i x (standing (st x) (k x) me.0) in Shows (state run) id w × says x (w, me.1)) → Adds D t slots id me i (λ n. n) (λ _. []) says
+  reads st k says stored owed = record {
+    shows = λ run s r _ at small. let x : ℕ = get_or s.words i 0 in let w : View N = loading i x (standing (st x) (k x) me.0) in
+        let o = owed run s record { rule = r; at = at; small = small } in
+        (w, keeps, tt, stays D law t run s r i id me w at (refl, refl, refl) o.0 refl refl (inr (stored x)) refl, o.1);
   }
 
   pub stores : (x : ℕ) (new : List Event) (f : ℕ → View N → View N) (st : Step X) →

@@ -11,7 +11,8 @@ use Rattle.spindle_parts.proofs.Parties.{put_here, put_else, put_all, look_here,
 use Rattle.spindle_parts.proofs.Soundness.{Sound, sound, run_once}
 use Rattle.spindle_rounds.specs.RoundSlots.{Begins}
 use Rattle.spindle_rounds.specs.RoundShown.{Counters, InRange, InRemainder, IsWithin, Words, number_of}
-use Rattle.spindle_rounds.proofs.RoundWords.{counts_stay, word_stays}
+use Rattle.spindle_rounds.proofs.RoundWords.{counts_stay, word_stays, taken_put}
+use Rattle.spindle_rounds.proofs.RoundChanges.{later_words}
 use Rattle.spindle_rounds.specs.Words.{barrier_at, published_at, finished_at, stopped_at, remainder_at, range_at, start_of, end_of}
 
 pub or_false : (a b : Bool) → b ≡ false → (a || b) ≡ a
@@ -48,10 +49,6 @@ module _ (S : State) (id k : ℕ) (some : ℕ → Bool) (mine : some k ≡ true)
   last_party = look_here taken_first.parties id (record (party taken_first id) { running = Some k; taken = put (party taken_first id).taken k false }) ∙ ap
       (λ (z : Party). let y : Party = record z { running = Some k; taken = put z.taken k false } in y) first_party
 
-  pub last_other : (a : ℕ) → a ≢ id → party then_begun a ≡ party S a
-  last_other a n = look_else taken_first.parties id (record (party taken_first id) { running = Some k; taken = put (party taken_first id).taken k false }) a n
-      ∙ look_else S.parties id with_some a n
-
   pub last_round : now then_begun ≡ record (now S) { begun = (now S).begun ++ k ∷ [] }
   last_round = put_here S.rounds S.round (record (now S) { begun = (now S).begun ++ k ∷ [] })
 
@@ -59,10 +56,9 @@ module _ (S : State) (id k : ℕ) (some : ℕ → Bool) (mine : some k ≡ true)
   not_k j e z = let a = ap some z in absurd cc
 
   pub last_taken : (j a : ℕ) → some j ≡ false → (party then_begun a).taken j ≡ (party S a).taken j
-  last_taken j a n = dite (ℕ_discrete a id)
-      (λ e. subst (λ (z : ℕ). (party then_begun z).taken j ≡ (party S z).taken j) (sym e)
-      (ap (λ (z : Party). z.taken j) last_party ∙ (put_else with_some.taken k false j (not_k j n) ∙ or_false ((party S id).taken j) (some j) n)))
-      (λ m. ap (λ (z : Party). z.taken j) (last_other a m))
+  last_taken j a n = taken_put taken_first.parties id
+      (record (party taken_first id) { running = Some k; taken = put (party taken_first id).taken k false }) j
+      (put_else (party taken_first id).taken k false j (not_k j n)) a ∙ taken_put S.parties id with_some j (or_false ((party S id).taken j) (some j) n) a
 
   pub still_free : (j : ℕ) → some j ≡ false → Free S j → Free then_begun j
   still_free j n f = (
@@ -93,17 +89,7 @@ module _ (S : State) (id k : ℕ) (some : ℕ → Bool) (mine : some k ≡ true)
   -- the word i of the counters becomes x
   pub last_words : (t : ℕ) (ws : List ℕ) (i x : ℕ) → remainder_at ≤ i → Words t S ws → ((n : ℕ) → S.published ≡ Some n → Counters t then_begun (set ws i x) n)
       → Words t then_begun (set ws i x)
-  last_words t ws i x high w counters = let other : (j : ℕ) → j < remainder_at → get_or (set ws i x) j 0 ≡ get_or ws j 0 =
-      (λ j lt. get_or-set_other ws i j x 0 (λ e. omega arith)) in record {
-        wide = length-set ws i x ∙ w.wide;
-        barrier = other barrier_at (omega arith) ∙ (w.barrier ∙ same_word);
-        published = other published_at (omega arith) ∙ (w.published ∙ sym (ap (λ (z : Round). number_of S.published z.stoppable) last_round));
-        finished = λ some. other finished_at (omega arith) ∙ (w.finished some ∙ sym (ap (λ (z : Round). length z.finished) last_round));
-        stopped = λ some. let e = ap (λ (z : Round). z.stopped) last_round in let word = other stopped_at (omega arith) in
-            ((λ on. word ∙ (w.stopped some).0 (sym e ∙ on)), (λ on. word ∙ (w.stopped some).1 (sym e ∙ on)));
-        counters = counters;
-        barren = w.barren;
-      }
+  last_words t ws i x high w counters = later_words t S then_begun ws i x _ high w refl last_round refl refl refl same_word counters
 
   -- the counters lose exactly the numbers taken
   pub taken_counters : (t n : ℕ) (ws ws' : List ℕ) → Counters t S ws n → ((i j : ℕ) → i < t → InRange ws' i j → InRange ws i j × (some j ≡ false)) →

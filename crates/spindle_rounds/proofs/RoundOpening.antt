@@ -14,7 +14,8 @@ use Rattle.spindle_rounds.specs.RoundRule.{Laid}
 use Rattle.spindle_rounds.specs.RoundShown.{Shows, deeds, deeds_of}
 use Rattle.spindle_rounds.specs.Words.{barrier_at, published_at, words_of}
 use Rattle.spindle_rounds.specs.RoundSteps.{outsider}
-use Rattle.spindle_rounds.proofs.RoundMoves.{Rule, shown}
+use Rattle.spindle_rounds.proofs.RoundMoves.{Rule, shown, laid_hidden}
+use Rattle.spindle_rounds.proofs.RoundWords.{hidden_shown}
 
 module _ {N : Type 0} where
   at_end : (l : List (View N)) (a b : View N) (j : ℕ) → get_elem? (l ++ a ∷ []) j ≡ some b → (get_elem? l j ≡ some b) ⊎ ((j ≡ length l) × (a ≡ b))
@@ -35,21 +36,13 @@ module _ {N : Type 0} where
 
   -- and has stored nothing
   blank_laid : (t : ℕ) (s : State) (ws : List ℕ) (leads : Bool) → (s.published ≡ None) → let v : View N = outsider t leads in Laid t s ws v
-  blank_laid t s ws leads hidden = record { stored = λ i x e. absurd cc; unstored = λ _. refl; current = λ is. absurd (is hidden); left = λ q e. absurd cc }
+  blank_laid t s ws leads hidden = laid_hidden hidden (λ i x e. absurd cc) (λ q e. absurd cc)
 
 module _ {X N : Type 0} (D : Discipline X N) (law : Lawful D) (t : ℕ) where
   pub opens : (ws : List ℕ) (xs : List X) → length ws ≡ words_of t → ((i : ℕ) → get_or ws i 0 ≡ 0) → D.starts xs → Rule D t [] (opening ws xs (outsider t true))
   opens ws xs wide zeros starts = record {
     is_run = tt;
-    words = record {
-      wide = wide;
-      barrier = zeros barrier_at;
-      published = zeros published_at;
-      finished = λ n. absurd (n refl);
-      stopped = λ n. absurd (n refl);
-      counters = λ n e. absurd cc;
-      barren = λ _. refl;
-    };
+    words = hidden_shown wide (zeros barrier_at) (zeros published_at) refl;
     seats = go;
     lays = λ v e. subst (Laid t fresh ws) (some-injective (outsider t true) v e) (blank_laid t fresh ws true refl);
     beyond = λ p le. (refl, (λ e. cc), refl);

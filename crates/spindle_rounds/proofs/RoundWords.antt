@@ -1,6 +1,6 @@
 -- The fields of the barrier word, and what the other words show after a step on one of them.
 use Rattle.std.proofs.Common.{◌≡◌, ◌≢◌, inl, inr, ⊎_elim, ℕ, ◌+◌, ◌*◌, ◌/◌, ◌%◌, ◌<◌, ◌≤◌, Bool, true, false, eq-eqb, ne_eqb, le-ltb, lt-ltb, List, length}
-use Rattle.std.proofs.Common.{get_or, set, length-set, get_or-set_same, get_or-set_other, sym, refl, ap, ◌∙◌, subst, arith, Option, ◌==◌, nat_lt}
+use Rattle.std.proofs.Common.{get_or, set, length-set, get_or-set_same, get_or-set_other, sym, refl, ap, ◌∙◌, subst, arith, Option, None, ◌==◌, nat_lt}
 use mathlib.Core.Logic.{dite}
 use native.Mathlib.Decide.{ℕ_discrete, dec_le}
 use Rattle.spindle_parts.specs.State.{State, Status, Party, Round, party_of, put_party, now, party, times, Free, inside, members, total, absent}
@@ -10,7 +10,7 @@ use Rattle.spindle_parts.proofs.Parties.{look_here, look_else, total_put, inside
 use Rattle.spindle_parts.proofs.Soundness.{Sound}
 use Rattle.spindle_rounds.specs.RoundShown.{Counters, InRange, InRemainder, Words, number_of}
 use Rattle.spindle_rounds.specs.Words.{barrier_at, published_at, finished_at, stopped_at, remainder_at, range_at, field_size, one_member, sense_bit, high_half}
-use Rattle.spindle_rounds.specs.Words.{start_of, end_of}
+use Rattle.spindle_rounds.specs.Words.{start_of, end_of, words_of}
 
 -- where a test of two numbers decides
 pub by_less : (a b : ℕ) (P : Bool → Type 0) → (a < b → P true) → (b ≤ a → P false) → P (nat_lt a b)
@@ -63,6 +63,25 @@ counters_stay t s s' ws ws' n rest same on back stopped c = let e₄ = rest in r
     rest_aft : (k : ℕ) → InRemainder ws' n k → InRemainder ws n k
     rest_aft k z = let e = rest in ((let a = z.0 in omega arith), z.1)
 
+-- one party becomes y, which has taken of k what it had
+pub taken_put : (l : List Party) (p : ℕ) (y : Party) (k : ℕ) → y.taken k ≡ (party_of l p).taken k → (a : ℕ)
+    → (party_of (put_party l p y) a).taken k ≡ (party_of l a).taken k
+taken_put l p y k same a = dite (ℕ_discrete a p) (λ e. subst (λ (z : ℕ). (party_of (put_party l p y) z).taken k ≡ (party_of l z).taken k) (sym e)
+    (ap (λ (z : Party). z.taken k) (look_here l p y) ∙ same)) (λ n. ap (λ (z : Party). z.taken k) (look_else l p y a n))
+
+-- while nothing is published the first two words say all
+pub hidden_shown : {t : ℕ} {s : State} {ws : List ℕ} → length ws ≡ words_of t → get_or ws barrier_at 0 ≡ word s
+    → get_or ws published_at 0 ≡ number_of s.published (now s).stoppable → s.published ≡ None → Words t s ws
+hidden_shown wide barrier published hidden = record {
+  wide = wide;
+  barrier = barrier;
+  published = published;
+  finished = λ some. absurd (some hidden);
+  stopped = λ some. absurd (some hidden);
+  counters = λ n e. absurd cc;
+  barren = λ _. hidden;
+}
+
 module _ (t : ℕ) where
   -- a step on the barrier word alone, which leaves the round and what the parties have taken
   pub barrier_words : (s s' : State) (ws : List ℕ) (x : ℕ) → Words t s ws → now s' ≡ now s → s'.published ≡ s.published →
@@ -89,18 +108,7 @@ module _ (t : ℕ) where
   pub status_words : (s : State) (ws : List ℕ) (p x : ℕ) (st : Status) (c : Option ℕ) → Words t s ws → let s' : State =
       record { round = s.round; parties = put_party s.parties p (with_status st (party s p)); closer = c; published = s.published; rounds = s.rounds } in
       x ≡ word s' → Words t s' (set ws barrier_at x)
-  status_words s ws p x st c w is = let s' : State = record {
-    round = s.round;
-    parties = put_party s.parties p (with_status st (party s p));
-    closer = c;
-    published = s.published;
-    rounds = s.rounds;
-  } in barrier_words s s' ws x w refl refl same is
-    where
-      same : (a k : ℕ) → (party_of (put_party s.parties p (with_status st (party s p))) a).taken k ≡ (party s a).taken k
-      same a k = dite (ℕ_discrete a p) (λ e. subst (λ (z : ℕ). (party_of (put_party s.parties p (with_status st (party s p))) z).taken k ≡ (party s z).taken k)
-          (sym e) (ap (λ (z : Party). z.taken k) (look_here s.parties p (with_status st (party s p)))))
-          (λ n. ap (λ (z : Party). z.taken k) (look_else s.parties p (with_status st (party s p)) a n))
+  status_words s ws p x st c w is = barrier_words s _ ws x w refl refl (λ a k. taken_put s.parties p (with_status st (party s p)) k refl a) is
 
 -- who keeps its status leaves both counts
 pub counts_stay : (w : Party → ℕ) → w absent ≡ 0 → ((x y : Party) → x.status ≡ y.status → w x ≡ w y) → (l : List Party) (p : ℕ) (y : Party) → y.status ≡
