@@ -114,35 +114,23 @@ abbrev pub shows_number : Bool → ℕ → ℕ → Event
 shows_number false p n = Publish p n
 shows_number true p n = PublishTry p n
 
+becomes : (b : Bool) (S : State) (n id : ℕ) → after S (shows_number b id n) ≡ publish S b n
+becomes false S n id = refl
+becomes true S n id = refl
+
+allows : (b : Bool) (S : State) (n id : ℕ) → IsPublishable S id n → Allowed S (shows_number b id n)
+allows false S n id ok = ok
+allows true S n id ok = ok
+
+its_own : (b : Bool) (n id : ℕ) → by (shows_number b id n) ≡ id
+its_own false n id = refl
+its_own true n id = refl
+
+its_deed : (b : Bool) (S : State) (n id : ℕ) → deed S (shows_number b id n) ≡ Showed S.round n b ∷ []
+its_deed false S n id = refl
+its_deed true S n id = refl
+
 module _ (may_stop : Bool) (S : State) (n id : ℕ) where
-  becomes : after S (shows_number may_stop id n) ≡ publish S may_stop n
-  becomes = go may_stop
-    where
-      go : (b : Bool) → after S (shows_number b id n) ≡ publish S b n
-      go false = refl
-      go true = refl
-
-  allows : IsPublishable S id n → Allowed S (shows_number may_stop id n)
-  allows ok = go may_stop
-    where
-      go : (b : Bool) → Allowed S (shows_number b id n)
-      go false = ok
-      go true = ok
-
-  its_own : by (shows_number may_stop id n) ≡ id
-  its_own = go may_stop
-    where
-      go : (b : Bool) → by (shows_number b id n) ≡ id
-      go false = refl
-      go true = refl
-
-  its_deed : deed S (shows_number may_stop id n) ≡ Showed S.round n may_stop ∷ []
-  its_deed = go may_stop
-    where
-      go : (b : Bool) → deed S (shows_number b id n) ≡ Showed S.round n b ∷ []
-      go false = refl
-      go true = refl
-
   published_here : Publishes S (publish S may_stop n) n
   published_here = let R : Round = record (now S) { jobs = n; stoppable = may_stop } in record {
     round = refl;
@@ -174,7 +162,7 @@ module _ {X N : Type 0} (D : Discipline X N) (law : Lawful D) (t slots id : ℕ)
       (subst (λ (z : Round). k < z.jobs) (sym now_is) lt, ap (λ (z : Round). times k z.begun) now_is ∙ f.0, f.1)) in
       let at_rest : (now S).stopped ≡ false = untrue (now S).stopped (λ e. let a = (h.work.stops e).1 in omega arith) in
       let own : S.round ≡ round_of me.0.standing = st.1 ∙ sym (ap round_of inside_q) in
-      moves_with D t run s r published_at x id me w keeps (e ∷ []) at (its_own may_stop S n id, tt)
+      moves_with D t run s r published_at x id me w keeps (e ∷ []) at (its_own may_stop n id, tt)
       (allows may_stop S n id (only.0, st.0, hidden, low, high), r.is_run)
       (subst (λ (z : State). Words t z (set s.words published_at x)) is record {
         wide = length-set s.words published_at x ∙ r.words.wide;
@@ -194,7 +182,7 @@ module _ {X N : Type 0} (D : Discipline X N) (law : Lawful D) (t slots id : ℕ)
       (λ m e. let a : n ≡ m = cc in (ap (λ (z : ℕ). Some z) a, ap (λ (z : Round). z.stoppable) now_is)) (λ e. absurd cc)
       (ap (λ (z : Round). z.seen id) now_is ∙ untrue ((now S).seen id) (λ saw. let a = h.work.saw id saw in absurd cc)) (λ _ _ _ l. absurd l) (λ _. refl))))
       ((λ z. Showed (sym own z) n may_stop ∷ seat.1 z) ∙ sym (ap (λ (b : Bool). (if b then deed S e else []) ++ deeds id run)
-      (eq-eqb (by e) id (its_own may_stop S n id)) ∙ ap (λ (l : List Deed). l ++ deeds id run) (its_deed may_stop S n id))) refl
+      (eq-eqb (by e) id (its_own may_stop n id)) ∙ ap (λ (l : List Deed). l ++ deeds id run) (its_deed may_stop S n id))) refl
       (λ v e. ⊎_elim (λ (z : (0 ≡ id) × (w ≡ v)). subst (λ (y : State × View N). Laid t y.0 (set s.words published_at x) y.1) (λ i. (is i, z.1 i)) record {
         stored = λ i y e. absurd cc;
         unstored = λ _. refl;

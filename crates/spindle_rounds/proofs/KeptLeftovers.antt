@@ -20,6 +20,7 @@ use Rattle.spindle_rounds.specs.Words.{finished_at, remainder_at, range_at, star
 use Rattle.spindle_rounds.specs.RoundSteps.{reading, searching, reading_remainder}
 use Rattle.spindle_rounds.specs.Leftovers.{is_between, finding, FindTells, FindRestTells}
 use Rattle.spindle_rounds.specs.RoundRuns.{PlainLoad}
+use Rattle.spindle_rounds.proofs.Lists.{first_set}
 use Rattle.spindle_rounds.proofs.RoundQuiet.{unchanged}
 use Rattle.spindle_rounds.proofs.RoundMoves.{Rule, SeatOf, moves_with, shown, knowing}
 use Rattle.spindle_rounds.proofs.RoundWords.{by_equal}
@@ -44,10 +45,6 @@ known_more true i x st ws le is old k y h = by_equal i k (λ b. (if b then Some 
 none_known : (b : Bool) (i x : ℕ) (st : List (ℕ × ℕ)) → (b ≡ true → ⊥) → st ≡ [] → (if b then (i, x) ∷ st else st) ≡ []
 none_known false i x st not e = e
 none_known true i x st not e = absurd (not refl)
-
-set_first : {A : Type 0} (l : List A) (a b : A) → get_elem? l 0 ≡ some a → get_elem? (set l 0 b) 0 ≡ some b
-set_first [] a b e = absurd (some-ne-none a (sym e))
-set_first (x ∷ xs) a b e = refl
 
 module _ {X N : Type 0} (D : Discipline X N) (law : Lawful D) (t : ℕ) where
   found : (run : List Event) (s : table.State X (View N)) (r : Rule D t run s) (i j id : ℕ) (empty : Bool) (me : SeatOf D t) → get_elem? s.views id ≡ some me.0
@@ -103,7 +100,7 @@ module _ {X N : Type 0} (D : Discipline X N) (law : Lawful D) (t : ℕ) where
               stepped s remainder_at x id me.1 w keeps,
               record { run = run; by_run = rule },
               subst (λ (a : ℕ). get_elem? (set s.views a w) 0 ≡ some w) (sym leads)
-                  (set_first s.views me.0 w (subst (λ (a : ℕ). get_elem? s.views a ≡ some me.0) leads at)),
+                  (first_set s.views w me.0 (subst (λ (a : ℕ). get_elem? s.views a ≡ some me.0) leads at)),
             ),
           ),
         );

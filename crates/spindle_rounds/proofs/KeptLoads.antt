@@ -20,11 +20,8 @@ use Rattle.spindle_rounds.specs.RoundSteps.{loading, learning, list_empty, readi
 use Rattle.spindle_rounds.specs.RoundTells.{LoadTells, LearnTells, SearchTells, RemainderReadTells, RecallTells}
 use Rattle.spindle_rounds.specs.RoundRuns.{PlainLoad}
 use Rattle.spindle_rounds.proofs.RoundMoves.{Rule, SeatOf, turns, reads, stays, noted_shows, untrue, shown, knowing}
+use Rattle.spindle_rounds.proofs.RoundNumbers.{true_or}
 use Rattle.spindle_rounds.proofs.RoundWords.{by_less, by_equal, word_fields}
-
-stopped_or : (b : Bool) → (b ≡ true) ⊎ (b ≡ false)
-stopped_or true = inl refl
-stopped_or false = inr refl
 
 module _ (t : ℕ) where
   remainder_home : (ws : List ℕ) (n k : ℕ) → get_or ws remainder_at 0 ≤ n % t → InRemainder ws n k → home_of t n k ≡ t
@@ -36,13 +33,13 @@ module _ (t : ℕ) where
   range_emptied S ws n i low c empty = ⊎_elim inr (λ going. inl (λ k f is. ⊎_elim
       (λ (z : (j : ℕ) × (j < t) × InRange ws j k). let y = subst (λ (a : ℕ). InRange ws a k) (sym (c.home going z.0 k z.1 z.2) ∙ is) z.2 in let y₀ = y.0 in
       let y₁ = y.1 in omega arith)
-      (λ (z : InRemainder ws n k). let h : t ≡ i = sym (remainder_home ws n k c.few z) ∙ is in omega arith) (c.free k f))) (stopped_or (now S).stopped)
+      (λ (z : InRemainder ws n k). let h : t ≡ i = sym (remainder_home ws n k c.few z) ∙ is in omega arith) (c.free k f))) (true_or (now S).stopped)
 
   -- a remainder of 0 shows the same of the remainder
   remainder_emptied : (S : State) (ws : List ℕ) (n : ℕ) → Counters t S ws n → get_or ws remainder_at 0 ≡ 0 → IsEmptied t n S t
   remainder_emptied S ws n c empty = ⊎_elim inr (λ going. inl (λ k f is. ⊎_elim
       (λ (z : (j : ℕ) × (j < t) × InRange ws j k). let lt = z.1 in let h : z.0 ≡ t = sym (c.home going z.0 k z.1 z.2) ∙ is in omega arith)
-      (λ (z : InRemainder ws n k). let z₀ = z.0 in let z₁ = z.1 in omega arith) (c.free k f))) (stopped_or (now S).stopped)
+      (λ (z : InRemainder ws n k). let z₀ = z.0 in let z₁ = z.1 in omega arith) (c.free k f))) (true_or (now S).stopped)
 
   home_le : (n k : ℕ) → home_of t n k ≤ t
   home_le n k = by_less (k + n % t) n (λ b. (if b then k / (n / t) else t) ≤ t)
@@ -54,7 +51,7 @@ module _ (t : ℕ) where
   -- where each range and the remainder was read as empty, nothing is left
   pub used_up : (S : State) (n : ℕ) → ((i : ℕ) → i ≤ t → IsEmptied t n S i) → IsUsed S
   used_up S n all = ⊎_elim inr (λ going. inl (λ k f. let i : ℕ = home_of t n k in
-      ⊎_elim (λ (z : (j : ℕ) → Free S j → home_of t n j ≡ i → ⊥). z k f refl) (λ st. absurd cc) (all i (home_le n k)))) (stopped_or (now S).stopped)
+      ⊎_elim (λ (z : (j : ℕ) → Free S j → home_of t n j ≡ i → ⊥). z k f refl) (λ st. absurd cc) (all i (home_le n k)))) (true_or (now S).stopped)
 
 -- what a read as empty teaches
 listed : (o : Option ℕ) (n i : ℕ) (b : Bool) (l : List ℕ) (P : ℕ → Type 0) → o ≡ Some n → (b ≡ true → P i) → ((j : ℕ) → IsListed j l → P j) → (j : ℕ)

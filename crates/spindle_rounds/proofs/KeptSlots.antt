@@ -27,32 +27,16 @@ use Rattle.spindle_rounds.specs.RoundConditions.{MayTakeOut, MayPutAll, MayGiveB
 use Rattle.spindle_rounds.specs.RoundRuns.{PlainLoad}
 use Rattle.spindle_rounds.specs.Words.{published_at}
 use Rattle.spindle_rounds.specs.SpotPlaces.{spot_else}
+use Rattle.spindle_rounds.proofs.Lists.{in_list, first_set, at_end}
+use Rattle.spindle_rounds.proofs.PieceClients.{numbered_end}
 use Rattle.spindle_rounds.proofs.RoundQuiet.{unchanged}
 use Rattle.spindle_rounds.proofs.RoundMoves.{Rule, SeatOf, moves_with, still_laid, shown}
 use Rattle.spindle_rounds.proofs.PlainRounds.{at_rest, was_shown, plain_finished}
 
 module _ {A : Type 0} where
-  first_set : (l : List A) (u v : A) → get_elem? l 0 ≡ some v → get_elem? (set l 0 u) 0 ≡ some u
-  first_set [] u v e = absurd (some-ne-none v (sym e))
-  first_set (x ∷ xs) u v e = refl
-
   first_twice : (l : List A) (u w : A) → set (set l 0 u) 0 w ≡ set l 0 w
   first_twice [] u w = refl
   first_twice (x ∷ xs) u w = refl
-
-  at_last : (l : List A) (a b : A) (j : ℕ) → get_elem? (l ++ a ∷ []) j ≡ some b → ((j < length l) × (get_elem? l j ≡ some b)) ⊎ ((j ≡ length l) × (a ≡ b))
-  at_last [] a b zero e = inr (refl, some-injective a b e)
-  at_last [] a b (suc j) e = absurd (some-ne-none b (sym e))
-  at_last (x ∷ xs) a b zero e = inl (omega arith, e)
-  at_last (x ∷ xs) a b (suc j) e = ⊎_elim (λ (t : (j < length xs) × (get_elem? xs j ≡ some b)). let lt = t.0 in inl (
-    omega arith,
-    t.1,
-  )) (λ (t : (j ≡ length xs) × (a ≡ b)). inr (ap suc t.0, t.1)) (at_last xs a b j e)
-
-  numbered_last : (i : ℕ) (ys : List A) (y : A) (c : List (ℕ × A)) → numbered i (ys ++ y ∷ []) c ≡ numbered i ys ((i + length ys, y) ∷ c)
-  numbered_last i [] y c = ap (λ (j : ℕ). let z : List (ℕ × A) = (j, y) ∷ c in z) (omega arith)
-  numbered_last i (x ∷ xs) y c = let at : i + 1 + length xs ≡ i + suc (length xs) = omega arith in ap (λ (l : List (ℕ × A)). let z : List (ℕ
-      × A) = (i, x) ∷ l in z) (numbered_last (i + 1) xs y c ∙ ap (λ (j : ℕ). numbered (i + 1) xs ((j, y) ∷ c)) at)
 
 module _ {X N : Type 0} (D : Discipline X N) (law : Lawful D) where
   -- the view changes in nothing that the slots see
@@ -85,13 +69,13 @@ module _ {X N : Type 0} (D : Discipline X N) (law : Lawful D) where
         ys ++ y ∷ [],
         (one.1, more.2),
         (let a = length-append ys (y ∷ []) in omega arith),
-        ◌∙◌ {b = numbered 0 ys ((n, y) ∷ c)} more.4 (ap (λ (j : ℕ). numbered 0 ys ((j, y) ∷ c)) at_n ∙ sym (numbered_last 0 ys y c)),
+        ◌∙◌ {b = numbered 0 ys ((n, y) ∷ c)} more.4 (ap (λ (j : ℕ). numbered 0 ys ((j, y) ∷ c)) at_n ∙ numbered_end 0 ys y c),
         subst (D.clause S (homes_after (set hs n none) ((n, y) ∷ c) more.0)) (first_twice vs u w) more.5,
-        (λ k z e. ⊎_elim (λ (t : (k < length ys) × (get_elem? ys k ≡ some z)). let lt = t.0 in
-            subst (λ (p : Spot N). D.found p z × (HasFinished S k p → D.answered p z)) (spot_else v.board n k spot.Out (λ q. omega arith)) (more.6 k z t.1))
+        (λ k z e. ⊎_elim (λ (t : get_elem? ys k ≡ some z). let lt = in_list ys k z t in
+            subst (λ (p : Spot N). D.found p z × (HasFinished S k p → D.answered p z)) (spot_else v.board n k spot.Out (λ q. omega arith)) (more.6 k z t))
             (λ (t : (k ≡ length ys) × (y ≡ z)). let kn : n ≡ k = (let a = t.0 in omega arith) in
             subst (λ (j : ℕ × X). D.found (spot_at v.board j.0) j.1 × (HasFinished S j.0 (spot_at v.board j.0)
-            → D.answered (spot_at v.board j.0) j.1)) (λ i. (kn i, t.1 i)) (one.3, one.4)) (at_last ys y z k e)),
+            → D.answered (spot_at v.board j.0) j.1)) (λ i. (kn i, t.1 i)) (one.3, one.4)) (at_end ys y z k e)),
       )
 
   -- the slots that are held go back, one after the other

@@ -67,10 +67,8 @@ every_leftover {S = X} {N = N} D v q n may_stop may laid shown known t s rule at
 -- a stop among the stops is among the deeds
 stopped_deed : (d : Deed) (ds : List Deed) → IsDeed d (stopped_of ds) → IsDeed d ds
 stopped_deed d [] e = e
-stopped_deed d (Began q k ∷ ds) e = inr (stopped_deed d ds e)
-stopped_deed d (Ended q k ∷ ds) e = inr (stopped_deed d ds e)
-stopped_deed d (Showed q n b ∷ ds) e = inr (stopped_deed d ds e)
 stopped_deed d (Stopped q k ∷ ds) e = ⊎_elim inl (λ z. inr (stopped_deed d ds z)) e
+stopped_deed d (_ ∷ ds) e = inr (stopped_deed d ds e)
 
 -- the number of a party that stops a round has begun in it
 stopped_began : (q k p : ℕ) (es : List Event) → IsRun es → IsDeed (Stopped q k) (deeds p es) → 0 < times k ((state es).rounds q).begun

@@ -1,4 +1,5 @@
 -- The lemmas of this crate.
+pub mod Lists
 pub mod RoundQuiet
 pub mod RoundMoves
 pub mod RoundWords

@@ -23,10 +23,8 @@ use Rattle.spindle_rounds.specs.RoundPieces.{pieces, spot_with, IsUnrun, IsAtHan
 -- a publish among the publishes is among the deeds
 pub shown_deed : (r n : ℕ) (b : Bool) (ds : List Deed) → IsDeed (Showed r n b) (shown_of ds) → IsDeed (Showed r n b) ds
 shown_deed r n b [] e = e
-shown_deed r n b (Began q k ∷ ds) e = inr (shown_deed r n b ds e)
-shown_deed r n b (Ended q k ∷ ds) e = inr (shown_deed r n b ds e)
-shown_deed r n b (Stopped q k ∷ ds) e = inr (shown_deed r n b ds e)
 shown_deed r n b (Showed q m c ∷ ds) e = ⊎_elim inl (λ z. inr (shown_deed r n b ds z)) e
+shown_deed r n b (_ ∷ ds) e = inr (shown_deed r n b ds e)
 
 -- the round that a leader published last, plainly
 pub published_last : {N : Type 0} (v : View N) (r n : ℕ) (older : List Deed) → published_of v.trail ≡ Showed r n false ∷ older → HasPublished v r n
@@ -59,7 +57,7 @@ module _ {X : Type 0} where
   numbered_behind i [] c d = refl
   numbered_behind i (y ∷ ys) c d = ap (λ (l : List (ℕ × X)). let z : List (ℕ × X) = (i, y) ∷ l in z) (numbered_behind (i + 1) ys c d)
 
-  numbered_end : (i : ℕ) (ys : List X) (y : X) (c : List (ℕ × X)) → numbered i ys ((i + length ys, y) ∷ c) ≡ numbered i (ys ++ y ∷ []) c
+  pub numbered_end : (i : ℕ) (ys : List X) (y : X) (c : List (ℕ × X)) → numbered i ys ((i + length ys, y) ∷ c) ≡ numbered i (ys ++ y ∷ []) c
   numbered_end i [] y c = ap (λ (j : ℕ). let z : List (ℕ × X) = (j, y) ∷ c in z) (omega arith)
   numbered_end i (x ∷ xs) y c = let at : i + suc (length xs) ≡ i + 1 + length xs = omega arith in
       ap (λ (l : List (ℕ × X)). let z : List (ℕ × X) = (i, x) ∷ l in z)

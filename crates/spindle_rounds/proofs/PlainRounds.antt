@@ -5,14 +5,15 @@ use mathlib.Core.Logic.{dite}
 use native.Mathlib.Decide.{ℕ_discrete}
 use Rattle.spindle_parts.specs.State.{State, Party, Round, now, party, times, put, members, put_party, Out}
 use Rattle.spindle_parts.specs.Steps.{Event, Join, Publish, PublishTry, Take, Begin, Finish, Stop, See, PutBack, Arrive, Leave, Exit, Clear, End}
-use Rattle.spindle_parts.specs.Steps.{with_status, Allowed, after, by, arrived, ended_by}
+use Rattle.spindle_parts.specs.Steps.{with_status, Allowed, after, by, arrived, publish, ended_by}
 use Rattle.spindle_parts.specs.Runs.{state, IsRun}
-use Rattle.spindle_parts.proofs.Parties.{put_here, put_else, put_all}
+use Rattle.spindle_parts.proofs.Parties.{next_round, put_here, put_else, put_all}
 use Rattle.spindle_parts.proofs.Fates.{started, over, none_begun}
 use Rattle.spindle_parts.proofs.Soundness.{Sound, sound, no_closer}
 use Rattle.spindle_rounds.specs.RoundSlots.{AtRest}
 use Rattle.spindle_rounds.specs.RoundShown.{Deed, Began, Ended, Showed, Stopped, ended_in, stopped_by, deed, deeds}
 use Rattle.spindle_rounds.specs.SlotSteps.{IsDeed}
+use Rattle.spindle_rounds.proofs.RoundWords.{by_equal}
 use Rattle.spindle_rounds.proofs.RoundMoves.{untrue}
 
 apart : (a b : ℕ) → a ≢ b → (a < b) ⊎ (b < a)
@@ -85,12 +86,10 @@ module _ (b : Bool) where
       }
 
   keeps_shown : (s : State) → Sound s → (e : Event) → Allowed s e → (r n : ℕ) → WasShown s r n → WasShown (after s e) r n
-  keeps_shown s h (Join p) ok r n w = same_shown s (after s (Join p)) r n refl (omega arith) w
   keeps_shown s h (Publish p m) ok r n w = publish_shown s (after s (Publish p m)) (record (now s) { jobs = m; stoppable = false }) refl refl
       (h.gate.hidden ok.2 (no_closer s h p ok.1)) r n w
   keeps_shown s h (PublishTry p m) ok r n w = publish_shown s (after s (PublishTry p m)) (record (now s) { jobs = m; stoppable = true }) refl refl
       (h.gate.hidden ok.2 (no_closer s h p ok.1)) r n w
-  keeps_shown s h (Take p f) ok r n w = same_shown s (after s (Take p f)) r n refl (omega arith) w
   keeps_shown s h (Begin p k) ok r n w = put_shown s (after s (Begin p k)) (record (now s) { begun = (now s).begun ++ k ∷ [] }) r n refl refl refl refl w
   keeps_shown s h (Finish p) ok r n w = put_shown s (after s (Finish p)) (record (now s) {
     finished = (now s).finished ++ ended_by
@@ -102,39 +101,24 @@ module _ (b : Bool) where
         (now s).seen p true;
   }) r n refl refl refl refl w
   keeps_shown s h (See p) ok r n w = put_shown s (after s (See p)) (record (now s) { seen = put (now s).seen p true }) r n refl refl refl refl w
-  keeps_shown s h (PutBack p) ok r n w = same_shown s (after s (PutBack p)) r n refl (omega arith) w
-  keeps_shown s h (Arrive p) ok r n w = same_shown s (after s (Arrive p)) r n refl (omega arith) w
-  keeps_shown s h (Leave p) ok r n w = same_shown s (after s (Leave p)) r n refl (omega arith) w
-  keeps_shown s h (Exit p) ok r n w = let ps : List Party = put_party s.parties p (with_status Out (party s p)) in dite (ℕ_discrete (members ps) 0)
-      (λ e. subst (λ (b : Bool). WasShown
-      (if b then record { round = s.round + 1; parties = ps; closer = s.closer; published = s.published; rounds = s.rounds } else arrived s p ps) r n) (sym
-      (eq-eqb (members ps) 0 e))
-      (same_shown s (record { round = s.round + 1; parties = ps; closer = s.closer; published = s.published; rounds = s.rounds }) r n refl (omega arith) w))
-      (λ ne. subst (λ (b : Bool). WasShown
-      (if b then record { round = s.round + 1; parties = ps; closer = s.closer; published = s.published; rounds = s.rounds } else arrived s p ps) r n) (sym
-      (ne_eqb (members ps) 0 ne)) (same_shown s (arrived s p ps) r n refl (omega arith) w))
-  keeps_shown s h (Clear p) ok r n w = same_shown s (after s (Clear p)) r n refl (omega arith) w
-  keeps_shown s h (End p) ok r n w = same_shown s (after s (End p)) r n refl (omega arith) w
+  keeps_shown s h (Exit p) ok r n w = let ps : List Party = put_party s.parties p (with_status Out (party s p)) in
+      by_equal (members ps) 0 (λ b. WasShown (if b then next_round s ps s.closer else arrived s p ps) r n)
+      (λ _. same_shown s (next_round s ps s.closer) r n refl (omega arith) w) (λ _. same_shown s (arrived s p ps) r n refl (omega arith) w)
+  keeps_shown s h e ok r n w = same_shown s (after s e) r n refl (omega arith) w
+
+  new_one : (s : State) (k r n : ℕ) (c : Bool) → 2 ≤ k → IsDeed (Showed r n b) (Showed s.round k c ∷ []) → WasShown (publish s c k) r n
+  new_one s k r n c some d = let one : Showed s.round k c ≡ Showed r n b = ⊎_elim (λ z. z) (λ z. absurd z) d in let rr : s.round ≡ r = cc in
+      let kn : k ≡ n = cc in let same : c ≡ b = cc in let x : Round = record (now s) { jobs = k; stoppable = c } in
+      subst (λ (z : ℕ × ℕ). WasShown (publish s c k) z.0 z.1) (λ i. (rr i, kn i)) record {
+        jobs = ap (λ (z : Round). z.jobs) (put_here s.rounds s.round x);
+        may_stop = ap (λ (z : Round). z.stoppable) (put_here s.rounds s.round x) ∙ same;
+        some = some;
+        past = omega arith;
+      }
 
   new_shown : (s : State) (e : Event) → Allowed s e → (r n : ℕ) → IsDeed (Showed r n b) (deed s e) → WasShown (after s e) r n
-  new_shown s (Join p) ok r n d = absurd d
-  new_shown s (Publish p k) ok r n d = let one : Showed s.round k false ≡ Showed r n b = ⊎_elim (λ z. z) (λ z. absurd z) d in let rr : s.round ≡ r = cc in
-      let kn : k ≡ n = cc in let plain : false ≡ b = cc in let x : Round = record (now s) { jobs = k; stoppable = false } in
-      subst (λ (z : ℕ × ℕ). WasShown (after s (Publish p k)) z.0 z.1) (λ i. (rr i, kn i)) record {
-        jobs = ap (λ (z : Round). z.jobs) (put_here s.rounds s.round x);
-        may_stop = ap (λ (z : Round). z.stoppable) (put_here s.rounds s.round x) ∙ plain;
-        some = ok.3;
-        past = omega arith;
-      }
-  new_shown s (PublishTry p k) ok r n d = let one : Showed s.round k true ≡ Showed r n b = ⊎_elim (λ z. z) (λ z. absurd z) d in let rr : s.round ≡ r = cc in
-      let kn : k ≡ n = cc in let tried : true ≡ b = cc in let x : Round = record (now s) { jobs = k; stoppable = true } in
-      subst (λ (z : ℕ × ℕ). WasShown (after s (PublishTry p k)) z.0 z.1) (λ i. (rr i, kn i)) record {
-        jobs = ap (λ (z : Round). z.jobs) (put_here s.rounds s.round x);
-        may_stop = ap (λ (z : Round). z.stoppable) (put_here s.rounds s.round x) ∙ tried;
-        some = ok.3;
-        past = omega arith;
-      }
-  new_shown s (Take p f) ok r n d = absurd d
+  new_shown s (Publish p k) ok r n d = new_one s k r n false ok.3 d
+  new_shown s (PublishTry p k) ok r n d = new_one s k r n true ok.3 d
   new_shown s (Begin p k) ok r n d = let one : Began s.round k ≡ Showed r n b = ⊎_elim (λ z. z) (λ z. absurd z) d in absurd cc
   new_shown s (Finish p) ok r n d = absurd (no_end s.round (party s p).running d)
     where
@@ -146,13 +130,7 @@ module _ (b : Bool) where
       no_stop : (q : ℕ) (o : Option ℕ) → IsDeed (Showed r n b) (stopped_by q o) → ⊥
       no_stop q None z = z
       no_stop q (Some k) z = let one : Stopped q k ≡ Showed r n b = ⊎_elim (λ y. y) (λ y. absurd y) z in cc
-  new_shown s (See p) ok r n d = absurd d
-  new_shown s (PutBack p) ok r n d = absurd d
-  new_shown s (Arrive p) ok r n d = absurd d
-  new_shown s (Leave p) ok r n d = absurd d
-  new_shown s (Exit p) ok r n d = absurd d
-  new_shown s (Clear p) ok r n d = absurd d
-  new_shown s (End p) ok r n d = absurd d
+  new_shown s e ok r n d = absurd d
 
   -- a round that a party has published stays so
   pub was_shown : (p : ℕ) (es : List Event) → IsRun es → (r n : ℕ) → IsDeed (Showed r n b) (deeds p es) → WasShown (state es) r n

@@ -30,6 +30,7 @@ use Rattle.spindle_rounds.specs.RoundRule.{ShownBy, Shown}
 use Rattle.spindle_rounds.specs.RoundShown.{deed, deeds, deeds_of, Stands, Knows, Shows, InRange, InRemainder, IsLeft, Words, home_of, IsShare, IsListed, IsEmptied}
 use Rattle.spindle_rounds.specs.RoundRule.{Laid, StandsFor, stored_at}
 use Rattle.spindle_rounds.specs.RoundRuns.{Adds, Exchange}
+use Rattle.spindle_rounds.proofs.Lists.{in_list}
 use Rattle.spindle_rounds.proofs.RoundQuiet.{AllQuiet, quiet_run}
 
 -- a seat shows its party by five facts
@@ -183,14 +184,9 @@ module _ {X N : Type 0} (D : Discipline X N) (t : ℕ) where
         (λ (h : (q ≢ id) × (get_elem? s.views q ≡ some v)). let old = r.seats q v h.1 in let o = others_run id q v h.0 new run all ok (old.0, old.1) in
         (o.0, o.1, old.2)) (at_set s.views id q w v e);
     lays = lays;
-    beyond = λ q le. nobody_run id q (λ e. let lt = lt_of_at s.views id me.0 at in let same = length-set s.views id w in
+    beyond = λ q le. nobody_run id q (λ e. let lt = in_list s.views id me.0 at in let same = length-set s.views id w in
         absurd (omega arith)) new run all ok (r.beyond q (let same = length-set s.views id w in omega arith));
   }
-    where
-      lt_of_at : (l : List (View N)) (j : ℕ) (v : View N) → get_elem? l j ≡ some v → j < length l
-      lt_of_at [] j v e = absurd (some-ne-none v (sym e))
-      lt_of_at (y ∷ ys) zero v e = omega arith
-      lt_of_at (y ∷ ys) (suc j) v e = let h = lt_of_at ys j v e in omega arith
 
   -- what the leader has stored stays: at a step on the first two words, or in a published round
   pub still_laid : (run : List Event) (s : table.State X (View N)) (r : Rule run s) (i x id : ℕ) (me : SeatOf) (w : View N) (new : List Event)

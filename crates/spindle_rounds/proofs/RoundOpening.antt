@@ -5,6 +5,7 @@ use mathlib.Core.Option.{some, some-injective, some-ne-none}
 use lib.ListN.{get_elem?}
 use Rattle.atomic_table.specs.Table.{opening, Splits}
 use Rattle.atomic_table.proofs.Lists.{set_again}
+use Rattle.spindle_rounds.proofs.Lists.{in_list, at_end}
 use Rattle.spindle_parts.specs.State.{State, Party, party, absent, fresh}
 use Rattle.spindle_parts.specs.Steps.{Event}
 use Rattle.spindle_parts.specs.Runs.{state}
@@ -18,16 +19,6 @@ use Rattle.spindle_rounds.proofs.RoundMoves.{Rule, shown, laid_hidden}
 use Rattle.spindle_rounds.proofs.RoundWords.{hidden_shown}
 
 module _ {N : Type 0} where
-  at_end : (l : List (View N)) (a b : View N) (j : ℕ) → get_elem? (l ++ a ∷ []) j ≡ some b → (get_elem? l j ≡ some b) ⊎ ((j ≡ length l) × (a ≡ b))
-  at_end [] a b zero e = inr (refl, some-injective a b e)
-  at_end [] a b (suc j) e = absurd (some-ne-none b (sym e))
-  at_end (x ∷ xs) a b zero e = inl e
-  at_end (x ∷ xs) a b (suc j) e = ⊎_elim inl (λ (t : (j ≡ length xs) × (a ≡ b)). inr (ap suc t.0, t.1)) (at_end xs a b j e)
-
-  some_there : (l : List (View N)) (i : ℕ) (v : View N) → get_elem? l i ≡ some v → 0 < length l
-  some_there [] i v e = absurd (some-ne-none v (sym e))
-  some_there (x ∷ xs) i v e = omega arith
-
   -- who has done nothing shows as an outsider
   blank_shows : (s : State) (t p : ℕ) (leads : Bool) → (leads ≡ true → p ≡ 0) × (leads ≡ false → p ≢ 0) → party s p ≡ absent → s.closer ≢ Some p
       → let v : View N = outsider t leads in Shows s p v
@@ -60,11 +51,11 @@ module _ {X N : Type 0} (D : Discipline X N) (law : Lawful D) (t : ℕ) where
         is_run = r.is_run;
         words = r.words;
         seats = λ p u e. ⊎_elim (r.seats p u) (λ (z : (p ≡ length s.views) × (new ≡ u)). let b = r.beyond p (let z₀ = z.0 in omega arith) in
-            let some_seat = some_there s.views id v at in let z₀ = z.0 in
+            let some_seat = in_list s.views id v at in let z₀ = z.0 in
             subst (λ (y : View N). Shows (state run) p y × (deeds_of y.trail ≡ deeds p run) × (y.threads ≡ t)) z.1
             (blank_shows (state run) v.threads p false ((λ e. absurd cc), (λ _ e. omega arith)) b.0 b.1, sym b.2, (r.seats id v at).2))
             (at_end s.views new u p e);
-        lays = λ u e. ⊎_elim (r.lays u) (λ (z : (0 ≡ length s.views) × (new ≡ u)). let some_seat = some_there s.views id v at in let z₀ = z.0 in
+        lays = λ u e. ⊎_elim (r.lays u) (λ (z : (0 ≡ length s.views) × (new ≡ u)). let some_seat = in_list s.views id v at in let z₀ = z.0 in
             absurd (omega arith)) (at_end s.views new u 0 e);
         beyond = λ p le. r.beyond p (let n = length-append s.views (new ∷ []) in omega arith);
         slots = law.splits (state run) s.homes s.views new r.slots (refl, refl, refl);

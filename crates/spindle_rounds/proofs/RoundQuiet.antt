@@ -7,10 +7,11 @@ use Rattle.spindle_parts.specs.State.{State, Out, Party, Round, put, put_party, 
 use Rattle.spindle_parts.specs.Steps.{Event, Join, Publish, PublishTry, Take, Begin, Finish, Stop, See, PutBack, Arrive, Leave, Exit, Clear, End, with_status}
 use Rattle.spindle_parts.specs.Steps.{Allowed, after, arrived}
 use Rattle.spindle_parts.specs.Runs.{IsRun, state}
-use Rattle.spindle_parts.proofs.Parties.{put_all}
+use Rattle.spindle_parts.proofs.Parties.{next_round, put_all}
 use Rattle.spindle_parts.proofs.Fates.{Fate, Open, Held, Ran, Done, started, over, none_begun}
 use Rattle.spindle_parts.proofs.Soundness.{Sound, sound, none_in, no_closer, alone_hidden}
 use Rattle.spindle_rounds.specs.RoundSlots.{Quiet}
+use Rattle.spindle_rounds.proofs.RoundWords.{by_equal}
 
 abbrev pub IsQuiet : Event → Type 0
 IsQuiet (Publish p n) = ⊥
@@ -43,6 +44,17 @@ same s s' e r p = record {
   running = λ _ _ _. r;
 }
 
+-- the next round begins, while nothing is published and nothing runs
+later : (s s' : State) → s'.rounds ≡ s.rounds → ((n : ℕ) → s'.published ≡ Some n → ⊥)
+    → ((k : ℕ) → 0 < times k (now s).begun → times k (now s).finished ≡ 0 → ⊥) → Quiet s s'
+later s s' e hidden none_runs = record {
+  begun = λ q k. ap (λ (f : ℕ → Round). times k (f q).begun) e;
+  finished = λ q k. ap (λ (f : ℕ → Round). times k (f q).finished) e;
+  jobs = λ q. ap (λ (f : ℕ → Round). (f q).jobs) e;
+  published = λ n z. absurd (hidden n z);
+  running = λ k b f. absurd (none_runs k b f);
+}
+
 -- the round's record becomes r, with the same numbers
 changed : (s : State) (r : Round) → ((k : ℕ) → times k r.begun ≡ times k (now s).begun) → ((k : ℕ) → times k r.finished ≡ times k (now s).finished) → r.jobs ≡
     (now s).jobs → Quiet s (change_round s r)
@@ -55,46 +67,20 @@ changed s r b f j = record {
 }
 
 pub quiet : (s : State) → Sound s → (e : Event) → IsQuiet e → Allowed s e → Quiet s (after s e)
-quiet s h (Join p) q ok = same s (after s (Join p)) refl refl (λ n z. z)
 quiet s h (Publish p n) q ok = absurd q
 quiet s h (PublishTry p n) q ok = absurd q
-quiet s h (Take p some) q ok = same s (after s (Take p some)) refl refl (λ n z. z)
 quiet s h (Begin p k) q ok = absurd q
 quiet s h (Finish p) q ok = absurd q
 quiet s h (Stop p) q ok = changed s (record (now s) { stopped = true; seen = put (now s).seen p true }) (λ k. refl) (λ k. refl) refl
 quiet s h (See p) q ok = changed s (record (now s) { seen = put (now s).seen p true }) (λ k. refl) (λ k. refl) refl
-quiet s h (PutBack p) q ok = same s (after s (PutBack p)) refl refl (λ n z. z)
-quiet s h (Arrive p) q ok = same s (after s (Arrive p)) refl refl (λ n z. z)
-quiet s h (Leave p) q ok = same s (after s (Leave p)) refl refl (λ n z. z)
-quiet s h (Exit p) q ok = let ps : List Party = put_party s.parties p (with_status Out (party s p)) in let none_closes = no_closer s h p ok.0 in
-    dite (ℕ_discrete (members ps) 0)
-    (λ e. let hid = alone_hidden s h p ok.0 ok.2 e in subst (λ (b : Bool). Quiet s
-    (if b then record { round = s.round + 1; parties = ps; closer = s.closer; published = s.published; rounds = s.rounds } else arrived s p ps))
-    (sym (eq-eqb (members ps) 0 e))
-    record {
-      begun = λ _ _. refl;
-      finished = λ _ _. refl;
-      jobs = λ _. refl;
-      published = λ n z. absurd cc;
-      running = λ k b f. let o = none_begun h.fate
-          (now s) s.parties h.work (h.gate.hidden hid none_closes) k in let a = h.work.begun k in let z = ap started o in absurd (omega arith);
-    })
-    (λ n. subst (λ (b : Bool). Quiet s (if b then record {
-      round = s.round + 1;
-      parties = ps;
-      closer = s.closer;
-      published = s.published;
-      rounds = s.rounds;
-    } else arrived s p ps)) (sym (ne_eqb (members ps) 0 n)) (same s (arrived s p ps) refl refl (λ n z. z)))
+quiet s h (Exit p) q ok = let ps : List Party = put_party s.parties p (with_status Out (party s p)) in
+    by_equal (members ps) 0 (λ b. Quiet s (if b then next_round s ps s.closer else arrived s p ps))
+    (λ e. let hid = alone_hidden s h p ok.0 ok.2 e in let all = none_begun h.fate (now s) s.parties h.work (h.gate.hidden hid (no_closer s h p ok.0)) in
+    later s (next_round s ps s.closer) refl (λ n z. cc) (λ k b f. let a = h.work.begun k in let z = ap started (all k) in omega arith))
+    (λ n. same s (arrived s p ps) refl refl (λ n z. z))
 quiet s h (Clear p) q ok = same s (after s (Clear p)) refl refl (λ n z. absurd cc)
-quiet s h (End p) q ok = record {
-  begun = λ _ _. refl;
-  finished = λ _ _. refl;
-  jobs = λ _. refl;
-  published = λ n z. (let a = ok.1 in
-      absurd cc);
-  running = λ k b f. absurd (runs_in s h k b f (h.gate.closing p ok.0).0);
-}
+quiet s h (End p) q ok = later s (after s (End p)) refl (λ n z. let a = ok.1 in cc) (λ k b f. runs_in s h k b f (h.gate.closing p ok.0).0)
+quiet s h e q ok = same s (after s e) refl refl (λ n z. z)
 
 chains : (a b c : State) → Quiet a b → Quiet b c → Quiet a c
 chains a b c f g = record {

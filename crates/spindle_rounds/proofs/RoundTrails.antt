@@ -96,16 +96,8 @@ by_deed s P none shows tries begins ends stops (Publish p n) = shows p n
 by_deed s P none shows tries begins ends stops (PublishTry p n) = tries p n
 by_deed s P none shows tries begins ends stops (Begin p k) = begins p k
 by_deed s P none shows tries begins ends stops (Finish p) = ends p
-by_deed s P none shows tries begins ends stops (Join p) = none (Join p) tt refl
-by_deed s P none shows tries begins ends stops (Take p f) = none (Take p f) tt refl
 by_deed s P none shows tries begins ends stops (Stop p) = stops p
-by_deed s P none shows tries begins ends stops (See p) = none (See p) tt refl
-by_deed s P none shows tries begins ends stops (PutBack p) = none (PutBack p) tt refl
-by_deed s P none shows tries begins ends stops (Arrive p) = none (Arrive p) tt refl
-by_deed s P none shows tries begins ends stops (Leave p) = none (Leave p) tt refl
-by_deed s P none shows tries begins ends stops (Exit p) = none (Exit p) tt refl
-by_deed s P none shows tries begins ends stops (Clear p) = none (Clear p) tt refl
-by_deed s P none shows tries begins ends stops (End p) = none (End p) tt refl
+by_deed s P none shows tries begins ends stops e = none e tt refl
 
 -- the round that goes on, with what a party has run among the finished
 abbrev done : State → Option ℕ → Round

@@ -23,6 +23,7 @@ use Rattle.spindle_rounds.specs.PieceRounds.{PublishedPieces, AwaitsAnswers}
 use Rattle.spindle_rounds.specs.SlotLoops.{IsEmpty, IsPiece, HoldsEach, Turning}
 use Rattle.spindle_rounds.specs.SlotHands.{turned_by, AllOut, AllVacant, HoldsAll, WaitsAs, LaidOut, AnsweredAs}
 use Rattle.spindle_rounds.specs.SpotPlaces.{spot_else}
+use Rattle.spindle_rounds.proofs.Lists.{in_list}
 use Rattle.spindle_rounds.proofs.PieceClients.{numbered_at, there, turned_on, back_at, piece_back, published_last, all_out}
 use Rattle.spindle_rounds.proofs.SlotLoops.{back_on}
 
@@ -41,11 +42,6 @@ module _ {X : Type 0} where
   in_either (x ∷ new) old zero y e = inl e
   in_either (x ∷ new) old (suc k) y e = ⊎_elim inl
       (λ (t : (j : ℕ) × (k ≡ length new + j) × (get_elem? old j ≡ some y)). inr (t.0, (let s = t.1 in omega arith), t.2)) (in_either new old k y e)
-
-  in_list : (l : List X) (k : ℕ) (y : X) → get_elem? l k ≡ some y → k < length l
-  in_list [] k y e = absurd (some-ne-none y (sym e))
-  in_list (x ∷ l) zero y e = omega arith
-  in_list (x ∷ l) (suc k) y e = let a = in_list l k y e in omega arith
 
   -- after these turns all slots are at the hand in their order
   pub settled : (P Q R : ℕ → X → Type 0) (n i : ℕ) (c : List (ℕ × X)) → Turning P Q n i c → ((k : ℕ) (y : X) → i ≤ k → P k y → R k y)

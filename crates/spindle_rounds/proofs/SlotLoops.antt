@@ -18,15 +18,10 @@ use Rattle.spindle_rounds.specs.SlotSteps.{numbered, board_back}
 use Rattle.spindle_rounds.specs.SlotLoops.{IsPiece, HoldsEach, Turning}
 use Rattle.spindle_rounds.specs.RoundPieces.{pieces, spot_with, AreFilled, IsAtHand, IsUnrun}
 use Rattle.spindle_rounds.specs.SpotPlaces.{spot_else}
+use Rattle.spindle_rounds.proofs.Lists.{at_end}
 use Rattle.spindle_rounds.proofs.PieceClients.{there, turned_on, may_put_all, back_before, piece_back}
 
 module _ {X : Type 0} where
-  at_last : (l : List X) (a b : X) (k : ℕ) → get_elem? (l ++ a ∷ []) k ≡ some b → (get_elem? l k ≡ some b) ⊎ ((length l ≡ k) × (a ≡ b))
-  at_last [] a b zero e = inr (refl, some-injective a b e)
-  at_last [] a b (suc k) e = absurd (some-ne-none b (sym e))
-  at_last (x ∷ xs) a b zero e = inl e
-  at_last (x ∷ xs) a b (suc k) e = ⊎_elim inl (λ (t : (length xs ≡ k) × (a ≡ b)). inr (ap suc t.0, t.1)) (at_last xs a b k e)
-
   module _ (P Q : ℕ → X → Type 0) (n : ℕ) where
     pub turning_first : (c : List (ℕ × X)) → HoldsEach P n c → Turning P Q n 0 c
     turning_first c h = record {
@@ -66,8 +61,8 @@ module _ {X : Type 0} where
           left = omega arith;
           done = (let a = length-append t.new (z ∷ []) in let b = t.done in omega arith);
           old_are = λ k x e. let at : i + suc k ≡ i + 1 + k = omega arith in subst (λ (j : ℕ). P j x) at (all (suc k) x e);
-          new_are = λ k x e. ⊎_elim (t.new_are k x) (λ (s : (length t.new ≡ k) × (z ≡ x)). let at : i ≡ k = (let a = s.0 in let b = t.done in omega arith) in
-              subst (λ (w : ℕ × X). Q w.0 w.1) (λ j. (at j, s.1 j)) q) (at_last t.new z x k e);
+          new_are = λ k x e. ⊎_elim (t.new_are k x) (λ (s : (k ≡ length t.new) × (z ≡ x)). let at : i ≡ k = (let a = s.0 in let b = t.done in omega arith) in
+              subst (λ (w : ℕ × X). Q w.0 w.1) (λ j. (at j, s.1 j)) q) (at_end t.new z x k e);
         }
 
     pub turning_last : (i : ℕ) (c : List (ℕ × X)) → i ≡ n → Turning P Q n i c → HoldsEach Q n c
