@@ -48,51 +48,43 @@ module _ {S N : Type 0} (D : Discipline S N) (m w : Me S (View N)) (may : MayCla
   inside = (may.0.0, may.0.1)
 
   pub own_claimed : (i : ℕ) (r : Claim) → OwnClaimedBy D i r m w → AfterClaim r m.0 w.0
-  own_claimed i (claim.Job c) a = let v : View N = searching i a.0 m.0 in let u : View N = claiming (range_at i) a.0 a.1 v in
-      subst (AfterClaim (claim.Job c) m.0) (sym a.2) (
-        onward_then m.0 v u (searched_on i a.0 m.0) (began_on (range_at i) (start_of a.0) a.0 (a.0 + 1) a.1 v),
-        (refl, refl),
-        (refl, refl),
-        (inside, ap (λ (k : ℕ). Some k) (sym a.4)),
-      )
-  own_claimed i claim.Nothing a = subst (AfterClaim claim.Nothing m.0) (sym (ap (λ z. z.0) a.1)) (searched_on i a.0 m.0, (refl, refl), (refl, refl), may)
-  own_claimed i claim.Again a = let v : View N = searching i a.0 m.0 in
-      subst (AfterClaim claim.Again m.0) (sym (ap (λ z. z.0) a.2)) (
-        onward_then m.0 v (missing (range_at i) a.1 v) (searched_on i a.0 m.0)
-            (missed_on (range_at i) a.1 v),
-        (refl, refl),
-        (refl, refl),
-        may,
-      )
+  own_claimed i (claim.Job c) a = rw a.2 (
+    onward_then m.0 (searching i a.0 m.0) _ (searched_on i a.0 m.0) (began_on (range_at i) _ _ _ a.1 _),
+    (refl, refl),
+    (refl, refl),
+    (inside, ap (λ (k : ℕ). Some k) (sym a.4)),
+  )
+  own_claimed i claim.Nothing a = rw a.1 (searched_on i a.0 m.0, (refl, refl), (refl, refl), may)
+  own_claimed i claim.Again a = rw a.2
+      (onward_then m.0 (searching i a.0 m.0) _ (searched_on i a.0 m.0) (missed_on (range_at i) a.1 _), (refl, refl), (refl, refl), may)
 
   pub remainder_claimed : (n : ℕ) (r : Claim) → RemainderClaimedBy D n r m w → AfterClaim r m.0 w.0
-  remainder_claimed n (claim.Job c) a = let v : View N = reading_remainder a.0 m.0 in let u : View N = recalling n v in
-      let z : View N = claiming_remainder n a.0 a.1 u in subst (AfterClaim (claim.Job c) m.0) (sym a.2) (
-        onward_then m.0 v z (remainder_on a.0 m.0) (onward_then v u z (recalled_on n v) (began_on remainder_at (n - a.0) a.0 (a.0 - 1) a.1 u)),
-        (refl, refl),
-        (refl, refl),
-        (inside, ap (λ (k : ℕ). Some k) (sym a.4)),
-      )
-  remainder_claimed n claim.Nothing a = subst (AfterClaim claim.Nothing m.0) (sym (ap (λ z. z.0) a.1)) (remainder_on a.0 m.0, (refl, refl), (refl, refl), may)
-  remainder_claimed n claim.Again a = let v : View N = reading_remainder a.0 m.0 in let u : View N = recalling n v in
-      let z : View N = missing remainder_at a.1 u in
-      subst (AfterClaim claim.Again m.0) (sym (ap (λ y. y.0) a.2))
-      (onward_then m.0 v z (remainder_on a.0 m.0) (onward_then v u z (recalled_on n v) (missed_on remainder_at a.1 u)), (refl, refl), (refl, refl), may)
+  remainder_claimed n (claim.Job c) a = let v : View N = reading_remainder a.0 m.0 in rw a.2 (
+    onward_then m.0 v _ (remainder_on a.0 m.0) (onward_then v (recalling n v) _ (recalled_on n v) (began_on remainder_at _ _ _ a.1 _)),
+    (refl, refl),
+    (refl, refl),
+    (inside, ap (λ (k : ℕ). Some k) (sym a.4)),
+  )
+  remainder_claimed n claim.Nothing a = rw a.1 (remainder_on a.0 m.0, (refl, refl), (refl, refl), may)
+  remainder_claimed n claim.Again a = let v : View N = reading_remainder a.0 m.0 in rw a.2 (
+    onward_then m.0 v _ (remainder_on a.0 m.0) (onward_then v (recalling n v) _ (recalled_on n v) (missed_on remainder_at a.1 _)),
+    (refl, refl),
+    (refl, refl),
+    may,
+  )
 
   -- the remainder was read as empty
   pub remainder_nothing : (n : ℕ) → RemainderClaimedBy D n claim.Nothing m w → IsListed w.0.threads w.0.known.emptied
-  remainder_nothing n a = subst (λ (v : View N). IsListed v.threads v.known.emptied) (sym (ap (λ z. z.0) a.1)) (remainder_empty may.1.0 a.0 m.0 may.1.1 a.2)
+  remainder_nothing n a = rw a.1 (remainder_empty may.1.0 a.0 m.0 may.1.1 a.2)
 
   pub stolen : (t : ℕ) (r : Steal) → StolenBy D t r m w → AfterSteal t r m.0 w.0
-  stolen t (steal.Job c share) a = let v : View N = searching_all 0 a.0 m.0 in let b = all_searched_on 0 a.0 m.0 in let x : ℕ = get_or a.0 a.1 0 in
-      let u : View N = stealing (range_at a.1) x a.2 v in
-      subst (AfterSteal t (steal.Job c share) m.0) (sym a.5) (
-        onward_then m.0 v u b.0 (stole_on (range_at a.1) x a.2 v),
-        b.1,
-        ((may.0.0, b.0.standing ∙ may.0.1), ap (λ (k : ℕ). Some k) (sym a.7)),
-        (a.8 ∙ ap (λ (k : ℕ). k + 1) a.7, a.9),
-      )
-  stolen t steal.Nothing a = let b = all_searched_on 0 a.0 m.0 in subst (AfterSteal t steal.Nothing m.0) (sym (ap (λ z. z.0) a.3)) (
+  stolen t (steal.Job c share) a = let b = all_searched_on 0 a.0 m.0 in rw a.5 (
+    onward_then m.0 (searching_all 0 a.0 m.0) _ b.0 (stole_on (range_at a.1) (get_or a.0 a.1 0) a.2 _),
+    b.1,
+    ((may.0.0, b.0.standing ∙ may.0.1), ap (λ (k : ℕ). Some k) (sym a.7)),
+    (a.8 ∙ ap (λ (k : ℕ). k + 1) a.7, a.9),
+  )
+  stolen t steal.Nothing a = let b = all_searched_on 0 a.0 m.0 in rw a.3 (
     b.0,
     b.1,
     b.2,
@@ -101,70 +93,67 @@ module _ {S N : Type 0} (D : Discipline S N) (m w : Me S (View N)) (may : MayCla
         subst (λ (j : ℕ). IsListed j (searching_all 0 a.0 m.0).known.emptied) same
         (all_listed may.1.0 0 a.0 m.0 may.1.1 (λ j l. a.2 j (omega arith)) i (omega arith))),
   )
-  stolen t steal.Again a = let v : View N = searching_all 0 a.0 m.0 in let b = all_searched_on 0 a.0 m.0 in let u : View N = missing (range_at a.1) a.2 v in
-      subst (AfterSteal t steal.Again m.0) (sym (ap (λ z. z.0) a.5)) (
-        onward_then m.0 v u b.0 (missed_on (range_at a.1) a.2 v),
-        b.1,
-        b.2,
-        may_still 0 a.0 m.0 may,
-      )
+  stolen t steal.Again a = let b = all_searched_on 0 a.0 m.0 in rw a.5
+      (onward_then m.0 (searching_all 0 a.0 m.0) _ b.0 (missed_on (range_at a.1) a.2 _), b.1, b.2, may_still 0 a.0 m.0 may)
 
 -- A number of a share has begun, and the share that is left is the seat's.
 pub share_next : {S N : Type 0} (D : Discipline S N) (m w : Me S (View N)) (i k : ℕ) (share left : Span) → MayBegin m.0 → IsItsShare share m.0
     → SharedBy D i share (Some k) left m w → Onward m.0 w.0 × SeesAsBefore m.0 w.0 × MayFinish k w.0 × IsItsShare left w.0
-share_next {N = N} D m w i k share left may own a = let word : ℕ = range_word (k + 1) share.to in let is : k ≡ m.0.from = a.3 ∙ own.0 in
-    subst (λ (u : View N). Onward m.0 u × SeesAsBefore m.0 u × MayFinish k u × IsItsShare left u) (sym a.1)
-    (shared_on (range_at i) word a.0 m.0, (refl, refl), (may.0, ap (λ (j : ℕ). Some j) (sym is)), (a.5 ∙ ap (λ (j : ℕ). j + 1) is, a.6 ∙ own.1))
+share_next D m w i k share left may own a = let word : ℕ = range_word (k + 1) share.to in let is : k ≡ m.0.from = a.3 ∙ own.0 in
+    rw a.1 (shared_on (range_at i) word a.0 m.0, (refl, refl), (may.0, ap (λ (j : ℕ). Some j) (sym is)), (a.5 ∙ ap (λ (j : ℕ). j + 1) is, a.6 ∙ own.1))
 
 -- A number has finished: the seat may begin the next of its share, and share and stop are as before. After the last one it knows that nothing is left.
 pub finish_done : {N : Type 0} (found : ℕ) (v w : View N) → w ≡ finishing found v → HasFinished found v w
-finish_done {N = N} found v w a = subst (λ (u : View N). HasFinished found v u) (sym a)
+finish_done found v w a = rw a
     (finished_on found v, (λ _. (refl, refl)), (refl, refl), refl, λ last i le. finished_all v.known.number (found + 1) v.threads v.known.emptied last i le)
 
 -- The stop was seen, or not.
 pub stop_seen : {S N : Type 0} (m w : Me S (View N)) (stopped : Bool) → SeenBy stopped m w → Onward m.0 w.0 × (w.0.known.seen_stop ≡ stopped)
     × SharesAsBefore m.0 w.0 × (w.0.claim ≡ m.0.claim) × StopsAsBefore m.0 w.0
-stop_seen {N = N} m w true a = subst (λ (u : View N). Onward m.0 u × (u.known.seen_stop ≡ true) × SharesAsBefore m.0 u × (u.claim ≡ m.0.claim)
-    × StopsAsBefore m.0 u) (sym (ap (λ z. z.0) a)) (saw_on 1 m.0, refl, (refl, refl), refl, refl)
-stop_seen {N = N} m w false a = subst (λ (u : View N). Onward m.0 u × (u.known.seen_stop ≡ false) × SharesAsBefore m.0 u × (u.claim ≡ m.0.claim)
-    × StopsAsBefore m.0 u) (sym (ap (λ z. z.0) a)) (saw_on 0 m.0, refl, (refl, refl), refl, refl)
+stop_seen m w true a = rw a (saw_on 1 m.0, refl, (refl, refl), refl, refl)
+stop_seen m w false a = rw a (saw_on 0 m.0, refl, (refl, refl), refl, refl)
 
 -- Who has stopped the round still has its claim, and has seen the stop.
 pub stop_done : {S N : Type 0} (m w : Me S (View N)) → w ≡ (stopping 1 m.0, m.1) → Onward m.0 w.0 × (w.0.known.seen_stop ≡ true) × SharesAsBefore m.0 w.0 ×
     (w.0.claim ≡ m.0.claim)
-stop_done {N = N} m w a = subst (λ (u : View N). Onward m.0 u × (u.known.seen_stop ≡ true) × SharesAsBefore m.0 u × (u.claim ≡ m.0.claim))
-    (sym (ap (λ z. z.0) a)) (stopped_on 1 m.0, refl, (refl, refl), refl)
+stop_done m w a = rw a (stopped_on 1 m.0, refl, (refl, refl), refl)
 
 -- A share is back, or else the seat may try again.
 pub share_put : {S N : Type 0} (m w : Me S (View N)) (i : ℕ) (r : PutBack) (share left : Span) → MayPutBack m.0 → IsItsShare share m.0
     → PutBy i r share left m w → Onward m.0 w.0 × SeesAsBefore m.0 w.0 × MayPutBack w.0 × IsItsShare left w.0 × (r ≡ back.Put → left.from ≡ left.to)
-share_put {N = N} m w i back.Put share left may own a = let v : View N = searching i a.0 m.0 in let u : View N = putting_back (range_at i) a.0 v in
-    subst (λ (z : View N). Onward m.0 z × SeesAsBefore m.0 z × MayPutBack z × IsItsShare left z × (back.Put ≡ back.Put → left.from ≡ left.to))
-    (sym (ap (λ z. z.0) a.1)) (onward_then m.0 v u (searched_on i a.0 m.0) (put_on (range_at i) a.0 v), (refl, refl), may, (a.3 ∙ own.1, a.4 ∙ own.1), λ _. a.3 ∙ sym a.4)
-share_put {N = N} m w i back.Occupied share left may own a = subst (λ (z : View N). Onward m.0 z × SeesAsBefore m.0 z × MayPutBack z × IsItsShare left z ×
-    (back.Occupied ≡ back.Put → left.from ≡ left.to)) (sym (ap (λ z. z.0) a.1))
+share_put m w i back.Put share left may own a = rw a.1 (
+  onward_then m.0 (searching i a.0 m.0) _ (searched_on i a.0 m.0) (put_on (range_at i) a.0 _),
+  (refl, refl),
+  may,
+  (a.3 ∙ own.1, a.4 ∙ own.1),
+  λ _. a.3 ∙ sym a.4,
+)
+share_put m w i back.Occupied share left may own a = rw a.1
     (searched_on i a.0 m.0, (refl, refl), may, subst (λ (z : Span). IsItsShare z m.0) (sym a.3) own, λ e. absurd cc)
-share_put {N = N} m w i back.Again share left may own a = let v : View N = searching i a.0 m.0 in
-    subst (λ (z : View N). Onward m.0 z × SeesAsBefore m.0 z × MayPutBack z × IsItsShare left z × (back.Again ≡ back.Put → left.from ≡ left.to))
-    (sym (ap (λ z. z.0) a.2)) (
-      onward_then m.0 v (missing (range_at i) a.1 v) (searched_on i a.0 m.0) (missed_on (range_at i) a.1 v),
-      (refl, refl),
-      may,
-      subst (λ (z : Span). IsItsShare z m.0)
-          (sym a.4) own,
-      λ e. absurd cc,
-    )
+share_put m w i back.Again share left may own a = rw a.2 (
+  onward_then m.0 (searching i a.0 m.0) _ (searched_on i a.0 m.0) (missed_on (range_at i) a.1 _),
+  (refl, refl),
+  may,
+  subst (λ (z : Span). IsItsShare z m.0) (sym a.4) own,
+  λ e. absurd cc,
+)
 
 -- What is left was read.
 pub left_seen : {S N : Type 0} (m w : Me S (View N)) (t i found : ℕ) → i ≤ t → LeftOverBy t i found m w → Onward m.0 w.0 × SeesAsBefore m.0 w.0
     × SharesAsBefore m.0 w.0 × (w.0.claim ≡ m.0.claim)
-left_seen {N = N} m w t i found le a = let P : View N → Type 0 = λ u. Onward m.0 u × SeesAsBefore m.0 u × SharesAsBefore m.0 u × (u.claim ≡ m.0.claim) in
-    let u : View N = searching i found m.0 in let w' : View N = reading_remainder found m.0 in
-    dite (ℕ_discrete i t)
-    (λ here. subst P (sym (ap (λ z. z.0) (a.1 here)))
-    (onward_then m.0 w' (finding remainder_at found w') (remainder_on found m.0) (found_on remainder_at found w'), (refl, refl), (refl, refl), refl))
-    (λ apart. subst P (sym (ap (λ z. z.0) (a.0 (omega arith))))
-    (onward_then m.0 u (finding (range_at i) found u) (searched_on i found m.0) (found_on (range_at i) found u), (refl, refl), (refl, refl), refl))
+left_seen m w t i found le a = dite (ℕ_discrete i t)
+    (λ here. rw (a.1 here) (
+      onward_then m.0 (reading_remainder found m.0) _ (remainder_on found m.0) (found_on remainder_at found _),
+      (refl, refl),
+      (refl, refl),
+      refl,
+    ))
+    (λ apart. rw (a.0 (omega arith)) (
+      onward_then m.0 (searching i found m.0) _ (searched_on i found m.0) (found_on (range_at i) found _),
+      (refl, refl),
+      (refl, refl),
+      refl,
+    ))
 
 -- Arriving.
 
@@ -184,22 +173,19 @@ all_empty n b v a ranges rest = inr (inr (inr (
 pub filled_round : {S N : Type 0} (D : Discipline S N) (t n q : ℕ) (v w : View N) → v.standing ≡ Inside q → v.known.unpublished ≡ true
     → D.may_publish q n v.board → FilledBy t n v w → MayPublish D t n w × (deeds_of w.trail ≡ deeds_of v.trail) × (w.claim ≡ v.claim)
     × SharesAsBefore v w × (w.standing ≡ Inside q)
-filled_round {N = N} D t n q v w inside_q alone may f = subst (λ (u : View N). MayPublish D t n u × (deeds_of u.trail ≡ deeds_of v.trail) ×
-    (u.claim ≡ v.claim) × SharesAsBefore v u × (u.standing ≡ Inside q)) (sym f.0)
+filled_round D t n q v w inside_q alone may f = rw f.0
     ((q, inside_q, alone, filled_stands t n v.known.stored (3 + t), may), filled_quiet t n v.trail (3 + t), refl, (refl, refl), inside_q)
 
 -- a published round is the leader's work, and stands in its trail
 pub round_published : {S N : Type 0} (m w : Me S (View N)) (q n : ℕ) (b : Bool) → m.0.standing ≡ Inside q → w ≡ (publishing b n m.0, m.1) → AtWork n b w.0 ×
     (w.0.known.seen_stop ≡ false) × (w.0.claim ≡ m.0.claim) × SharesAsBefore m.0 w.0 × (published_of w.0.trail ≡ Showed q n b ∷ published_of m.0.trail)
-round_published {N = N} m w q n b inside_q a = subst (λ (u : View N). AtWork n b u × (u.known.seen_stop ≡ false) × (u.claim ≡ m.0.claim) × SharesAsBefore m.0 u
-    × (published_of u.trail ≡ Showed q n b ∷ published_of m.0.trail)) (sym (ap (λ z. z.0) a)) (
-      record { inside = (q, inside_q); number = refl; may_stop = refl },
-      refl,
-      refl,
-      (refl, refl),
-      ap (λ (z : ℕ). Showed z n b ∷ published_of m.0.trail)
-          (ap round_of inside_q),
-    )
+round_published m w q n b inside_q a = rw a (
+  record { inside = (q, inside_q); number = refl; may_stop = refl },
+  refl,
+  refl,
+  (refl, refl),
+  ap (λ (z : ℕ). Showed z n b ∷ published_of m.0.trail) (ap round_of inside_q),
+)
 
 -- who may claim may claim again, once what it has begun since is finished and its share is empty
 pub claims_again : {N : Type 0} (v w : View N) → MayClaim v → Onward v w → SeesAsBefore v w → w.to ≤ w.from → w.claim ≡ None → MayClaim w
@@ -209,15 +195,10 @@ claims_again v w may on same empty idle = ((may.0.0, on.standing ∙ may.0.1, id
 pub number_learned : {S N : Type 0} (m w : Me S (View N)) (q found : ℕ) → m.0.standing ≡ Inside q → w ≡ (learning found m.0, m.1) → found ≢ 0
     → AtWork (found % high_half) (nat_lt most_jobs found) w.0 × (found ≤ most_jobs → w.0.known.seen_stop ≡ false) × (w.0.claim ≡ m.0.claim)
     × SharesAsBefore m.0 w.0 × (published_of w.0.trail ≡ published_of m.0.trail)
-number_learned {N = N} m w q found inside_q a some = subst (λ (u : View N). AtWork (found % high_half) (nat_lt most_jobs found) u ×
-    (found ≤ most_jobs → u.known.seen_stop ≡ false) × (u.claim ≡ m.0.claim) × SharesAsBefore m.0 u × (published_of u.trail ≡ published_of m.0.trail))
-    (sym (ap (λ z. z.0) a)) (
-      record {
-        inside = (q, inside_q);
-        number = by_equal found 0 (λ b. (if b then None else Some (found % high_half)) ≡ Some (found % high_half))
-            (λ z. absurd (some z)) (λ _. refl);
-        may_stop = refl;
-      },
+number_learned m w q found inside_q a some = let number = by_equal found 0
+    (λ b. (if b then None else Some (found % high_half)) ≡ Some (found % high_half)) (λ z. absurd (some z)) (λ _. refl) in
+    rw a (
+      record { inside = (q, inside_q); number = number; may_stop = refl },
       (λ few. by_less most_jobs found (λ b. (if b then m.0.known.seen_stop else false) ≡ false) (λ lt. absurd (omega arith)) (λ _. refl)),
       refl,
       (refl, refl),
