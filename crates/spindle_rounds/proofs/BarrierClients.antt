@@ -70,6 +70,11 @@ module _ {S N : Type 0} where
   pub moved_once : (st : Standing) (k : Known) (m : Me S (View N)) (x : Trace Kind) → deed_of x.kind ≡ [] → Moved st k m (noted x (standing st k m.0), m.1)
   moved_once st k m x none = record { steps = x ∷ []; seat = refl; quiet = ap (λ (l : List Deed). l ++ []) none }
 
+  -- a load of the barrier word, and then one step more
+  moved_twice : (st : Standing) (k : Known) (m : Me S (View N)) (n : ℕ) (x : Trace Kind) → deed_of x.kind ≡ []
+      → Moved st k m (noted x (standing st k (loading barrier_at n m.0)), m.1)
+  moved_twice st k m n x none = record { steps = x ∷ trace barrier_at kind.Load n n ∷ []; seat = refl; quiet = ap (λ (l : List Deed). l ++ []) none }
+
   -- steps after steps
   pub moved_on : (st st' : Standing) (k k' : Known) (m u w : Me S (View N)) → Moved st k m u → Moved st' k' u w → Moved st' k' m w
   moved_on st st' k k' m u w a b = record {
@@ -87,15 +92,10 @@ module _ {S N : Type 0} where
   moved_known st k m w a = ap (λ (z : Me S (View N)). z.0.known) a.seat
 
   pub moved_claim : (st : Standing) (k : Known) (m w : Me S (View N)) → Moved st k m w → (w.0.claim ≡ m.0.claim) × (w.0.from ≡ m.0.from) × (w.0.to ≡ m.0.to)
-  moved_claim st k m w a = (
-    ap (λ (z : Me S (View N)). z.0.claim) a.seat,
-    ap (λ (z : Me S (View N)). z.0.from) a.seat,
-    ap
-        (λ (z : Me S (View N)). z.0.to) a.seat,
-  )
+  moved_claim st k m w a = rw a.seat (refl, refl, refl)
 
   pub moved_leader : (st : Standing) (k : Known) (m w : Me S (View N)) → Moved st k m w → (w.0.leader ≡ m.0.leader) × (w.0.threads ≡ m.0.threads)
-  moved_leader st k m w a = (ap (λ (z : Me S (View N)). z.0.leader) a.seat, ap (λ (z : Me S (View N)). z.0.threads) a.seat)
+  moved_leader st k m w a = rw a.seat (refl, refl)
 
   pub moved_deeds : (st : Standing) (k : Known) (m w : Me S (View N)) → Moved st k m w → deeds_of w.0.trail ≡ deeds_of m.0.trail
   moved_deeds st k m w a = ap (λ (z : Me S (View N)). deeds_of z.0.trail) a.seat ∙
@@ -124,43 +124,23 @@ module _ {S N : Type 0} where
   -- Joins.
   module _ (m w : Me S (View N)) where
     pub join_joined : (sense : ℕ) (a : JoinedBy (join.Joined sense) m w) → Moved (Inside a.1) (unknown m.0.leader a.2) m w
-    join_joined sense a = subst (λ (z : Me S (View N)). Moved (Inside a.1) (unknown m.0.leader a.2) m z) (sym a.3)
-        (moved_on m.0.standing (Inside a.1) m.0.known (unknown m.0.leader a.2) m (loading barrier_at a.0 m.0, m.1) _
-        (moved_once m.0.standing m.0.known m _ refl) (moved_once (Inside a.1) (unknown m.0.leader a.2) (loading barrier_at a.0 m.0, m.1) _ refl))
+    join_joined sense a = rw a.3 (moved_twice (Inside a.1) (unknown m.0.leader a.2) m a.0 _ refl)
 
     pub join_full : JoinedBy join.Full m w → Stayed m w
-    join_full a = subst (λ (z : Me S (View N)). Stayed m z) (sym a.1) (moved_once m.0.standing m.0.known m _ refl)
+    join_full a = rw a.1 (moved_once _ _ m _ refl)
 
     pub join_closing : JoinedBy join.Closing m w → Stayed m w
-    join_closing a = subst (λ (z : Me S (View N)). Stayed m z) (sym a.1) (moved_once m.0.standing m.0.known m _ refl)
+    join_closing a = rw a.1 (moved_once _ _ m _ refl)
 
     pub join_again : JoinedBy join.Again m w → Stayed m w
-    join_again a = subst (λ (z : Me S (View N)). Stayed m z) (sym a.2) (missed a.0 a.1)
-      where
-        missed : (n found : ℕ) → Stayed m (missing barrier_at found (loading barrier_at n m.0), m.1)
-        missed n found = stayed_on m (loading barrier_at n m.0, m.1) _ (moved_once m.0.standing m.0.known m _ refl)
-            (moved_once m.0.standing m.0.known (loading barrier_at n m.0, m.1) _ refl)
+    join_again a = rw a.2 (moved_twice _ _ m a.0 _ refl)
 
     -- Arrivals.
     pub arrived_waits : ArrivedBy arrival.Arrived m w → Moved (Waiting (round_of m.0.standing) m.0.known.unpublished) (unknown false false) m w
-    arrived_waits a = let q = round_of m.0.standing in let st : Standing = Waiting q m.0.known.unpublished in
-        subst (λ (z : Me S (View N)). Moved st (unknown false false) m z)
-        (sym (a.1 ∙ ap (λ (b : Bool). (
-          noted (trace barrier_at kind.Arrive a.0 (a.0 - 1))
-              (standing (if b then Closing q true false None else st) (unknown false false) m.0),
-          m.1,
-        )) (ne_eqb (count_of a.0) 1 a.2)))
-        (moved_once st (unknown false false) m _ refl)
+    arrived_waits a = rw (a.1, ne_eqb (count_of a.0) 1 a.2) (moved_once _ _ m _ refl)
 
     pub arrived_closes : ArrivedBy arrival.Closer m w → Moved (Closing (round_of m.0.standing) true false None) (unknown false false) m w
-    arrived_closes a = let q = round_of m.0.standing in let st : Standing = Closing q true false None in
-        subst (λ (z : Me S (View N)). Moved st (unknown false false) m z)
-        (sym (a.1 ∙ ap (λ (b : Bool). (
-          noted (trace barrier_at kind.Arrive a.0 (a.0 - 1))
-              (standing (if b then st else Waiting q m.0.known.unpublished) (unknown false false) m.0),
-          m.1,
-        )) (eq-eqb (count_of a.0) 1 a.2)))
-        (moved_once st (unknown false false) m _ refl)
+    arrived_closes a = rw (a.1, eq-eqb (count_of a.0) 1 a.2) (moved_once _ _ m _ refl)
 
     -- Exits.
     abbrev gone_by : ℕ → Bool → Me S (View N)
@@ -174,8 +154,7 @@ module _ {S N : Type 0} where
     exit_gone a = subst (λ (z : Me S (View N)). WentOut m z) (sym (a.1 ∙ ap (gone_by a.0)
         (⊎_elim (λ (e : count_of a.0 ≢ 1). ap (λ (b : Bool). b && nat_lt 1 (most_of a.0)) (ne_eqb (count_of a.0) 1 e))
         (λ (e : most_of a.0 ≤ 1). ap (λ (b : Bool). (count_of a.0 == 1) && b) (le-ltb 1 (most_of a.0) e) ∙ never (count_of a.0 == 1)) a.2)))
-        (moved_on m.0.standing Away m.0.known (unknown false false) m (loading barrier_at a.0 m.0, m.1) _ (moved_once m.0.standing m.0.known m _ refl)
-        (moved_once Away (unknown false false) (loading barrier_at a.0 m.0, m.1) _ refl))
+        (moved_twice Away (unknown false false) m a.0 _ refl)
       where
         never : (b : Bool) → (b && false) ≡ false
         never true = refl
@@ -184,18 +163,14 @@ module _ {S N : Type 0} where
     pub exit_closer : ExitedBy exit.Closer m w → Moved (Closing (round_of m.0.standing) false false None) (unknown false false) m w
     exit_closer a = let st : Standing = Closing (round_of m.0.standing) false false None in subst (λ (z : Me S (View N)). Moved st (unknown false false) m z)
         (sym (a.1 ∙ ap (gone_by a.0) (ap (λ (b : Bool). b && nat_lt 1 (most_of a.0)) (eq-eqb (count_of a.0) 1 a.2) ∙ lt-ltb 1 (most_of a.0) a.3)))
-        (moved_on m.0.standing st m.0.known (unknown false false) m (loading barrier_at a.0 m.0, m.1) _ (moved_once m.0.standing m.0.known m _ refl)
-        (moved_once st (unknown false false) (loading barrier_at a.0 m.0, m.1) _ refl))
+        (moved_twice st (unknown false false) m a.0 _ refl)
 
     pub exit_again : ExitedBy exit.Again m w → Stayed m w
-    exit_again a = subst (λ (z : Me S (View N)). Stayed m z) (sym a.2)
-        (stayed_on m (loading barrier_at a.0 m.0, m.1) _ (moved_once m.0.standing m.0.known m _ refl)
-        (moved_once m.0.standing m.0.known (loading barrier_at a.0 m.0, m.1) _ refl))
+    exit_again a = rw a.2 (moved_twice _ _ m a.0 _ refl)
 
     -- The closer's stores.
     pub cleared_once : w ≡ (clearing 0 m.0, m.1) → Moved (with_clear m.0.standing) m.0.known m w
-    cleared_once e = subst (λ (z : Me S (View N)). Moved (with_clear m.0.standing) m.0.known m z) (sym e)
-        (moved_once (with_clear m.0.standing) m.0.known m _ refl)
+    cleared_once e = rw e (moved_once _ _ m _ refl)
 
     abbrev ended_by : ℕ → Standing → Me S (View N)
     ended_by n st = let x = after_end m.0.leader (with_word n st) in
@@ -204,19 +179,12 @@ module _ {S N : Type 0} where
     -- a member is inside the next round, and one that had exited is out
     pub ended_next : (q : ℕ) (was : Option ℕ) → m.0.standing ≡ Closing q true true was → EndedBy m w → InNext m w
     ended_next q was closes a = subst (λ (z : Me S (View N)). InNext m z) (sym a.1)
-        (subst (λ (st : Standing). Moved (Inside (round_of st + 1)) (unknown m.0.leader false) m (ended_by a.0 st)) (sym closes) (two a.0))
-      where
-        two : (n : ℕ) → Moved (Inside (q + 1)) (unknown m.0.leader false) m (ended_by n (Closing q true true was))
-        two n = moved_on m.0.standing (Inside (q + 1)) m.0.known (unknown m.0.leader false) m (loading barrier_at n m.0, m.1) _
-            (moved_once m.0.standing m.0.known m _ refl) (moved_once (Inside (q + 1)) (unknown m.0.leader false) (loading barrier_at n m.0, m.1) _ refl)
+        (subst (λ (st : Standing). Moved (Inside (round_of st + 1)) (unknown m.0.leader false) m (ended_by a.0 st)) (sym closes)
+        (moved_twice (Inside (q + 1)) (unknown m.0.leader false) m a.0 _ refl))
 
     pub ended_out : (q : ℕ) (was : Option ℕ) → m.0.standing ≡ Closing q false true was → EndedBy m w → WentOut m w
     ended_out q was closes a = subst (λ (z : Me S (View N)). WentOut m z) (sym a.1)
-        (subst (λ (st : Standing). WentOut m (ended_by a.0 st)) (sym closes) (two a.0))
-      where
-        two : (n : ℕ) → WentOut m (ended_by n (Closing q false true was))
-        two n = moved_on m.0.standing Away m.0.known (unknown false false) m (loading barrier_at n m.0, m.1) _ (moved_once m.0.standing m.0.known m _ refl)
-            (moved_once Away (unknown false false) (loading barrier_at n m.0, m.1) _ refl)
+        (subst (λ (st : Standing). WentOut m (ended_by a.0 st)) (sym closes) (moved_twice Away (unknown false false) m a.0 _ refl))
 
   -- Looks and leaves.
   module _ (m w : Me S (View N)) (sense : ℕ) (waits : IsWaiting m.0) (has : HasSense m.0.standing sense) where
@@ -237,14 +205,12 @@ module _ {S N : Type 0} where
     pub leave_left : LeftBy sense leave.Left m w → WentOut m w
     leave_left a = subst (λ (z : Me S (View N)). WentOut m z) (sym (a.1 ∙
         (λ i. (leaving a.0 (still_waits m.0 waits.0 waits.1 waits.2 a.0 sense has a.2 a.3 i), m.1))))
-        (moved_on m.0.standing Away m.0.known (unknown false false) m (loading barrier_at a.0 m.0, m.1) _ (moved_once m.0.standing m.0.known m _ refl)
-        (moved_once Away (unknown false false) (loading barrier_at a.0 m.0, m.1) _ refl))
+        (moved_twice Away (unknown false false) m a.0 _ refl)
 
     pub leave_again : LeftBy sense leave.Again m w → Stayed m w
     leave_again a = subst (λ (z : Me S (View N)). Stayed m z) (sym (a.2 ∙
         (λ i. (missing barrier_at a.1 (still_waits m.0 waits.0 waits.1 waits.2 a.0 sense has a.3 a.4 i), m.1))))
-        (stayed_on m (loading barrier_at a.0 m.0, m.1) _ (moved_once m.0.standing m.0.known m _ refl)
-        (moved_once m.0.standing m.0.known (loading barrier_at a.0 m.0, m.1) _ refl))
+        (moved_twice _ _ m a.0 _ refl)
 
     -- a look that sees no end
     pub look_on : (l : Look) → (l ≡ look.Ended → ⊥) → LookedBy sense l m w → Stayed m w
