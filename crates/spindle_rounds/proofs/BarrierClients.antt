@@ -49,8 +49,7 @@ module _ {N : Type 0} (v : View N) (q : ℕ) (quiet : Bool) (waits : v.standing 
   still_waits sense has small other = let own : sense ≡ (q + 1) % 2 = subst (λ (z : Standing). HasSense z sense) waits has in
       let r : round_of v.standing ≡ q = ap round_of waits in let k : ℕ = round_of v.standing in
       let e : n / sense_bit ≡ k % 2 = (let d : n / sense_bit ≢ (q + 1) % 2 = (λ z. other (z ∙ sym own)) in omega arith) in
-      ap (λ (b : Bool). if b then loading barrier_at n v else standing (Inside (k + 1)) (unknown v.leader false) (loading barrier_at n v))
-      (eq-eqb (n / sense_bit) (k % 2) e)
+      rw (eq-eqb (n / sense_bit) (k % 2) e)
 
   -- it is: the round has ended, and the party is inside the next
   pub has_ended : (sense : ℕ) → HasSense v.standing sense → sense_of n ≡ sense → looking n v ≡ standing (Inside (round_of v.standing + 1))
@@ -58,8 +57,7 @@ module _ {N : Type 0} (v : View N) (q : ℕ) (quiet : Bool) (waits : v.standing 
   has_ended sense has same = let own : sense ≡ (q + 1) % 2 = subst (λ (z : Standing). HasSense z sense) waits has in
       let r : round_of v.standing ≡ q = ap round_of waits in let k : ℕ = round_of v.standing in
       let e : n / sense_bit ≢ k % 2 = (λ z. let d : n / sense_bit ≡ (q + 1) % 2 = same ∙ own in absurd (omega arith)) in
-      ap (λ (b : Bool). if b then loading barrier_at n v else standing (Inside (k + 1)) (unknown v.leader false) (loading barrier_at n v))
-      (ne_eqb (n / sense_bit) (k % 2) e)
+      rw (ne_eqb (n / sense_bit) (k % 2) e)
 
 deeds_append : (a b : List (Trace Kind)) → deeds_of (a ++ b) ≡ deeds_of a ++ deeds_of b
 deeds_append [] b = refl
@@ -143,27 +141,16 @@ module _ {S N : Type 0} where
     arrived_closes a = rw (a.1, eq-eqb (count_of a.0) 1 a.2) (moved_once _ _ m _ refl)
 
     -- Exits.
-    abbrev gone_by : ℕ → Bool → Me S (View N)
-    gone_by n b = (
-      noted (trace barrier_at kind.Exit n (exit_word n)) (outside (if b then Closing (round_of m.0.standing) false false None else Away)
-          (loading barrier_at n m.0)),
-      m.1,
-    )
-
     pub exit_gone : ExitedBy exit.Gone m w → WentOut m w
-    exit_gone a = subst (λ (z : Me S (View N)). WentOut m z) (sym (a.1 ∙ ap (gone_by a.0)
-        (⊎_elim (λ (e : count_of a.0 ≢ 1). ap (λ (b : Bool). b && nat_lt 1 (most_of a.0)) (ne_eqb (count_of a.0) 1 e))
-        (λ (e : most_of a.0 ≤ 1). ap (λ (b : Bool). (count_of a.0 == 1) && b) (le-ltb 1 (most_of a.0) e) ∙ never (count_of a.0 == 1)) a.2)))
-        (moved_twice Away (unknown false false) m a.0 _ refl)
+    exit_gone a = ⊎_elim (λ (e : count_of a.0 ≢ 1). rw (a.1, ne_eqb (count_of a.0) 1 e) (moved_twice _ _ m a.0 _ refl))
+        (λ (e : most_of a.0 ≤ 1). rw (a.1, le-ltb 1 (most_of a.0) e, never (count_of a.0 == 1)) (moved_twice _ _ m a.0 _ refl)) a.2
       where
         never : (b : Bool) → (b && false) ≡ false
         never true = refl
         never false = refl
 
     pub exit_closer : ExitedBy exit.Closer m w → Moved (Closing (round_of m.0.standing) false false None) (unknown false false) m w
-    exit_closer a = let st : Standing = Closing (round_of m.0.standing) false false None in subst (λ (z : Me S (View N)). Moved st (unknown false false) m z)
-        (sym (a.1 ∙ ap (gone_by a.0) (ap (λ (b : Bool). b && nat_lt 1 (most_of a.0)) (eq-eqb (count_of a.0) 1 a.2) ∙ lt-ltb 1 (most_of a.0) a.3)))
-        (moved_twice st (unknown false false) m a.0 _ refl)
+    exit_closer a = rw (a.1, eq-eqb (count_of a.0) 1 a.2, lt-ltb 1 (most_of a.0) a.3) (moved_twice _ _ m a.0 _ refl)
 
     pub exit_again : ExitedBy exit.Again m w → Stayed m w
     exit_again a = rw a.2 (moved_twice _ _ m a.0 _ refl)
@@ -172,29 +159,20 @@ module _ {S N : Type 0} where
     pub cleared_once : w ≡ (clearing 0 m.0, m.1) → Moved (with_clear m.0.standing) m.0.known m w
     cleared_once e = rw e (moved_once _ _ m _ refl)
 
-    abbrev ended_by : ℕ → Standing → Me S (View N)
-    ended_by n st = let x = after_end m.0.leader (with_word n st) in
-        (noted (trace barrier_at kind.End (turned_word n) (turned_word n)) (standing x.1 x.0 (loading barrier_at n m.0)), m.1)
-
     -- a member is inside the next round, and one that had exited is out
     pub ended_next : (q : ℕ) (was : Option ℕ) → m.0.standing ≡ Closing q true true was → EndedBy m w → InNext m w
-    ended_next q was closes a = subst (λ (z : Me S (View N)). InNext m z) (sym a.1)
-        (subst (λ (st : Standing). Moved (Inside (round_of st + 1)) (unknown m.0.leader false) m (ended_by a.0 st)) (sym closes)
-        (moved_twice (Inside (q + 1)) (unknown m.0.leader false) m a.0 _ refl))
+    ended_next q was closes a = rw (a.1, closes) (moved_twice _ _ _ a.0 _ refl)
 
     pub ended_out : (q : ℕ) (was : Option ℕ) → m.0.standing ≡ Closing q false true was → EndedBy m w → WentOut m w
-    ended_out q was closes a = subst (λ (z : Me S (View N)). WentOut m z) (sym a.1)
-        (subst (λ (st : Standing). WentOut m (ended_by a.0 st)) (sym closes) (moved_twice Away (unknown false false) m a.0 _ refl))
+    ended_out q was closes a = rw (a.1, closes) (moved_twice _ _ _ a.0 _ refl)
 
   -- Looks and leaves.
   module _ (m w : Me S (View N)) (sense : ℕ) (waits : IsWaiting m.0) (has : HasSense m.0.standing sense) where
     pub look_ended : LookedBy sense look.Ended m w → InNext m w
-    look_ended a = subst (λ (z : Me S (View N)). InNext m z) (sym (a.1 ∙ (λ i. (has_ended m.0 waits.0 waits.1 waits.2 a.0 sense has a.3 i, m.1))))
-        (moved_once (Inside (round_of m.0.standing + 1)) (unknown m.0.leader false) m _ refl)
+    look_ended a = rw (a.1, has_ended m.0 waits.0 waits.1 waits.2 a.0 sense has a.3) (moved_once _ _ m _ refl)
 
     goes_on : (n : ℕ) → w ≡ (looking n m.0, m.1) → n < high_half → sense_of n ≢ sense → Stayed m w
-    goes_on n is small other = subst (λ (z : Me S (View N)). Stayed m z)
-        (sym (is ∙ (λ i. (still_waits m.0 waits.0 waits.1 waits.2 n sense has small other i, m.1)))) (moved_once m.0.standing m.0.known m _ refl)
+    goes_on n is small other = rw (is, still_waits m.0 waits.0 waits.1 waits.2 n sense has small other) (moved_once _ _ m _ refl)
 
     pub look_running : LookedBy sense look.Running m w → Stayed m w
     look_running a = goes_on a.0 a.1 a.2 a.3
@@ -203,14 +181,10 @@ module _ {S N : Type 0} where
     look_closing a = goes_on a.0 a.1 a.2 a.3
 
     pub leave_left : LeftBy sense leave.Left m w → WentOut m w
-    leave_left a = subst (λ (z : Me S (View N)). WentOut m z) (sym (a.1 ∙
-        (λ i. (leaving a.0 (still_waits m.0 waits.0 waits.1 waits.2 a.0 sense has a.2 a.3 i), m.1))))
-        (moved_twice Away (unknown false false) m a.0 _ refl)
+    leave_left a = rw (a.1, still_waits m.0 waits.0 waits.1 waits.2 a.0 sense has a.2 a.3) (moved_twice _ _ m a.0 _ refl)
 
     pub leave_again : LeftBy sense leave.Again m w → Stayed m w
-    leave_again a = subst (λ (z : Me S (View N)). Stayed m z) (sym (a.2 ∙
-        (λ i. (missing barrier_at a.1 (still_waits m.0 waits.0 waits.1 waits.2 a.0 sense has a.3 a.4 i), m.1))))
-        (moved_twice _ _ m a.0 _ refl)
+    leave_again a = rw (a.2, still_waits m.0 waits.0 waits.1 waits.2 a.0 sense has a.3 a.4) (moved_twice _ _ m a.0 _ refl)
 
     -- a look that sees no end
     pub look_on : (l : Look) → (l ≡ look.Ended → ⊥) → LookedBy sense l m w → Stayed m w
@@ -229,17 +203,11 @@ module _ {S N : Type 0} where
   may_wait m w = (w.0, w.1, w.2)
 
   pub stayed_leaving : (m u : Me S (View N)) → Stayed m u → MayLeave m.0 → MayLeave u.0
-  stayed_leaving m u a w = (
-    w.0,
-    w.1,
-    ap (λ (z : Me S (View N)). z.0.standing) a.seat ∙ w.2,
-    subst (λ (b : Bool). (b ≡ false) ⊎ (w.1 ≡ true))
-        (sym (ap (λ (z : Me S (View N)). z.0.leader) a.seat)) w.3,
-  )
+  stayed_leaving m u a w = rw a.seat w
 
   -- it still waits where it stayed
   pub stayed_waiting : (m u : Me S (View N)) → Stayed m u → IsWaiting m.0 → IsWaiting u.0
-  stayed_waiting m u a w = (w.0, w.1, ap (λ (z : Me S (View N)). z.0.standing) a.seat ∙ w.2)
+  stayed_waiting m u a w = rw a.seat w
 
   -- a clear and an end
   module _ (m u w : Me S (View N)) (q : ℕ) (was : Bool) (read : Option ℕ) (clears : u ≡ (clearing 0 m.0, m.1)) (ends : EndedBy u w) where

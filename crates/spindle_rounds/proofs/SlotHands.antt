@@ -180,19 +180,12 @@ module _ {P A : Type 0} (answers : P → A → Type 0) (Is : ℕ → P → Type 
 -- what taking the slots out leaves of the leader after its round
 pub passed_taking : {S N : Type 0} (D : Discipline S N) (slots found : ℕ) (v : View N) (m w : Me S (View N)) → TakenOut D slots found m w → HasPassed v m.0
     → HasPassed v w.0
-passed_taking {S} {N} D slots found v m w t h = subst (λ (z : Me S (View N)). HasPassed v z.0) (sym t.2) (record {
-  leader = h.leader;
-  threads = h.threads;
-  standing = h.standing;
-  unpublished = h.unpublished;
-  idle = h.idle;
-  published = h.published;
-})
+passed_taking D slots found v m w t h = rw t.2 (search h)
 
 pub played_taking : {S N : Type 0} (D : Discipline S N) (slots found n : ℕ) (v : View N) (m w : Me S (View N)) → TakenOut D slots found m w
     → PlayedRound n v m.0
     → PlayedRound n v w.0
-played_taking {S} {N} D slots found n v m w t h = subst (λ (z : Me S (View N)). PlayedRound n v z.0) (sym t.2) (h.0, h.1)
+played_taking D slots found n v m w t h = rw t.2 (h.0, h.1)
 
 module _ {P A : Type 0} (answers : P → A → Type 0) (Is : ℕ → P → Type 0) (slots n : ℕ) where
   -- the round has ended since the leader worked in it, and it has taken the slots out
