@@ -242,8 +242,7 @@ module _ {T S N : Type 0} where
     (
       c.0,
       stayed_on a.seat.me b.seat.me c.0 s.1 c.1,
-      subst (λ (z : ℕ). LeftBy z leave.Left c.0 u.me)
-          (same_sense a b held s.0.0 s.1 (may_wait a.seat.me may)) c.2,
+      subst (λ (z : ℕ). LeftBy z leave.Left c.0 u.me) (same_sense a b held s.0.0 s.1 (may_wait a.seat.me may)) c.2,
     ),
   )
   await_on a b (status.Remain c) held may s told = (keeps_on a b c s.0 told.0, passed_on a.seat.me b.seat.me c.seat.me s.1 told.1)
@@ -258,8 +257,7 @@ module _ {T S N : Type 0} where
       )
   status_of a b (status.Remain c) held keeps came told = (
     keeps_on a b c keeps told.0,
-    passed_from _ _ a.seat.me b.seat.me c.seat.me refl
-        (arrived_waits a.seat.me b.seat.me came) told.1,
+    passed_from _ _ a.seat.me b.seat.me c.seat.me refl (arrived_waits a.seat.me b.seat.me came) told.1,
   )
 
 module _ {S N : Type 0} where

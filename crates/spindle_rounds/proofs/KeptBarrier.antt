@@ -31,8 +31,7 @@ none_of (Some c) n = absurd (n c refl)
 -- a seat with neither share nor claim is of a party that is idle
 pub idle_seat : {N : Type 0} (s : State) (p : ℕ) (v : View N) → Shows s p v → v.claim ≡ None → v.to ≤ v.from → IsIdle s p
 idle_seat s p v w idle empty = (
-  (λ k. untrue ((party s p).taken k) (λ e. let z = (w.share k).0 e in let z₀ = z.0 in let z₁ = z.1 in
-      omega arith)),
+  (λ k. untrue ((party s p).taken k) (λ e. let z = (w.share k).0 e in let z₀ = z.0 in let z₁ = z.1 in omega arith)),
   w.claim ∙ idle,
 )
 

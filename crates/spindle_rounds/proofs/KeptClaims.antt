@@ -58,8 +58,7 @@ module _ {X N : Type 0} (D : Discipline X N) (law : Lawful D) (t slots id : ℕ)
         ap (λ (z : Party). z.status) first ∙ st.0,
         knows.seen ∙ unseen,
         ap (λ (z : Party). z.running) first ∙ (shows.claim ∙ idle),
-        ap
-            (λ (z : Party). z.taken k) first ∙ or_right ((party S id).taken k) (some k) take.mine,
+        ap (λ (z : Party). z.taken k) first ∙ or_right ((party S id).taken k) (some k) take.mine,
       ) in
       let none_held : (j : ℕ) → (party S id).taken j ≡ true → ⊥ = (λ j e. let z = (shows.share j).0 e in let z₀ = z.0 in let z₁ = z.1 in omega arith) in
       let y : ℕ → Bool = (with_some S id k some take.mine).taken in (

@@ -65,8 +65,7 @@ module _ {X N : Type 0} (D : Discipline X N) (law : Lawful D) (t : ℕ) where
           let ok : Allowed S (Exit id) = (
             st.0,
             idle_seat S id me.0 shows idle empty,
-            λ zero. ⊎_elim
-                (λ (a : me.0.leader ≡ false). absurd (shows.leads.1 a zero))
+            λ zero. ⊎_elim (λ (a : me.0.leader ≡ false). absurd (shows.leads.1 a zero))
                 (λ (a : me.0.known.unpublished ≡ true). ((shows.inside q inside_q).unpublished a).1) free,
           ) in
           let on : State = record { round = S.round + 1; parties = ps; closer = S.closer; published = S.published; rounds = S.rounds } in
@@ -101,14 +100,12 @@ module _ {X N : Type 0} (D : Discipline X N) (law : Lawful D) (t : ℕ) where
                   ap (λ (z : Bool). if z then Some id else S.closer) (eq-eqb (inside ps) 0 (omega arith)),
                   own,
                   (λ z. absurd cc),
-                  ap
-                      (λ (z : Party). z.status) look,
+                  ap (λ (z : Party). z.status) look,
                   λ n z. absurd cc,
                 ) (λ _ e. cc))
                 (λ some. reseated _ Away _ shows look (
                   ap (λ (z : Party). z.status) look,
-                  λ e. let a = ap (λ (z : Bool). if z then Some id else S.closer)
-                      (ne_eqb (inside ps) 0 (λ z. some (omega arith))) in cc,
+                  λ e. let a = ap (λ (z : Bool). if z then Some id else S.closer) (ne_eqb (inside ps) 0 (λ z. some (omega arith))) in cc,
                 ) (λ _ e. cc))),
             refl,
           )) in

@@ -44,8 +44,7 @@ module _ {X N : Type 0} (D : Discipline X N) (law : Lawful D) (t : ℕ) where
           let ok : Allowed S (Leave id) = (
             st.0,
             open_now,
-            λ zero. ⊎_elim (λ (a : me.0.leader ≡ false). absurd (shows.leads.1 a zero))
-                (λ (a : quiet ≡ true). (st.3 a).1) free,
+            λ zero. ⊎_elim (λ (a : me.0.leader ≡ false). absurd (shows.leads.1 a zero)) (λ (a : quiet ≡ true). (st.3 a).1) free,
           ) in
           let look = look_here S.parties id (with_status Out (party S id)) in
           let c₀ = total_put weight_in refl S.parties id (with_status Out (party S id)) in

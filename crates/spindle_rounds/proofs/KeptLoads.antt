@@ -42,8 +42,7 @@ module _ (t : ℕ) where
       (λ (z : InRemainder ws n k). let z₀ = z.0 in let z₁ = z.1 in omega arith) (c.free k f))) (true_or (now S).stopped)
 
   home_le : (n k : ℕ) → home_of t n k ≤ t
-  home_le n k = by_less (k + n % t) n (λ b. (if b then k / (n / t) else t) ≤ t)
-      (λ lt. let d : ℕ = n / t in let e : d * t + n % t ≡ n = div-add-mod' n t in
+  home_le n k = by_less (k + n % t) n (λ b. (if b then k / (n / t) else t) ≤ t) (λ lt. let d : ℕ = n / t in let e : d * t + n % t ≡ n = div-add-mod' n t in
       dite (ℕ_discrete d 0) (λ z. let y : d * t ≡ 0 = ap (λ (a : ℕ). a * t) z ∙ zero-mul t in absurd (omega arith)) (λ z. let y : k < t * d = omega arith in
       let a = (div-lt_iff_lt-mul {k = d} {x = k} {y = t} (omega arith)).1 y in omega arith))
       (λ _. omega arith)
@@ -162,11 +161,7 @@ module _ {X N : Type 0} (D : Discipline X N) (law : Lawful D) (t : ℕ) where
   pub searches : (slots id : ℕ) (me : SeatOf D t) (i : ℕ) → i < t → PlainLoad D t slots id me (range_at i) SearchTells
   searches slots id me i low = reads D law t slots id me (range_at i) (λ _. me.0.standing) (λ x. (searching i x me.0).known) _ (λ _. refl) (λ run s b. (
     search_shows id me i low run s b.rule b.at,
-    (
-      refl,
-      λ j same. let ij : i ≡ j = omega arith in
-          ap (λ (z : ℕ). searching z (get_or s.words (range_at i) 0) me.0) ij,
-    ),
+    (refl, λ j same. let ij : i ≡ j = omega arith in ap (λ (z : ℕ). searching z (get_or s.words (range_at i) 0) me.0) ij),
   ))
 
   -- the remainder is read, which is no more than the number
@@ -177,8 +172,7 @@ module _ {X N : Type 0} (D : Discipline X N) (law : Lawful D) (t : ℕ) where
         (
           refl,
           refl,
-          λ q n inside_q known.
-              let c = r.words.counters n (((r.seats id me.0 b.at).0.inside q inside_q).number n known).0 in let few = c.few in
+          λ q n inside_q known. let c = r.words.counters n (((r.seats id me.0 b.at).0.inside q inside_q).number n known).0 in let few = c.few in
               let e = div-add-mod' n t in omega arith,
         ),
       ))
@@ -190,8 +184,7 @@ module _ {X N : Type 0} (D : Discipline X N) (law : Lawful D) (t : ℕ) where
         noted_shows (state run) id me.0 _ seat.0,
         (
           refl,
-          λ q n inside_q known.
-              let k = (seat.0.inside q inside_q).number n known in
+          λ q n inside_q known. let k = (seat.0.inside q inside_q).number n known in
               let is : get_or s.words published_at 0 ≡ number_of (Some n) me.0.known.may_stop = r.words.published ∙ (λ i. number_of (k.0 i) (k.1 i)) in
               let few = ((sound run r.is_run).gate.shown n k.0).2 in let low = low_half me.0.known.may_stop n few in
               (ap (λ (z : ℕ). loading published_at z me.0) is, ap (λ (z : ℕ). z % high_half) is ∙ low),

@@ -142,12 +142,7 @@ module _ {X N : Type 0} (D : Discipline X N) (law : Lawful D) where
             d.0,
             d.2,
             loaded run s r id me q at l (trace published_at kind.TakeOut x x) refl (board_out slots me.0.board) d.0 d.5,
-            (
-              d.1,
-              d.3,
-              (λ i. (w, d.4 i)),
-              λ k y e. let f = d.6 k y e in (f.0, λ sure. f.1 (sure_finished run s r id me q at l k (spot_at me.0.board k) sure)),
-            ),
+            (d.1, d.3, (λ i. (w, d.4 i)), λ k y e. let f = d.6 k y e in (f.0, λ sure. f.1 (sure_finished run s r id me q at l k (spot_at me.0.board k) sure))),
           );
     }
 
@@ -163,9 +158,6 @@ module _ {X N : Type 0} (D : Discipline X N) (law : Lawful D) where
             d.0,
             d.1,
             loaded run s r id me q at l (trace published_at kind.GiveBack x x) refl (board_back D (round_of me.0.standing) me.1 me.0.board) d.0 d.3,
-            λ i. (
-              w,
-              d.2 i,
-            ),
+            λ i. (w, d.2 i),
           );
     }

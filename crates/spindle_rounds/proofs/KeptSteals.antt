@@ -57,8 +57,7 @@ half t n i old low small left = let w = half_within old left in let w₀ = w.0 i
           (half_out old j out)) (omega arith);
       kept = λ j. (
         (λ e apart. let h = half_in old j e in let h₀ = h.0 in let h₁ = h.1 in (omega arith, h₁)),
-        (λ y. let y₀ = y.0 in let y₁ = y.1 in
-            (half_yes old j (omega arith) y₁, λ e. omega arith)),
+        (λ y. let y₀ = y.0 in let y₁ = y.1 in (half_yes old j (omega arith) y₁, λ e. omega arith)),
       );
     }
   where

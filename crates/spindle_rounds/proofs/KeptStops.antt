@@ -177,8 +177,7 @@ module _ (S : State) (h : Sound S) (id from to : ℕ) (share : IsShare (party S 
 
     -- a number in a range afterwards is of the share, or was in that range
     which : (a j : ℕ) → InRange after_put a j → ((a ≡ i) × ((from ≤ j) × (j < to))) ⊎ ((a ≢ i) × InRange ws a j)
-    which a j z = dite (ℕ_discrete a i)
-        (λ e. let z' : IsWithin new j = subst (λ (w : ℕ). IsWithin w j)
+    which a j z = dite (ℕ_discrete a i) (λ e. let z' : IsWithin new j = subst (λ (w : ℕ). IsWithin w j)
         (ap (λ (b : ℕ). get_or after_put (range_at b) 0) e ∙ get_or-set_same ws (range_at i) new 0 deep) z in let z₀ = z'.0 in let z₁ = z'.1 in
         inl (e, (omega arith, omega arith)))
         (λ ne. inr (ne, subst (λ (w : ℕ). IsWithin w j) (range_other a ne) z))
@@ -194,8 +193,7 @@ module _ (S : State) (h : Sound S) (id from to : ℕ) (share : IsShare (party S 
 
     pub given_counters : Counters t given after_put n
     given_counters = record {
-      free = λ j f. ⊎_elim
-          (λ (g : Free S j). ⊎_elim (λ (z : (a : ℕ) × (a < t) × InRange ws a j). inl
+      free = λ j f. ⊎_elim (λ (g : Free S j). ⊎_elim (λ (z : (a : ℕ) × (a < t) × InRange ws a j). inl
           (z.0, z.1, subst (λ (w : ℕ). IsWithin w j) (sym (range_other z.0 (λ e. none_there j (subst (λ (a : ℕ). InRange ws a j) e z.2)))) z.2))
           (λ (z : InRemainder ws n j). let e = rest_other in let z₀ = z.0 in inr (omega arith, z.1)) (c.free j g))
           (λ (z : (from ≤ j) × (j < to)). inl (i, low, into j z)) (free_or j f);
@@ -204,8 +202,7 @@ module _ (S : State) (h : Sound S) (id from to : ℕ) (share : IsShare (party S 
       remainder = λ j z. given_on j (c.remainder j (rest_was j z));
       few = let e = rest_other in let f = c.few in omega arith;
       home = λ going. absurd cc;
-      apart = λ a b j la lb x y. ⊎_elim
-          (λ (x' : (a ≡ i) × ((from ≤ j) × (j < to))). ⊎_elim (λ (y' : (b ≡ i) × ((from ≤ j) × (j < to))). x'.0 ∙ sym y'.0)
+      apart = λ a b j la lb x y. ⊎_elim (λ (x' : (a ≡ i) × ((from ≤ j) × (j < to))). ⊎_elim (λ (y' : (b ≡ i) × ((from ≤ j) × (j < to))). x'.0 ∙ sym y'.0)
           (λ (y' : (b ≢ i) × InRange ws b j). absurd (not_shared j (c.ranges b j lb y'.1) x'.1)) (which b j y))
           (λ (x' : (a ≢ i) × InRange ws a j). ⊎_elim (λ (y' : (b ≡ i) × ((from ≤ j) × (j < to))). absurd (not_shared j (c.ranges a j la x'.1) y'.1))
           (λ (y' : (b ≢ i) × InRange ws b j). c.apart a b j la lb x'.1 y'.1) (which b j y)) (which a j x);

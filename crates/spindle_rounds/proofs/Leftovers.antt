@@ -155,8 +155,7 @@ module _ (i x : ℕ) (known told : ℕ → Option ℕ) (marks marks' : List Bool
 
   pub found_next : Found (i + 1) known' told' marks'
   found_next = record {
-    range = λ j lt. dite (ℕ_discrete j i)
-        (λ e. (x, subst (λ (a : ℕ). known' (range_at a) ≡ Some x) (sym e) (word_here (range_at i) x known)))
+    range = λ j lt. dite (ℕ_discrete j i) (λ e. (x, subst (λ (a : ℕ). known' (range_at a) ≡ Some x) (sym e) (word_here (range_at i) x known)))
         (λ ne. let w = f.range j (omega arith) in (w.0, word_else (range_at i) x known (range_at j) (λ e. ne (omega arith)) ∙ w.1));
     agrees = λ j lt. dite (ℕ_discrete j i)
         (λ e. subst (λ (a : ℕ). told' (range_at a) ≡ known' (range_at a)) (sym e) (word_here (range_at i) x told ∙ sym (word_here (range_at i) x known)))
@@ -194,12 +193,10 @@ module _ (t x : ℕ) (known told : ℕ → Option ℕ) (marks marks' : List Bool
 
   pub marked_known : (k : ℕ) → IsMarked marks' k ↔ IsLeftBy all_known t (length marks) k
   marked_known k = (
-    (λ m. ⊎_elim
-        (λ old. let z = (f.marked k).0 old in let r = z.1 in
+    (λ m. ⊎_elim (λ old. let z = (f.marked k).0 old in let r = z.1 in
         (z.0, inl (r.0, r.1, r.2, word_else remainder_at x known (range_at r.0) (λ e. omega arith) ∙ r.3, r.4)))
         (λ (new : (length marks ≤ k + x) × (k < length marks)). (new.1, inr (x, word_here remainder_at x known, new.0))) ((more k).0 m)),
-    λ z. (more k).1 (⊎_elim
-        (λ (r : IsInRanges all_known t k).
+    λ z. (more k).1 (⊎_elim (λ (r : IsInRanges all_known t k).
         inl ((f.marked k).1 (z.0, (r.0, r.1, r.2, sym (word_else remainder_at x known (range_at r.0) (λ e. omega arith)) ∙ r.3, r.4))))
         (λ (r : IsInRest all_known (length marks) k). let same = some_same r.0 x (sym r.1 ∙ word_here remainder_at x known) in let le = r.2 in
         inr (omega arith, z.0)) z.1),
@@ -223,8 +220,7 @@ module _ (t x : ℕ) (known told : ℕ → Option ℕ) (marks marks' : List Bool
           → IsLeftBy g t (length marks) k → IsLeftBy h t (length marks) k
       agree g h ranges rest k z = (
         z.0,
-        ⊎_elim (λ (r : IsInRanges g t k). inl (r.0, r.1, r.2, ranges r.0 r.2 ∙ r.3, r.4))
-            (λ (r : IsInRest g (length marks) k). inr (r.0, rest ∙ r.1, r.2)) z.1,
+        ⊎_elim (λ (r : IsInRanges g t k). inl (r.0, r.1, r.2, ranges r.0 r.2 ∙ r.3, r.4)) (λ (r : IsInRest g (length marks) k). inr (r.0, rest ∙ r.1, r.2)) z.1,
       )
 
 -- between rounds the leader knows the word that it has read
@@ -250,8 +246,7 @@ module _ {N : Type 0} (v w : View N) (marks marks' : List Bool) (may : MayFill v
       → ((k : ℕ) → IsMarked marks' k ↔ (IsMarked marks k ⊎ ((length marks ≤ k + x) × (k < length marks))))
       → AreKnown (stored_at w.known.stored) t × ((k : ℕ) → IsMarked marks' k ↔ IsLeftBy (stored_at w.known.stored) t (length marks) k)
       × ((k : ℕ) → IsMarked marks' k ↔ IsLeftBy (last_left w.trail) t (length marks) k)
-  rest_found t x is f more =
-      let stored : w.known.stored ≡ (remainder_at, x) ∷ v.known.stored =
+  rest_found t x is f more = let stored : w.known.stored ≡ (remainder_at, x) ∷ v.known.stored =
       ap (λ z. z.known.stored) is ∙ finding_known remainder_at x (reading_remainder x v) may in
       let trail : w.trail ≡ trace remainder_at kind.Load x x ∷ v.trail = ap (λ z. z.trail) is in
       let known : ℕ → Option ℕ = stored_at v.known.stored in let told : ℕ → Option ℕ = last_left v.trail in (

@@ -136,7 +136,6 @@ module _ {P A : Type 0} (answers : P → A → Type 0) where
         x,
         d.0,
         put.1,
-        ap (λ (c : List (ℕ × Slot)). get_elem? c k) (ap (λ (z : Me Slot (View P)). z.1) t.2)
-            ∙ (numbered_at ys 0 k m.1 y.0 y.1 ∙ λ i. some (at i, d.1 i)),
+        ap (λ (c : List (ℕ × Slot)). get_elem? c k) (ap (λ (z : Me Slot (View P)). z.1) t.2) ∙ (numbered_at ys 0 k m.1 y.0 y.1 ∙ λ i. some (at i, d.1 i)),
         d.2,
       )

@@ -58,8 +58,7 @@ module _ (b : Bool) where
   same_shown : (s s' : State) (r n : ℕ) → s'.rounds ≡ s.rounds → s.round ≤ s'.round → WasShown s r n → WasShown s' r n
   same_shown s s' r n e le w = let a = w.past in record {
     jobs = ap (λ (f : ℕ → Round). (f r).jobs) e ∙ w.jobs;
-    may_stop = ap (λ (f : ℕ
-        → Round). (f r).stoppable) e ∙ w.may_stop;
+    may_stop = ap (λ (f : ℕ → Round). (f r).stoppable) e ∙ w.may_stop;
     some = w.some;
     past = omega arith;
   }
@@ -92,13 +91,11 @@ module _ (b : Bool) where
       (h.gate.hidden ok.2 (no_closer s h p ok.1)) r n w
   keeps_shown s h (Begin p k) ok r n w = put_shown s (after s (Begin p k)) (record (now s) { begun = (now s).begun ++ k ∷ [] }) r n refl refl refl refl w
   keeps_shown s h (Finish p) ok r n w = put_shown s (after s (Finish p)) (record (now s) {
-    finished = (now s).finished ++ ended_by
-        (party s p).running;
+    finished = (now s).finished ++ ended_by (party s p).running;
   }) r n refl refl refl refl w
   keeps_shown s h (Stop p) ok r n w = put_shown s (after s (Stop p)) (record (now s) {
     stopped = true;
-    seen = put
-        (now s).seen p true;
+    seen = put (now s).seen p true;
   }) r n refl refl refl refl w
   keeps_shown s h (See p) ok r n w = put_shown s (after s (See p)) (record (now s) { seen = put (now s).seen p true }) r n refl refl refl refl w
   keeps_shown s h (Exit p) ok r n w = let ps : List Party = put_party s.parties p (with_status Out (party s p)) in

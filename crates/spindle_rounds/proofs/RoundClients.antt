@@ -89,8 +89,7 @@ module _ {S N : Type 0} (D : Discipline S N) (m w : Me S (View N)) (may : MayCla
     b.1,
     b.2,
     may_still 0 a.0 m.0 may,
-    (λ i lt. let len = a.1 in let same : 0 + i ≡ i = omega arith in
-        subst (λ (j : ℕ). IsListed j (searching_all 0 a.0 m.0).known.emptied) same
+    (λ i lt. let len = a.1 in let same : 0 + i ≡ i = omega arith in subst (λ (j : ℕ). IsListed j (searching_all 0 a.0 m.0).known.emptied) same
         (all_listed may.1.0 0 a.0 m.0 may.1.1 (λ j l. a.2 j (omega arith)) i (omega arith))),
   )
   stolen t steal.Again a = let b = all_searched_on 0 a.0 m.0 in rw a.5
@@ -141,13 +140,12 @@ share_put m w i back.Again share left may own a = rw a.2 (
 -- What is left was read.
 pub left_seen : {S N : Type 0} (m w : Me S (View N)) (t i found : ℕ) → i ≤ t → LeftOverBy t i found m w → Onward m.0 w.0 × SeesAsBefore m.0 w.0
     × SharesAsBefore m.0 w.0 × (w.0.claim ≡ m.0.claim)
-left_seen m w t i found le a = dite (ℕ_discrete i t)
-    (λ here. rw (a.1 here) (
-      onward_then m.0 (reading_remainder found m.0) _ (remainder_on found m.0) (found_on remainder_at found _),
-      (refl, refl),
-      (refl, refl),
-      refl,
-    ))
+left_seen m w t i found le a = dite (ℕ_discrete i t) (λ here. rw (a.1 here) (
+  onward_then m.0 (reading_remainder found m.0) _ (remainder_on found m.0) (found_on remainder_at found _),
+  (refl, refl),
+  (refl, refl),
+  refl,
+))
     (λ apart. rw (a.0 (omega arith)) (
       onward_then m.0 (searching i found m.0) _ (searched_on i found m.0) (found_on (range_at i) found _),
       (refl, refl),
@@ -163,8 +161,7 @@ pub all_empty : {N : Type 0} (n : ℕ) (b : Bool) (v : View N) → AtWork n b v 
 all_empty n b v a ranges rest = inr (inr (inr (
   n,
   a.number,
-  λ i le. dite (ℕ_discrete i v.threads)
-      (λ e. subst (λ (j : ℕ). IsListed j v.known.emptied) (sym e) rest) (λ apart. ranges i (omega arith)),
+  λ i le. dite (ℕ_discrete i v.threads) (λ e. subst (λ (j : ℕ). IsListed j v.known.emptied) (sym e) rest) (λ apart. ranges i (omega arith)),
 )))
 
 -- The leader.

@@ -68,8 +68,7 @@ reseated {v = v} x to k w look stands inside = shown stands w.leads (ap (λ (z :
 pub laid_hidden : {N : Type 0} {t : ℕ} {s : State} {ws : List ℕ} {v : View N} → s.published ≡ None
     → ((i x : ℕ) → stored_at v.known.stored i ≡ Some x → (finished_at ≤ i) × (get_or ws i 0 ≡ x))
     → ((q : ℕ) → v.laid ≡ Some q → StandsFor t (s.rounds q) ws) → Laid t s ws v
-laid_hidden hidden stored left =
-    record { stored = stored; unstored = λ is. absurd (is hidden); current = λ is. absurd (is hidden); left = λ q e _. left q e }
+laid_hidden hidden stored left = record { stored = stored; unstored = λ is. absurd (is hidden); current = λ is. absurd (is hidden); left = λ q e _. left q e }
 
 pub untrue : (b : Bool) → (b ≡ true → ⊥) → b ≡ false
 untrue true n = absurd (n refl)
@@ -219,8 +218,7 @@ module _ {X N : Type 0} (D : Discipline X N) (t : ℕ) where
             (λ is. let none_stored = z ∙ l.unstored is in let n = ap (λ (a : List (ℕ × ℕ)). stored_at a j) none_stored in absurd cc) where_it_is) st;
         unstored = λ is. ⊎_elim (λ z. z) (λ z. z ∙ l.unstored (λ n. is (published ∙ n))) st;
         current = λ is. la ∙ (l.current (λ n. is (published ∙ n)) ∙ ap (λ (z : ℕ). Some z) (sym (round (λ n. is (published ∙ n)))));
-        left = λ q e hid. ⊎_elim
-            (λ (low : (i < finished_at) × ((q : ℕ) → (S'.rounds q).jobs ≡ (S.rounds q).jobs) ×
+        left = λ q e hid. ⊎_elim (λ (low : (i < finished_at) × ((q : ℕ) → (S'.rounds q).jobs ≡ (S.rounds q).jobs) ×
             ((q k : ℕ) → times k (S'.rounds q).begun ≡ times k (S.rounds q).begun)). let lt = low.0 in
             stands_on t (S.rounds q) (S'.rounds q) s.words (set s.words i x) (low.1 q) (low.2 q)
             (λ j le. get_or-set_other s.words i j x 0 (λ z. omega arith)) (l.left q (sym la ∙ e) (sym published ∙ hid)))
@@ -269,13 +267,7 @@ module _ {X N : Type 0} (D : Discipline X N) (law : Lawful D) (t slots id : ℕ)
       (stepped s i (g (get_or s.words i 0)) id me.1 (f (get_or s.words i 0) me.0) keeps))
       → Adds D t slots id me i g (λ _. new) (Turns f st me)
   turns g new f st owed = record {
-    shows = λ run s r _ at small. (
-      f (get_or s.words i 0) me.0,
-      keeps,
-      tt,
-      owed run s record { rule = r; at = at; small = small },
-      (refl, refl),
-    );
+    shows = λ run s r _ at small. (f (get_or s.words i 0) me.0, keeps, tt, owed run s record { rule = r; at = at; small = small }, (refl, refl));
   }
 
   -- a load after which the seat has this standing, and knows this
@@ -315,14 +307,13 @@ module _ {X N : Type 0} (D : Discipline X N) (law : Lawful D) (t slots id : ℕ)
       (stepped s i to id me.1 (f (get_or s.words i 0) me.0) keeps))
       → Exchange D t slots id me i old to new (Exchanges f)
   exchanges old to new f owed = record {
-    shows = λ run s r _ at small. let x : ℕ = get_or s.words i 0 in dite (ℕ_discrete x old)
-        (λ hit. (
-          f x me.0,
-          keeps,
-          tt,
-          hits run s old to new (f x me.0) keeps hit (owed run s record { rule = r; at = at; small = small } hit),
-          (refl, (λ _. refl), λ not. absurd (not hit)),
-        ))
+    shows = λ run s r _ at small. let x : ℕ = get_or s.words i 0 in dite (ℕ_discrete x old) (λ hit. (
+      f x me.0,
+      keeps,
+      tt,
+      hits run s old to new (f x me.0) keeps hit (owed run s record { rule = r; at = at; small = small } hit),
+      (refl, (λ _. refl), λ not. absurd (not hit)),
+    ))
         (λ miss. (missing i x me.0, keeps, tt, misses run s r at old to new miss, (refl, (λ hit. absurd (miss hit)), λ _. refl)));
   }
 
@@ -340,8 +331,7 @@ module _ {X N : Type 0} (D : Discipline X N) (law : Lawful D) (t slots id : ℕ)
           hits run s old to new (f old o.0 me.0) o.1 hit o.3,
           (
             (λ _. (o.0, (λ j. f (sym hit j) o.0 me.0), subst (λ (z : ℕ). D.took (number z) me.1 o.0 (carried_after me.1 o.1)) (sym hit) o.4)),
-            λ not. absurd
-                (not hit),
+            λ not. absurd (not hit),
           ),
         ))
         (λ miss. (missing i x me.0, keeps, tt, misses run s r at old to new miss, ((λ hit. absurd (miss hit)), λ _. (refl, refl))));

@@ -56,15 +56,13 @@ module _ (S : State) (id k : ℕ) (some : ℕ → Bool) (mine : some k ≡ true)
   not_k j e z = let a = ap some z in absurd cc
 
   pub last_taken : (j a : ℕ) → some j ≡ false → (party then_begun a).taken j ≡ (party S a).taken j
-  last_taken j a n = taken_put taken_first.parties id
-      (record (party taken_first id) { running = Some k; taken = put (party taken_first id).taken k false }) j
+  last_taken j a n = taken_put taken_first.parties id (record (party taken_first id) { running = Some k; taken = put (party taken_first id).taken k false }) j
       (put_else (party taken_first id).taken k false j (not_k j n)) a ∙ taken_put S.parties id with_some j (or_false ((party S id).taken j) (some j) n) a
 
   pub still_free : (j : ℕ) → some j ≡ false → Free S j → Free then_begun j
   still_free j n f = (
     subst (λ (z : Round). j < z.jobs) (sym last_round) f.0,
-    ap (λ (z : Round). times j z.begun) last_round ∙
-        (times_else j (now S).begun k (not_k j n) ∙ f.1),
+    ap (λ (z : Round). times j z.begun) last_round ∙ (times_else j (now S).begun k (not_k j n) ∙ f.1),
     λ a. last_taken j a n ∙ f.2 a,
   )
 
@@ -78,8 +76,7 @@ module _ (S : State) (id k : ℕ) (some : ℕ → Bool) (mine : some k ≡ true)
 
   -- its status stays, and so do both counts
   pub same_word : word S ≡ word then_begun
-  same_word = word_stays S then_begun refl
-      (counts_stay weight_in refl (λ x y e. ap is_in e) taken_first.parties id
+  same_word = word_stays S then_begun refl (counts_stay weight_in refl (λ x y e. ap is_in e) taken_first.parties id
       (record (party taken_first id) { running = Some k; taken = put (party taken_first id).taken k false }) refl ∙ counts_stay weight_in refl
       (λ x y e. ap is_in e) S.parties id with_some refl)
       (counts_stay weight_member refl (λ x y e. ap is_member e) taken_first.parties id

@@ -27,17 +27,12 @@ sum_zero (suc n) = let a = sum_zero n in omega arith
 
 sum_same : (n : ℕ) (f g : ℕ → ℕ) → ((i : ℕ) → i < n → f i ≡ g i) → sum n f ≡ sum n g
 sum_same zero f g e = refl
-sum_same (suc n) f g e =
-    let a = e 0 (omega arith) in
-    let b = sum_same n (λ i. f (suc i)) (λ i. g (suc i)) (λ i lt. e (suc i) (omega arith)) in
-    omega arith
+sum_same (suc n) f g e = let a = e 0 (omega arith) in let b = sum_same n (λ i. f (suc i)) (λ i. g (suc i)) (λ i lt. e (suc i) (omega arith)) in omega arith
 
 -- where f is c more at a, its sum is
 sum_more : (n a c : ℕ) (f g : ℕ → ℕ) → a < n → f a ≡ c + g a → ((i : ℕ) → i ≢ a → f i ≡ g i) → sum n f ≡ c + sum n g
 sum_more zero a c f g lt here away = absurd (omega arith)
-sum_more (suc n) zero c f g lt here away =
-    let b = sum_same n (λ i. f (suc i)) (λ i. g (suc i)) (λ i _. away (suc i) (λ e. omega arith)) in
-    omega arith
+sum_more (suc n) zero c f g lt here away = let b = sum_same n (λ i. f (suc i)) (λ i. g (suc i)) (λ i _. away (suc i) (λ e. omega arith)) in omega arith
 sum_more (suc n) (suc a) c f g lt here away =
     let b = sum_more n a c (λ i. f (suc i)) (λ i. g (suc i)) (omega arith) here (λ i ne. away (suc i) (λ e. ne (omega arith))) in
     let z = away 0 (λ e. omega arith) in
@@ -53,17 +48,12 @@ none_left (x ∷ xs) ys e = absurd cc
 
 told_cat : (k : ℕ) (f : Deed → List ℕ) (xs ys : List Deed) → times k (told f (xs ++ ys)) ≡ times k (told f xs) + times k (told f ys)
 told_cat k f [] ys = omega arith
-told_cat k f (x ∷ xs) ys =
-    let a = told_cat k f xs ys in
-    let b = times_cat k (f x) (told f (xs ++ ys)) in
-    let c = times_cat k (f x) (told f xs) in
-    omega arith
+told_cat k f (x ∷ xs) ys = let a = told_cat k f xs ys in let b = times_cat k (f x) (told f (xs ++ ys)) in let c = times_cat k (f x) (told f xs) in omega arith
 
 -- numbers of the round r, to which each event adds those that its deed tells of
 module _ (k r : ℕ) (f : Deed → List ℕ) (of : Round → List ℕ) where
   abbrev Adds : Type 0
-  Adds = (s : State) → Sound s → (e : Event) → Allowed s e
-      → times k (of ((after s e).rounds r)) ≡ times k (told f (deed s e)) + times k (of (s.rounds r))
+  Adds = (s : State) → Sound s → (e : Event) → Allowed s e → times k (of ((after s e).rounds r)) ≡ times k (told f (deed s e)) + times k (of (s.rounds r))
 
   abbrev count : List Event → ℕ → ℕ
   count run p = times k (told f (deeds p run))
@@ -71,8 +61,7 @@ module _ (k r : ℕ) (f : Deed → List ℕ) (of : Round → List ℕ) where
   pub counted : Adds → times k (of ((state []).rounds r)) ≡ 0 → (n : ℕ) (run : List Event) → IsRun run
       → ((p : ℕ) → n ≤ p → deeds p run ≡ []) → sum n (count run) ≡ times k (of ((state run).rounds r))
   counted adds none n [] ok beyond = sum_zero n ∙ sym none
-  counted adds none n (e ∷ es) ok beyond =
-      let s : State = state es in
+  counted adds none n (e ∷ es) ok beyond = let s : State = state es in
       let older : sum n (count es) ≡ times k (of (s.rounds r)) = counted adds none n es ok.1 (λ p le. (none_left _ _ (beyond p le)).1) in
       let new = adds s (sound es ok.1) e ok.0 in
       let its = eq-eqb (by e) (by e) refl in
@@ -111,8 +100,7 @@ module _ (k r : ℕ) (of : Round → List ℕ) (s : State) (x : Round) where
   -- with one number more
   one_more : (j : ℕ) → of x ≡ of (now s) ++ j ∷ [] → let one : List ℕ = if s.round == r then j ∷ [] else [] in
       times k (of (put s.rounds s.round x r)) ≡ times k (one ++ []) + times k (of (s.rounds r))
-  one_more j e =
-      let one : Bool → List ℕ = λ b. if b then j ∷ [] else [] in
+  one_more j e = let one : Bool → List ℕ = λ b. if b then j ∷ [] else [] in
       put_all (λ a y. times k (of y) ≡ times k (one (s.round == a) ++ []) + times k (of (s.rounds a))) s.rounds s.round x
       (let a = ap (times k) e ∙ times_cat k (of (now s)) (j ∷ []) in let b = ap (λ b. times k (one b ++ [])) (eq-eqb s.round s.round refl) in omega arith)
       (λ a ne. let b = ap (λ b. times k (one b ++ [])) (ne_eqb s.round a (λ z. ne (sym z))) in omega arith)
@@ -120,8 +108,7 @@ module _ (k r : ℕ) (of : Round → List ℕ) (s : State) (x : Round) where
 
 module _ (k r : ℕ) where
   pub begun_adds : Adds k r (begun_by r) (λ (x : Round). x.begun)
-  begun_adds s h =
-      by_deed s (λ e. Allowed s e → times k ((after s e).rounds r).begun ≡ times k (told (begun_by r) (deed s e)) + times k (s.rounds r).begun)
+  begun_adds s h = by_deed s (λ e. Allowed s e → times k ((after s e).rounds r).begun ≡ times k (told (begun_by r) (deed s e)) + times k (s.rounds r).begun)
       (λ e q none ok. let a = (quiet s h e q ok).begun r k in let b = ap (λ l. times k (told (begun_by r) l)) none in omega arith)
       (λ p n ok. same (record (now s) { jobs = n; stoppable = false }) refl)
       (λ p n ok. same (record (now s) { jobs = n; stoppable = true }) refl)
@@ -167,8 +154,7 @@ module _ {N : Type 0} (k : ℕ) (f : Deed → List ℕ) where
   seats_tell : (vs : List (View N)) (ds : ℕ → List Deed) → ((p : ℕ) (v : View N) → get_elem? vs p ≡ some v → deeds_of v.trail ≡ ds p)
       → times k (told_by_all f vs) ≡ sum (length vs) (λ p. times k (told f (ds p)))
   seats_tell [] ds e = refl
-  seats_tell (v ∷ vs) ds e =
-      let a = times_cat k (told f (deeds_of v.trail)) (told_by_all f vs) in
+  seats_tell (v ∷ vs) ds e = let a = times_cat k (told f (deeds_of v.trail)) (told_by_all f vs) in
       let b = seats_tell vs (λ p. ds (suc p)) (λ p u at. e (suc p) u at) in
       let c = ap (λ (l : List Deed). times k (told f l)) (e 0 v refl) in
       omega arith

@@ -41,8 +41,7 @@ pub counters_stay : (t : ℕ) (s s' : State) (ws ws' : List ℕ) (n : ℕ) → g
     → Counters t s ws n → Counters t s' ws' n
 counters_stay t s s' ws ws' n rest same on back stopped c = let e₄ = rest in record {
   free = λ k f. ⊎_elim (λ (z : (i : ℕ) × (i < t) × InRange ws i k). inl (z.0, z.1, fore z.0 k z.1 z.2)) (λ (z : InRemainder ws n k). inr (
-    (let a = z.0 in
-        omega arith),
+    (let a = z.0 in omega arith),
     z.1,
   )) (c.free k (back k f));
   ranges = λ i k lt z. on k (c.ranges i k lt (aft i k lt z));

@@ -119,8 +119,7 @@ module _ {P A : Type 0} (answers : P → A → Type 0) where
       leads,
       (let inside = p.on.0.inside in (inside.0, on.standing ∙ inside.1, idle.0, idle.1)),
       done,
-      λ k lt. dite (dec_le n k)
-          (λ le out. let v : Vacant ≡ Out = sym (l.vacant k le lt) ∙ (sym (ap (λ (b : Board). spot_at b k) same) ∙ out) in absurd cc)
+      λ k lt. dite (dec_le n k) (λ le out. let v : Vacant ≡ Out = sym (l.vacant k le lt) ∙ (sym (ap (λ (b : Board). spot_at b k) same) ∙ out) in absurd cc)
           (λ no out. let f = l.filled k (omega arith) in
           let v : Filled r f.0 ≡ Out = sym f.1 ∙ (sym (ap (λ (b : Board). spot_at b k) same) ∙ out) in absurd cc),
       (
@@ -139,8 +138,7 @@ module _ {P A : Type 0} (answers : P → A → Type 0) where
           many = many;
           hand = hand;
           each = λ k y e. let lt = in_list ys k y e in record {
-            done = λ below. let d = a k below in let f = l.filled k below in let x : P = d.1 in let o : A = d.2 in
-                let from : 0 + k ≡ k = omega arith in
+            done = λ below. let d = a k below in let f = l.filled k below in let x : P = d.1 in let o : A = d.2 in let from : 0 + k ≡ k = omega arith in
                 let at : some (k, Done o) ≡ some (k, y) = sym d.4 ∙ (ap (λ (c : List (ℕ × Slot)). get_elem? c k) hand ∙ (numbered_at ys 0 k [] y e
                 ∙ ap (λ (j : ℕ). let z : ℕ × Slot = (j, y) in some z) from)) in (
                   x,

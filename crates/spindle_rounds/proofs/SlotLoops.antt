@@ -66,12 +66,7 @@ module _ {X : Type 0} where
         }
 
     pub turning_last : (i : ℕ) (c : List (ℕ × X)) → i ≡ n → Turning P Q n i c → HoldsEach Q n c
-    turning_last i c end t = record {
-      ys = t.new;
-      many = t.done ∙ end;
-      hand = go t.old t.hand t.left;
-      each = t.new_are;
-    }
+    turning_last i c end t = record { ys = t.new; many = t.done ∙ end; hand = go t.old t.hand t.left; each = t.new_are }
       where
         go : (old : List X) → c ≡ numbered i old (numbered 0 t.new []) → i + length old ≡ n → c ≡ numbered 0 t.new []
         go [] is many = is

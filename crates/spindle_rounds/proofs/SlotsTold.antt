@@ -37,8 +37,7 @@ module _ {P A : Type 0} (answers : P → A → Type 0) where
 
     -- the piece waits, or runs, or is answered
     three : Fresh ⊎ ((IsRunning r k × IsAway h) ⊎ Ended)
-    three = dite (ℕ_discrete (times k r.finished) 0)
-        (λ none_yet. dite (ℕ_discrete (times k r.begun) 0) (λ z. inl (none_yet, f.fresh z))
+    three = dite (ℕ_discrete (times k r.finished) 0) (λ none_yet. dite (ℕ_discrete (times k r.begun) 0) (λ z. inl (none_yet, f.fresh z))
         (λ n. let b : 0 < times k r.begun = omega arith in inr (inl ((b, none_yet), f.away (b, none_yet)))))
         (λ n. let b : 0 < times k r.finished = omega arith in inr (inr (b, f.done b)))
 

@@ -8,6 +8,5 @@ pub fetch_sub-found-requires : goal.fetch_sub-found-requires
 fetch_sub-found-requires g c = let f = c.requires.free in (
   search rules,
   omega arith,
-  kept
-      (arrives g.D.SlotContents.discipline g.met.D.SlotContents.lawful _ _ _ _ _ f.1 f.2 f.3 c.requires.done),
+  kept (arrives g.D.SlotContents.discipline g.met.D.SlotContents.lawful _ _ _ _ _ f.1 f.2 f.3 c.requires.done),
 )

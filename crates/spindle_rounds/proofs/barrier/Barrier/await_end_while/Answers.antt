@@ -20,8 +20,7 @@ returns-in-Err g c = let i = c.loop.invariant in let e = c.in-Err.ensures in let
         c.loop.barrier.seat.me,
         t.1,
         c.requests-asked.ensures,
-        subst
-            (λ (z : ℕ). TurnsLast z c.requests-asked.result c.loop.barrier.seat.me c.in-Err.status) s e.last,
+        subst (λ (z : ℕ). TurnsLast z c.requests-asked.result c.loop.barrier.seat.me c.in-Err.status) s e.last,
       );
     }
 
@@ -37,8 +36,7 @@ loop-preserved g c = let i = c.loop.invariant in let e = c.in-Ok.ensures in let 
           c.loop.barrier.seat.me,
           t.1,
           c.requests-asked.ensures,
-          subst
-              (λ (z : ℕ). TurnsOn z c.requests-asked.result c.loop.barrier.seat.me c.in-Ok.barrier.seat.me) s e.on,
+          subst (λ (z : ℕ). TurnsOn z c.requests-asked.result c.loop.barrier.seat.me c.in-Ok.barrier.seat.me) s e.on,
         ),
       ),
     )

@@ -20,14 +20,12 @@ returns-in-Ended-look-clause-ends g c = let m = c.args.self.seat.me in let e = c
     (e.held.0, look_ended m c.look.new.self.seat.me c.args.self.sense (may_wait m c.requires.waiting) c.requires.held.1 e.step)
 
 pub returns-in_default : goal.returns-in_default
-returns-in_default g c = let m = c.args.self.seat.me in let e = c.look.ensures in
-    record {
-      stays = (
-        e.held.0,
-        look_on m c.look.new.self.seat.me c.args.self.sense
-            (may_wait m c.requires.waiting) c.requires.held.1 c.look.result c.in_default.not-Ended e.step,
-      );
-      ends = tt;
-      on = turned_look m c.look.new.self.seat.me c.args.self.sense c.args.asked c.look.result c.in_default.not-Ended (omega arith) e.step;
-      last = tt;
-    }
+returns-in_default g c = let m = c.args.self.seat.me in let e = c.look.ensures in record {
+  stays = (
+    e.held.0,
+    look_on m c.look.new.self.seat.me c.args.self.sense (may_wait m c.requires.waiting) c.requires.held.1 c.look.result c.in_default.not-Ended e.step,
+  );
+  ends = tt;
+  on = turned_look m c.look.new.self.seat.me c.args.self.sense c.args.asked c.look.result c.in_default.not-Ended (omega arith) e.step;
+  last = tt;
+}

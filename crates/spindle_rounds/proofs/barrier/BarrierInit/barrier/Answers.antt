@@ -7,8 +7,7 @@ pub loop-init : goal.loop-init
 loop-init g c = ((refl, refl), stayed_first _)
 
 pub returns-in-Ok-clause-joined : goal.returns-in-Ok-clause-joined
-returns-in-Ok-clause-joined g c = let i = c.loop.invariant in let e = c.in-Ok.ensures.joined in
-    ((c.loop.seat.me, i.1, e.0), (e.1.0 ∙ i.0.1, e.1.1))
+returns-in-Ok-clause-joined g c = let i = c.loop.invariant in let e = c.in-Ok.ensures.joined in ((c.loop.seat.me, i.1, e.0), (e.1.0 ∙ i.0.1, e.1.1))
 
 pub loop-preserved : goal.loop-preserved
 loop-preserved g c = let next = c.in_ok-seat-in-Err in refused_on c.args.seat c.loop.seat next.seat c.loop.invariant

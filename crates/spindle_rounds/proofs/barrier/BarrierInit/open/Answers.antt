@@ -10,9 +10,8 @@ zero_at (suc n) zero = refl
 zero_at (suc n) (suc i) = zero_at n i
 
 pub new-requires : goal.new-requires
-new-requires g c = let e = c.as_slice.ensures.value in let f = c.in_ok-words.ensures in
-    record {
-      run = [];
-      by_run = opens g.D.SlotContents.discipline g.met.D.SlotContents.lawful c.args.threads _ _ (c.as_slice.ensures.len ∙ f.len)
-          (λ i. ap (λ (l : List ℕ). get_or l i 0) (e ∙ f.items_if_clones_equal (λ y z. z)) ∙ zero_at (words_of c.args.threads) i) c.in_ok-vacant.ensures.starts;
-    }
+new-requires g c = let e = c.as_slice.ensures.value in let f = c.in_ok-words.ensures in record {
+  run = [];
+  by_run = opens g.D.SlotContents.discipline g.met.D.SlotContents.lawful c.args.threads _ _ (c.as_slice.ensures.len ∙ f.len)
+      (λ i. ap (λ (l : List ℕ). get_or l i 0) (e ∙ f.items_if_clones_equal (λ y z. z)) ∙ zero_at (words_of c.args.threads) i) c.in_ok-vacant.ensures.starts;
+}

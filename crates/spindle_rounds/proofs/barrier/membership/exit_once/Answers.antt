@@ -20,6 +20,5 @@ compare_exchange-requires g c = let n = c.load-word.result in let is : c.if-most
 ] in (
   search rules,
   search rules,
-  kept (exits_to g.D.SlotContents.discipline g.met.D.SlotContents.lawful _ _ _ _ _ _
-      (subst MayExit (sym c.load-word.ensures.2.1) c.requires.free) is),
+  kept (exits_to g.D.SlotContents.discipline g.met.D.SlotContents.lawful _ _ _ _ _ _ (subst MayExit (sym c.load-word.ensures.2.1) c.requires.free) is),
 )

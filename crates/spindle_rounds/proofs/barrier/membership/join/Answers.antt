@@ -11,12 +11,10 @@ pub load-word-requires : goal.load-word-requires
 load-word-requires g c = (search rules, search rules, kept (loads g.D.SlotContents.discipline g.met.D.SlotContents.lawful _ _ _ _))
 
 pub compare_exchange-requires : goal.compare_exchange-requires
-compare_exchange-requires g c = let n = c.load-word.result in
-    let fine : (0 < n % field_size) ⊎ (n / one_member % field_size ≡ 0) =
+compare_exchange-requires g c = let n = c.load-word.result in let fine : (0 < n % field_size) ⊎ (n / one_member % field_size ≡ 0) =
     elim c.else-word-eq0.branch [
       | else-word-eq0-via-then-word-eq0+else-most-gt0 w ↦ inr (omega arith)
-      | else-word-eq0-via-else-word-eq0 w ↦ inl
-          (omega arith)
+      | else-word-eq0-via-else-word-eq0 w ↦ inl (omega arith)
     ] in (
       search rules,
       search rules,

@@ -14,8 +14,7 @@ pub store-requires : goal.store-requires
 store-requires g c = let l = c.requires.leads in (
   search rules,
   omega arith,
-  kept
-      (fills g.D.SlotContents.discipline g.met.D.SlotContents.lawful _ _ _ _ _ 0 _ (omega arith) l.0.1 l.1),
+  kept (fills g.D.SlotContents.discipline g.met.D.SlotContents.lawful _ _ _ _ _ 0 _ (omega arith) l.0.1 l.1),
 )
 
 pub store-requires-2 : goal.store-requires-2

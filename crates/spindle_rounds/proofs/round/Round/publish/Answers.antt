@@ -9,7 +9,6 @@ pub store-requires : goal.store-requires
 store-requires g c = let l = c.requires.leads in (
   search rules,
   omega arith,
-  kept
-      (publishes g.D.SlotContents.discipline g.met.D.SlotContents.lawful _ _ _ _ _ _ (omega (arith, c.args.self.now.ranges)) l.1 l.2
+  kept (publishes g.D.SlotContents.discipline g.met.D.SlotContents.lawful _ _ _ _ _ _ (omega (arith, c.args.self.now.ranges)) l.1 l.2
       (subst (λ (n : ℕ). IsFilled n c.args.jobs c.args.seat.now.me.0.known.stored) (search rules) l.3) c.requires.counted.0 c.requires.counted.1 l.4),
 )

@@ -19,8 +19,7 @@ pub compare_exchange-found-requires : goal.compare_exchange-found-requires
 compare_exchange-found-requires g c = let r = recalled_view _ _ _ _ _ c.requires.free c.load-rest.ensures.2.1 c.load-jobs.ensures.2.1 in (
   search rules,
   omega arith,
-  kept (remainder_claims g.D.SlotContents.discipline g.met.D.SlotContents.lawful _ _ _ _ _ (subst MayClaim (sym r.0) c.requires.free)
-      (omega arith)),
+  kept (remainder_claims g.D.SlotContents.discipline g.met.D.SlotContents.lawful _ _ _ _ _ (subst MayClaim (sym r.0) c.requires.free) (omega arith)),
 )
 
 pub overflow_sub-jobs : goal.overflow_sub-jobs
@@ -47,10 +46,7 @@ returns-else-found-rest-clause-step g c = let v : ℕ = c.load-rest.result in
     let b = c.compare_exchange-found.ensures.2.1 miss in (
       v,
       c.compare_exchange-found.result,
-      (λ i. (
-        (b.1 ∙ ap (missing remainder_at c.compare_exchange-found.result) r.0) i,
-        (b.0 ∙ (c.load-jobs.ensures.2.0 ∙ c.load-rest.ensures.2.0)) i,
-      )),
+      (λ i. ((b.1 ∙ ap (missing remainder_at c.compare_exchange-found.result) r.0) i, (b.0 ∙ (c.load-jobs.ensures.2.0 ∙ c.load-rest.ensures.2.0)) i)),
       miss,
       omega arith,
     )

@@ -12,8 +12,7 @@ loop-init g c = record {
   own = c.requires.share;
   stops = refl;
   hands = refl;
-  turn =
-      (let placed = c.args.self.now.placed in omega arith);
+  turn = (let placed = c.args.self.now.placed in omega arith);
 }
 
 pub returns-in-Put-clause-went : goal.returns-in-Put-clause-went

@@ -18,12 +18,10 @@ loop-init g c = record {
 }
 
 pub put_back-requires-clause-free : goal.put_back-requires-clause-free
-put_back-requires-clause-free g c = let e = c.sees_stop.ensures in
-    (e.went.at.on.0.inside, e.same.1 ∙ c.loop.invariant.idle, e.seen ∙ c.if-sees_stop.true)
+put_back-requires-clause-free g c = let e = c.sees_stop.ensures in (e.went.at.on.0.inside, e.same.1 ∙ c.loop.invariant.idle, e.seen ∙ c.if-sees_stop.true)
 
 pub next_of_share-requires-clause-free : goal.next_of_share-requires-clause-free
-next_of_share-requires-clause-free g c = let e = c.sees_stop.ensures in
-    (e.went.at.on.0.inside, e.same.1 ∙ c.loop.invariant.idle, e.seen ∙ c.if-sees_stop.false)
+next_of_share-requires-clause-free g c = let e = c.sees_stop.ensures in (e.went.at.on.0.inside, e.same.1 ∙ c.loop.invariant.idle, e.seen ∙ c.if-sees_stop.false)
 
 pub returns-then-sees_stop-clause-went : goal.returns-then-sees_stop-clause-went
 returns-then-sees_stop-clause-went g c = went_then _ _ _ _ _ (went_then _ _ _ _ _ c.loop.invariant.went c.sees_stop.ensures.went) c.put_back.ensures.went
@@ -46,8 +44,7 @@ run-requires-clause-at g c = let i = c.loop.invariant in let e = c.sees_stop.ens
     (went_more _ _ _ a b (went_then _ _ _ _ _ i.went e.went) c.next_of_share.ensures.seat n.0 (λ _. n.1)).at
 
 pub run-requires-clause-taken : goal.run-requires-clause-taken
-run-requires-clause-taken g c =
-    share_taken g.D.SlotContents.discipline (λ h.
+run-requires-clause-taken g c = share_taken g.D.SlotContents.discipline (λ h.
     g.W.Work.holds c.loop.work h) c.sees_stop.new.seat.me c.next_of_share.new.seat.me _ _ c.loop.share c.next_of_share.new.share
     c.in-Some-next_of_share.ensures.step (rw c.sees_stop.ensures.hands c.loop.invariant.holds)
 
