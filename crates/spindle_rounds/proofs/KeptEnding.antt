@@ -32,7 +32,7 @@ use Rattle.spindle_rounds.specs.RoundConditions.{MayExit}
 use Rattle.spindle_rounds.specs.RoundRuns.{Exchange, Store}
 use Rattle.spindle_rounds.proofs.RoundQuiet.{quiet_run}
 use Rattle.spindle_rounds.proofs.RoundMoves.{Rule, SeatOf, Before, exchanges, stores, moves, moves_with, stands_on, shown, knows_none, reseated, laid_hidden}
-use Rattle.spindle_rounds.proofs.RoundWords.{word_fields, status_words, by_equal, hidden_shown}
+use Rattle.spindle_rounds.proofs.RoundWords.{word_fields, status_words, by_equal, hidden_shown, never}
 use Rattle.spindle_rounds.proofs.KeptBarrier.{idle_seat, no_deed}
 
 -- nothing is published before or after a step on the barrier word
@@ -75,40 +75,21 @@ module _ {X N : Type 0} (D : Discipline X N) (law : Lawful D) (t : ℕ) where
           by_equal (members ps) 0 (λ b. let s' : State = if b then on else arrived S id ps in
           Words t s' (set s.words barrier_at (exit_word old)) × Shows s' id (exiting old me.0) × (s'.published ≡ S.published))
           (λ sole. let hidden = alone_hidden S h id st.0 ok.2 sole in let one : most_of old ≡ 1 = omega arith in
-          let new : exit_word old ≡ sense_bit * (1 - sense_of old) = ap (λ (z : Bool). if z then sense_bit * (1 - sense_of old) else old - one_party)
-          (eq-eqb (most_of old) 1 one) in (
-            hidden_words t S on s.words (exit_word old) r.words hidden hidden (new ∙ omega arith),
-            subst (λ (z : Bool). Shows on id (noted (trace barrier_at kind.Exit old (exit_word old))
-                (outside (if (count_of old == 1) && z then Closing (round_of me.0.standing) false false None else Away) me.0)))
-                (sym (le-ltb 1 (most_of old) (omega arith)))
-                (by_equal (count_of old) 1 (λ z. Shows on id (noted (trace barrier_at kind.Exit old (exit_word old))
-                (outside (if z && false then Closing (round_of me.0.standing) false false None else Away) me.0)))
-                (λ _. reseated _ Away _ shows look (ap (λ (z : Party). z.status) look, λ e. cc) (λ _ e. cc))
-                (λ _. reseated _ Away _ shows look (ap (λ (z : Party). z.status) look, λ e. cc) (λ _ e. cc))),
-            refl,
-          ))
+          let new : exit_word old ≡ sense_bit * (1 - sense_of old) = rw (eq-eqb (most_of old) 1 one) in
+          let away : Shows on id (exiting old me.0) = rw (le-ltb 1 (most_of old) (omega arith), never (count_of old == 1))
+          (reseated _ Away _ shows look (ap (λ (z : Party). z.status) look, λ e. cc) (λ _ e. cc)) in
+          (hidden_words t S on s.words (exit_word old) r.words hidden hidden (new ∙ omega arith), away, refl))
           (λ others. let more : most_of old ≢ 1 = (λ e. others (omega arith)) in
-          let new : exit_word old ≡ old - one_party = ap (λ (z : Bool). if z then sense_bit * (1 - sense_of old) else old - one_party)
-          (ne_eqb (most_of old) 1 more) in let s' : State = arrived S id ps in (
-            status_words t S s.words id (exit_word old) Out (closer_after S ps id) r.words (new ∙ omega arith),
-            subst (λ (z : Bool). Shows s' id (noted (trace barrier_at kind.Exit old (exit_word old))
-                (outside (if (count_of old == 1) && z then Closing (round_of me.0.standing) false false None else Away) me.0)))
-                (sym (lt-ltb 1 (most_of old) (omega arith)))
-                (by_equal (count_of old) 1 (λ z. Shows s' id (noted (trace barrier_at kind.Exit old (exit_word old))
-                (outside (if z && true then Closing (round_of me.0.standing) false false None else Away) me.0)))
-                (λ one. reseated _ (Closing (round_of me.0.standing) false false None) _ shows look (
-                  ap (λ (z : Bool). if z then Some id else S.closer) (eq-eqb (inside ps) 0 (omega arith)),
-                  own,
-                  (λ z. absurd cc),
-                  ap (λ (z : Party). z.status) look,
-                  λ n z. absurd cc,
-                ) (λ _ e. cc))
-                (λ some. reseated _ Away _ shows look (
-                  ap (λ (z : Party). z.status) look,
-                  λ e. let a = ap (λ (z : Bool). if z then Some id else S.closer) (ne_eqb (inside ps) 0 (λ z. some (omega arith))) in cc,
-                ) (λ _ e. cc))),
-            refl,
-          )) in
+          let new : exit_word old ≡ old - one_party = rw (ne_eqb (most_of old) 1 more) in let s' : State = arrived S id ps in
+          let closer : Bool → Option ℕ = (λ b. if b then Some id else S.closer) in
+          let left : Shows s' id (exiting old me.0) = rw (lt-ltb 1 (most_of old) (omega arith)) (by_equal (count_of old) 1
+          (λ z. Shows s' id (noted (trace barrier_at kind.Exit old (exit_word old))
+          (outside (if z && true then Closing (round_of me.0.standing) false false None else Away) me.0)))
+          (λ one. let closes = ap closer (eq-eqb (inside ps) 0 (omega arith)) in
+          reseated _ _ _ shows look (closes, own, (λ z. absurd cc), ap (λ (z : Party). z.status) look, λ n z. absurd cc) (λ _ e. cc))
+          (λ some. let a = ap closer (ne_eqb (inside ps) 0 (λ z. some (omega arith))) in
+          reseated _ Away _ shows look (ap (λ (z : Party). z.status) look, λ e. cc) (λ _ e. cc))) in
+          (status_words t S s.words id (exit_word old) Out (closer_after S ps id) r.words (new ∙ omega arith), left, refl)) in
           moves D law t run s r barrier_at (exit_word old) id me (exiting old me.0) (Exit id ∷ []) at (refl, tt) (tt, tt) (refl, refl, refl)
           (ok, r.is_run) both.0 both.1
           (seat.1 ∙ sym (no_deed id (deeds id run))) refl (inl refl) refl both.2 (inl (omega arith))

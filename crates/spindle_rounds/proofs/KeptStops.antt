@@ -58,16 +58,17 @@ module _ (S : State) (stop : Bool) (seen : ℕ → Bool) where
       (λ n e. counters_stay t S remarked ws (set ws stopped_at x) n (other remainder_at (λ z. omega arith))
       (λ i lt. other (range_at i) (λ z. omega arith)) free_on free_back (λ z. was (sym is ∙ z)) (w.counters n e))
 
-module _ {N : Type 0} (S : State) (id q : ℕ) (v : View N) (shows : Shows S id v) (inside_q : v.standing ≡ Inside q) where
+module _ {N : Type 0} (S : State) (stop : Bool) (id q : ℕ) (v : View N) (shows : Shows S id v) (inside_q : v.standing ≡ Inside q) (is : stop ≡ true) where
   abbrev pub with_seen : State
-  with_seen = remarked S true (put (now S).seen id true)
+  with_seen = remarked S stop (put (now S).seen id true)
 
   -- the seat of the party that stops the round, or sees the stop
-  pub sees_stop : (trail : List (Trace Kind)) → let w : View N = record v { known = record v.known { seen_stop = true }; trail = trail } in Shows with_seen id w
-  sees_stop trail = let round = its_round S true (put (now S).seen id true) in let st = subst (Stands S id) inside_q shows.stands in
+  pub sees_stop : (trail : List (Trace Kind)) (b : Bool) → b ≡ true → let w : View N = record v { known = record v.known { seen_stop = b }; trail = trail } in
+      Shows with_seen id w
+  sees_stop trail b on = let round = its_round S stop (put (now S).seen id true) in let st = subst (Stands S id) inside_q shows.stands in
       let knows = shows.inside q inside_q in shown (subst (Stands with_seen id) (sym inside_q) (st.0, st.1)) shows.leads shows.claim shows.share
       (λ a e. knowing (λ m e. let old = knows.number m e in (old.0, ap (λ (z : Round). z.stoppable) round ∙ old.1)) knows.unpublished
-      (ap (λ (z : Round). z.seen id) round ∙ put_here (now S).seen id true) (λ m j e l. inr (ap (λ (z : Round). z.stopped) round)) knows.unread)
+      (ap (λ (z : Round). z.seen id) round ∙ (put_here (now S).seen id true ∙ sym on)) (λ m j e l. inr (ap (λ (z : Round). z.stopped) round ∙ is)) knows.unread)
 
 module _ {X N : Type 0} (D : Discipline X N) (law : Lawful D) (t : ℕ) where
   pub halts : (slots id : ℕ) (me : SeatOf D t) (k : ℕ) → MayStop k me.0 → Store D t slots id me stopped_at 1 (Stop id ∷ []) StopTells
@@ -80,7 +81,7 @@ module _ {X N : Type 0} (D : Discipline X N) (law : Lawful D) (t : ℕ) where
       moves D law t run s r stopped_at 1 id me w (Stop id ∷ []) at (refl, tt) (tt, tt) (refl, refl, refl)
       (((k, runs), number.1 ∙ may.2), r.is_run)
       (words_after S true seen t s.words 1 r.words (λ _. refl) (λ e. absurd cc) (λ e. absurd cc))
-      (sees_stop S id may.0.0.0 me.0 shows may.0.0.1 w.trail)
+      (sees_stop S true id may.0.0.0 me.0 shows may.0.0.1 refl w.trail true refl)
       ((λ z. Stopped (sym own z) (number_or (may.0.1 z)) ∷ seat.1 z) ∙ sym
       (ap (λ (b : Bool). (if b then stopped_by S.round (party S id).running else []) ++ deeds id run) (eq-eqb id id refl) ∙ ap
       (λ (o : Option ℕ). stopped_by S.round o ++ deeds id run) runs)) refl (inr refl) refl refl (inr (λ e. let a = number.0 in cc)))
@@ -98,18 +99,8 @@ module _ {X N : Type 0} (D : Discipline X N) (law : Lawful D) (t : ℕ) where
           tt,
           subst (λ b. Rule D t ((if b then See id ∷ [] else []) ++ run) (stepped s stopped_at x id me.1 w keeps)) (sym (eq-eqb x 1 one))
               (moves D law t run s r stopped_at x id me w (See id ∷ []) at (refl, tt) (tt, tt) (refl, refl, refl) ((st.0, on), r.is_run)
-              (subst (λ (z : Round). Words t record {
-                round = S.round;
-                parties = S.parties;
-                closer = S.closer;
-                published = S.published;
-                rounds = put S.rounds S.round z;
-              } (set s.words stopped_at x)) (λ i. record (now S) { stopped = sym on i; seen = seen })
-              (words_after S true seen t s.words x r.words (λ _. one) (λ e. absurd cc) (λ e. absurd cc)))
-              (subst (λ (z : Round × Bool). let u : View N = record w { known = record w.known { seen_stop = z.1 } } in
-              Shows record { round = S.round; parties = S.parties; closer = S.closer; published = S.published; rounds = put S.rounds S.round z.0 } id u)
-              (λ i. (record (now S) { stopped = sym on i; seen = seen }, sym (eq-eqb x 1 one) i))
-              (sees_stop S id may.0.0 me.0 shows may.0.1 w.trail))
+              (words_after S (now S).stopped seen t s.words x r.words says.0 says.1 (λ e. e))
+              (sees_stop S (now S).stopped id may.0.0 me.0 shows may.0.1 on w.trail (x == 1) (eq-eqb x 1 one))
               (seat.1 ∙ sym (no_deed id (deeds id run))) refl (inr refl) refl refl (inr (λ e. let a = number.0 in cc))),
           (refl, refl, omega arith),
         ))

@@ -1,5 +1,5 @@
 -- A leader's round over pieces: what is so once they are published, and once their round has ended.
-use Rattle.std.proofs.Common.{◌≡◌, ◌≢◌, ℕ, ◌+◌, false, ◌∷◌, [], List, sym, ap, ◌∙◌, subst}
+use Rattle.std.proofs.Common.{◌≡◌, ◌≢◌, ℕ, ◌+◌, false, ◌∷◌, [], List, refl, sym, ap, ◌∙◌, subst}
 use Rattle.spindle_rounds.specs.declared.round_table.view.Standing.{Standing}
 use Rattle.spindle_rounds.specs.declared.round_table.view.Standing.TheVariants.{Inside}
 use Rattle.spindle_rounds.specs.declared.round_table.view.Known.{Known}
@@ -46,18 +46,11 @@ module _ {P A : Type 0} (answers : P → A → Type 0) where
       pub now_published : (w : HandOf) → f.1 ≡ g.1 → w ≡ (publishing false n f.0, f.1) → PublishedPieces answers n m w
       now_published w same step = let r = filled_round (pieces answers) t n h.0 g.0 f.0 stands may_fill.1 filled stored in
           let p = round_published f w h.0 n false r.4 step in record {
-            hand = ap (λ (z : HandOf). z.1) step ∙ (same ∙ ap (λ (z : HandOf). z.1) gave);
-            board = ap (λ (z : HandOf). z.0.board) step ∙ (ap (λ (z : View P). z.board) stored.0 ∙ board);
+            hand = rw (step, same, gave);
+            board = rw (step, stored.0, gave);
             on = (p.0, λ _. p.1);
-            seat = (
-              ap (λ (z : HandOf). z.0.standing) step ∙ (r.4 ∙ sym h.1),
-              ap (λ (z : HandOf). z.0.leader) step ∙ (ap (λ (z : View P). z.leader) stored.0 ∙ ap (λ (z : HandOf). z.0.leader) gave),
-              ap (λ (z : HandOf). z.0.threads) step ∙ (ap (λ (z : View P). z.threads) stored.0 ∙ ap (λ (z : HandOf). z.0.threads) gave),
-            );
-            same = (
-              (p.3.0 ∙ (r.3.0 ∙ ap (λ (z : HandOf). z.0.from) gave), p.3.1 ∙ (r.3.1 ∙ ap (λ (z : HandOf). z.0.to) gave)),
-              p.2 ∙ (r.2 ∙ ap (λ (z : HandOf). z.0.claim) gave),
-            );
+            seat = rw (step, stored.0, gave) (refl, refl, refl);
+            same = rw (step, stored.0, gave) ((refl, refl), refl);
             published = let q : h.0 ≡ round_of m.0.standing = sym (ap round_of h.1) in
                 p.4 ∙ ((λ i. Showed (q i) n false ∷ shown_of (r.1 i)) ∙ ap (λ (l : List Deed). Showed (round_of m.0.standing) n false ∷ l)
                 (ap (λ (z : HandOf). published_of z.0.trail) gave));

@@ -187,13 +187,16 @@ module _ {X N : Type 0} (D : Discipline X N) (t : ℕ) where
         absurd (omega arith)) new run all ok (r.beyond q (let same = length-set s.views id w in omega arith));
   }
 
+  -- a step on the first two words, which leaves the jobs and what has begun
+  abbrev pub IsLow : State → State → ℕ → Type 0
+  IsLow S S' i = (i < finished_at) × ((q : ℕ) → (S'.rounds q).jobs ≡ (S.rounds q).jobs) × ((q k : ℕ) → times k (S'.rounds q).begun ≡ times k (S.rounds q).begun)
+
   -- what the leader has stored stays: at a step on the first two words, or in a published round
   pub still_laid : (run : List Event) (s : table.State X (View N)) (r : Rule run s) (i x id : ℕ) (me : SeatOf) (w : View N) (new : List Event)
       → get_elem? s.views id ≡ some me.0
       → ((w.known.stored ≡ []) ⊎ (w.known.stored ≡ me.0.known.stored)) → w.laid ≡ me.0.laid → (state (new ++ run)).published ≡ (state run).published
       → ((state run).published ≢ None → (state (new ++ run)).round ≡ (state run).round)
-      → ((i < finished_at) × ((q : ℕ) → ((state (new ++ run)).rounds q).jobs ≡ ((state run).rounds q).jobs) ×
-      ((q k : ℕ) → times k ((state (new ++ run)).rounds q).begun ≡ times k ((state run).rounds q).begun)) ⊎ ((state run).published ≢ None)
+      → IsLow (state run) (state (new ++ run)) i ⊎ ((state run).published ≢ None)
       → (v : View N) → get_elem? (set s.views id w) 0 ≡ some v → Laid t (state (new ++ run)) (set s.words i x) v
   still_laid run s r i x id me w new at stored laid published round where_it_is v e = ⊎_elim
       (λ (h : (0 ≡ id) × (w ≡ v)). let l = r.lays me.0 (subst (λ (z : ℕ). get_elem? s.views z ≡ some me.0) (sym h.0) at) in
@@ -211,15 +214,13 @@ module _ {X N : Type 0} (D : Discipline X N) (t : ℕ) where
       on u u' l st la = record {
         stored = λ j y e. ⊎_elim (λ (z : u'.known.stored ≡ []). let n = ap (λ (a : List (ℕ × ℕ)). stored_at a j) z in
             absurd cc) (λ (z : u'.known.stored ≡ u.known.stored). ⊎_elim
-            (λ (low : (i < finished_at) × ((q : ℕ) → (S'.rounds q).jobs ≡ (S.rounds q).jobs) ×
-            ((q k : ℕ) → times k (S'.rounds q).begun ≡ times k (S.rounds q).begun)).
+            (λ (low : IsLow S S' i).
             let old = l.stored j y (sym (ap (λ (a : List (ℕ × ℕ)). stored_at a j) z) ∙ e) in let lt = low.0 in let le = old.0 in
             (old.0, get_or-set_other s.words i j x 0 (λ b. omega arith) ∙ old.1))
             (λ is. let none_stored = z ∙ l.unstored is in let n = ap (λ (a : List (ℕ × ℕ)). stored_at a j) none_stored in absurd cc) where_it_is) st;
         unstored = λ is. ⊎_elim (λ z. z) (λ z. z ∙ l.unstored (λ n. is (published ∙ n))) st;
         current = λ is. la ∙ (l.current (λ n. is (published ∙ n)) ∙ ap (λ (z : ℕ). Some z) (sym (round (λ n. is (published ∙ n)))));
-        left = λ q e hid. ⊎_elim (λ (low : (i < finished_at) × ((q : ℕ) → (S'.rounds q).jobs ≡ (S.rounds q).jobs) ×
-            ((q k : ℕ) → times k (S'.rounds q).begun ≡ times k (S.rounds q).begun)). let lt = low.0 in
+        left = λ q e hid. ⊎_elim (λ (low : IsLow S S' i). let lt = low.0 in
             stands_on t (S.rounds q) (S'.rounds q) s.words (set s.words i x) (low.1 q) (low.2 q)
             (λ j le. get_or-set_other s.words i j x 0 (λ z. omega arith)) (l.left q (sym la ∙ e) (sym published ∙ hid)))
             (λ is. absurd (is (sym published ∙ hid))) where_it_is;

@@ -1,6 +1,6 @@
 -- The fields of the barrier word, and what the other words show after a step on one of them.
 use Rattle.std.proofs.Common.{◌≡◌, ◌≢◌, inl, inr, ⊎_elim, ℕ, ◌+◌, ◌*◌, ◌/◌, ◌%◌, ◌<◌, ◌≤◌, Bool, true, false, eq-eqb, ne_eqb, le-ltb, lt-ltb, List, length}
-use Rattle.std.proofs.Common.{get_or, set, length-set, get_or-set_same, get_or-set_other, sym, refl, ap, ◌∙◌, subst, arith, Option, None, ◌==◌, nat_lt}
+use Rattle.std.proofs.Common.{get_or, set, length-set, get_or-set_same, get_or-set_other, sym, refl, ap, ◌∙◌, subst, arith, Option, None, ◌==◌, ◌&&◌, nat_lt}
 use mathlib.Core.Logic.{dite}
 use native.Mathlib.Decide.{ℕ_discrete, dec_le}
 use Rattle.spindle_parts.specs.State.{State, Status, Party, Round, party_of, put_party, now, party, times, Free, inside, members, total, absent}
@@ -18,6 +18,10 @@ by_less a b P hit miss = dite (dec_le b a) (λ le. subst P (sym (le-ltb a b le))
 
 pub by_equal : (a b : ℕ) (P : Bool → Type 0) → (a ≡ b → P true) → (a ≢ b → P false) → P (a == b)
 by_equal a b P hit miss = dite (ℕ_discrete a b) (λ e. subst P (sym (eq-eqb a b e)) (hit e)) (λ n. subst P (sym (ne_eqb a b n)) (miss n))
+
+pub never : (b : Bool) → (b && false) ≡ false
+never true = refl
+never false = refl
 
 -- the fields of the word
 pub record Fields (n a b c : ℕ) : Type 0 where

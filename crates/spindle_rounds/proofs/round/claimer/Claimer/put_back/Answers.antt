@@ -15,23 +15,15 @@ loop-init g c = record {
   turn = (let placed = c.args.self.now.placed in omega arith);
 }
 
-pub returns-in-Put-clause-went : goal.returns-in-Put-clause-went
-returns-in-Put-clause-went g c = let i = c.loop.invariant in
-    let a = share_put c.loop.seat.me c.put_back.new.seat.me _ back.Put c.loop.share c.put_back.new.share i.may i.own c.in-Put.ensures.step in
-    went_more _ _ _ c.loop.seat c.put_back.new.seat i.went c.put_back.ensures.seat a.0 (λ _. a.1)
-
-pub returns-in-Put-clause-seen : goal.returns-in-Put-clause-seen
-returns-in-Put-clause-seen g c = let i = c.loop.invariant in
-    let a = share_put c.loop.seat.me c.put_back.new.seat.me _ back.Put c.loop.share c.put_back.new.share i.may i.own c.in-Put.ensures.step in a.2.2
-
-pub returns-in-Put-clause-idle : goal.returns-in-Put-clause-idle
-returns-in-Put-clause-idle g c = let i = c.loop.invariant in
-    let a = share_put c.loop.seat.me c.put_back.new.seat.me _ back.Put c.loop.share c.put_back.new.share i.may i.own c.in-Put.ensures.step in
-    (a.2.1, (let x = a.3.0 in let y = a.3.1 in let same = a.4 refl in omega arith))
-
-pub returns-in-Put-clause-stops : goal.returns-in-Put-clause-stops
-returns-in-Put-clause-stops g c = let i = c.loop.invariant in
-    let a = share_put c.loop.seat.me c.put_back.new.seat.me _ back.Put c.loop.share c.put_back.new.share i.may i.own c.in-Put.ensures.step in a.1.1 ∙ i.stops
+pub returns-in-Put : goal.returns-in-Put
+returns-in-Put g c = let i = c.loop.invariant in let e = c.in-Put.ensures.step in
+    let a = share_put c.loop.seat.me c.put_back.new.seat.me _ back.Put c.loop.share c.put_back.new.share i.may i.own e in record {
+      went = went_more _ _ _ c.loop.seat c.put_back.new.seat i.went c.put_back.ensures.seat a.0 (λ _. a.1);
+      idle = (a.2.1, (let x = a.3.0 in let y = a.3.1 in let same = a.4 refl in omega arith));
+      seen = a.2.2;
+      stops = a.1.1 ∙ i.stops;
+      hands = put_hands _ back.Put c.loop.share c.put_back.new.share c.loop.seat.me c.put_back.new.seat.me e ∙ i.hands;
+    }
 
 pub loop-preserved : goal.loop-preserved
 loop-preserved g c = let i = c.loop.invariant in let a =
