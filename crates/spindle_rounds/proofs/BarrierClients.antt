@@ -49,16 +49,14 @@ module _ {N : Type 0} (v : View N) (q : ℕ) (quiet : Bool) (waits : v.standing 
   pub still_waits : (sense : ℕ) → HasSense v.standing sense → n < high_half → sense_of n ≢ sense → looking n v ≡ loading barrier_at n v
   still_waits sense has small other = let own : sense ≡ (q + 1) % 2 = subst (λ (z : Standing). HasSense z sense) waits has in
       let r : round_of v.standing ≡ q = ap round_of waits in let k : ℕ = round_of v.standing in
-      let e : n / sense_bit ≡ k % 2 = (let d : n / sense_bit ≢ (q + 1) % 2 = (λ z. other (z ∙ sym own)) in omega arith) in
-      rw (eq-eqb (n / sense_bit) (k % 2) e)
+      let e : n / sense_bit ≡ k % 2 = (let d : n / sense_bit ≢ (q + 1) % 2 = (λ z. other (z ∙ sym own)) in omega arith) in rw (eq-eqb (n / sense_bit) (k % 2) e)
 
   -- it is: the round has ended, and the party is inside the next
   pub has_ended : (sense : ℕ) → HasSense v.standing sense → sense_of n ≡ sense → looking n v ≡ standing (Inside (round_of v.standing + 1))
       (unknown v.leader false) (loading barrier_at n v)
   has_ended sense has same = let own : sense ≡ (q + 1) % 2 = subst (λ (z : Standing). HasSense z sense) waits has in
       let r : round_of v.standing ≡ q = ap round_of waits in let k : ℕ = round_of v.standing in
-      let e : n / sense_bit ≢ k % 2 = (λ z. let d : n / sense_bit ≡ (q + 1) % 2 = same ∙ own in absurd (omega arith)) in
-      rw (ne_eqb (n / sense_bit) (k % 2) e)
+      let e : n / sense_bit ≢ k % 2 = (λ z. let d : n / sense_bit ≡ (q + 1) % 2 = same ∙ own in absurd (omega arith)) in rw (ne_eqb (n / sense_bit) (k % 2) e)
 
 deeds_append : (a b : List (Trace Kind)) → deeds_of (a ++ b) ≡ deeds_of a ++ deeds_of b
 deeds_append [] b = refl

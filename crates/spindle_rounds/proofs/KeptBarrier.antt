@@ -45,16 +45,15 @@ module _ {X N : Type 0} (D : Discipline X N) (law : Lawful D) (t : ℕ) where
       → Exchange D t slots id me barrier_at old (old + one_party) (Join id ∷ []) JoinTells
   joins slots id me old away fine room = record {
     shows = λ run s r _ at _. let x : ℕ = get_or s.words barrier_at 0 in let S : State = state run in let h = sound run r.is_run in
-        let shows = (r.seats id me.0 at).0 in let st = subst (Stands S id) away shows.stands in
-        let f = word_fields S h x r.words.barrier in dite (ℕ_discrete x old)
+        let shows = (r.seats id me.0 at).0 in let st = subst (Stands S id) away shows.stands in let f = word_fields S h x r.words.barrier in
+        dite (ℕ_discrete x old)
         (λ hit. let c₀ = total_put weight_in refl S.parties id (with_status In (party S id)) in
         let c₁ = total_put weight_member refl S.parties id (with_status In (party S id)) in let b₀ = ap is_in st.0 in let b₁ = ap is_member st.0 in
         let w : View N = joining S.round ((now S).seen id) x me.0 in let few : members S.parties < 32767 = (let e = f.most in omega arith) in
         let look = look_here S.parties id (with_status In (party S id)) in
         let open_now : S.closer ≡ None = none_of S.closer (λ c e. let z = h.gate.closing c e in let z₀ = z.0 in let z₁ = z.1 in let e₀ = f.count in
         let e₁ = f.most in let few = h.gate.few in ⊎_elim (λ (lt : 0 < old % field_size). omega arith)
-        (λ (no : old / one_member % field_size ≡ 0). omega arith) fine) in
-        let ok : Allowed S (Join id) = (st.0, open_now, few) in let is = r.words.barrier in (
+        (λ (no : old / one_member % field_size ≡ 0). omega arith) fine) in let ok : Allowed S (Join id) = (st.0, open_now, few) in let is = r.words.barrier in (
           w,
           keeps,
           tt,
@@ -92,16 +91,16 @@ module _ {X N : Type 0} (D : Discipline X N) (law : Lawful D) (t : ℕ) where
           (stepped s barrier_at ((get_or s.words barrier_at 0 + 18446744073709551615) % 18446744073709551616) id me.1
           (arriving (get_or s.words barrier_at 0) me.0) keeps)
       owed run s b = let r = b.rule in let at = b.at in let small = b.small in let x : ℕ = get_or s.words barrier_at 0 in let S : State = state run in
-          let h = sound run r.is_run in let seat = r.seats id me.0 at in let shows = seat.0 in
-          let st = subst (Stands S id) inside_q shows.stands in let f = word_fields S h x r.words.barrier in let is = r.words.barrier in
+          let h = sound run r.is_run in let seat = r.seats id me.0 at in let shows = seat.0 in let st = subst (Stands S id) inside_q shows.stands in
+          let f = word_fields S h x r.words.barrier in let is = r.words.barrier in
           let ps : List Party = put_party S.parties id (with_status Arrived (party S id)) in
           let look = look_here S.parties id (with_status Arrived (party S id)) in
           let c₀ = total_put weight_in refl S.parties id (with_status Arrived (party S id)) in
           let c₁ = total_put weight_member refl S.parties id (with_status Arrived (party S id)) in let b₀ = ap is_in st.0 in let b₁ = ap is_member st.0 in
           let knows = shows.inside q inside_q in
           let ok : Allowed S (Arrive id) = (st.0, idle_seat S id me.0 shows idle empty, used S h id me.0 knows (λ z. r.words.barren (sym seat.2 ∙ z)) done) in
-          let e = f.count in let less : (x + 18446744073709551615) % 18446744073709551616 + 1 ≡ x = omega arith in
-          let quiet : Bool = me.0.known.unpublished in let own : S.round ≡ round_of me.0.standing = st.1 ∙ sym (ap round_of inside_q) in
+          let e = f.count in let less : (x + 18446744073709551615) % 18446744073709551616 + 1 ≡ x = omega arith in let quiet : Bool = me.0.known.unpublished in
+          let own : S.round ≡ round_of me.0.standing = st.1 ∙ sym (ap round_of inside_q) in
           moves D law t run s r barrier_at ((x + 18446744073709551615) % 18446744073709551616) id me (arriving x me.0) (Arrive id ∷ []) at (refl, tt) (tt, tt)
           (refl, refl, refl) (ok, r.is_run)
           (status_words t S s.words id ((x + 18446744073709551615) % 18446744073709551616) Arrived (closer_after S ps id) r.words (omega arith))
@@ -151,8 +150,7 @@ module _ {X N : Type 0} (D : Discipline X N) (law : Lawful D) (t : ℕ) where
   closer_reads slots id me q member cleared was closes = reads D law t slots id me barrier_at (λ x. with_word x me.0.standing) (λ _. me.0.known) _ (λ _. refl)
       (λ run s b. let r = b.rule in let x : ℕ = get_or s.words barrier_at 0 in let S : State = state run in
       let f = word_fields S (sound run r.is_run) x r.words.barrier in let shows = (r.seats id me.0 b.at).0 in
-      let st = subst (Stands S id) closes shows.stands in
-      let is : with_word x me.0.standing ≡ Closing q member cleared (Some x) = ap (with_word x) closes in (
+      let st = subst (Stands S id) closes shows.stands in let is : with_word x me.0.standing ≡ Closing q member cleared (Some x) = ap (with_word x) closes in (
         shown (subst (Stands S id) (sym is) (st.0, st.1, st.2, st.3, λ n e. let same : x ≡ n = cc in sym r.words.barrier ∙ same))
             shows.leads shows.claim shows.share (λ q' e. let no : Closing q member cleared (Some x) ≡ Inside q' = sym is ∙ e in absurd cc),
         (refl, refl, f.small),

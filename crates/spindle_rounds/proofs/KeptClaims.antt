@@ -48,8 +48,7 @@ module _ {X N : Type 0} (D : Discipline X N) (law : Lawful D) (t slots id : ℕ)
   takes run s b hit = let r = b.rule in let at = b.at in let S : State = state run in let h = sound run r.is_run in let seat = r.seats id me.0 at in
       let shows = seat.0 in let st = subst (Stands S id) inside_q shows.stands in let knows = shows.inside q inside_q in
       let is_shown : S.published ≡ Some n = (knows.number n known).0 in let c = r.words.counters n is_shown in let is_free = take.free S s.words c hit in
-      let S' : State = then_begun S id k some take.mine in
-      let b' = law.begins S S' s.homes s.views id me.0 me.1 k claimer r.slots
+      let S' : State = then_begun S id k some take.mine in let b' = law.begins S S' s.homes s.views id me.0 me.1 k claimer r.slots
       (begun_here S id k some take.mine run refl r.is_run n (is_free k take.mine) is_shown) at (λ o. (refl, refl, refl)) in
       let first = first_party S id k some take.mine in let last = last_party S id k some take.mine in
       let own : S.round ≡ round_of me.0.standing = st.1 ∙ sym (ap round_of inside_q) in
@@ -59,8 +58,7 @@ module _ {X N : Type 0} (D : Discipline X N) (law : Lawful D) (t slots id : ℕ)
         knows.seen ∙ unseen,
         ap (λ (z : Party). z.running) first ∙ (shows.claim ∙ idle),
         ap (λ (z : Party). z.taken k) first ∙ or_right ((party S id).taken k) (some k) take.mine,
-      ) in
-      let none_held : (j : ℕ) → (party S id).taken j ≡ true → ⊥ = (λ j e. let z = (shows.share j).0 e in let z₀ = z.0 in let z₁ = z.1 in omega arith) in
+      ) in let none_held : (j : ℕ) → (party S id).taken j ≡ true → ⊥ = (λ j e. let z = (shows.share j).0 e in let z₀ = z.0 in let z₁ = z.1 in omega arith) in
       let y : ℕ → Bool = (with_some S id k some take.mine).taken in (
         b'.0,
         b'.1,

@@ -53,22 +53,17 @@ module _ {X N : Type 0} (D : Discipline X N) (law : Lawful D) (t : ℕ) where
       owed : (run : List Event) (s : table.State X (View N)) → Before D law t slots id me barrier_at run s → get_or s.words barrier_at 0 ≡ old → Rule D t
           (Exit id ∷ run) (stepped s barrier_at (exit_word old) id me.1 (exiting old me.0) keeps)
       owed run s b hit = let r = b.rule in let at = b.at in let S : State = state run in let h = sound run r.is_run in let seat = r.seats id me.0 at in
-          let shows = seat.0 in
-          let st = subst (Stands S id) inside_q shows.stands in let f = word_fields S h old (sym hit ∙ r.words.barrier) in
-          let is : old ≡ word S = sym hit ∙ r.words.barrier in
-          let ps : List Party = put_party S.parties id (with_status Out (party S id)) in let look = look_here S.parties id (with_status Out (party S id)) in
-          let open_now = no_closer S h id st.0 in
+          let shows = seat.0 in let st = subst (Stands S id) inside_q shows.stands in let f = word_fields S h old (sym hit ∙ r.words.barrier) in
+          let is : old ≡ word S = sym hit ∙ r.words.barrier in let ps : List Party = put_party S.parties id (with_status Out (party S id)) in
+          let look = look_here S.parties id (with_status Out (party S id)) in let open_now = no_closer S h id st.0 in
           let c₀ = total_put weight_in refl S.parties id (with_status Out (party S id)) in
           let c₁ = total_put weight_member refl S.parties id (with_status Out (party S id)) in let b₀ = ap is_in st.0 in let b₁ = ap is_member st.0 in
-          let le = inside_le_members ps in
-          let fc = f.count in let fm = f.most in let fs = f.sense in
-          let ok : Allowed S (Exit id) = (
+          let le = inside_le_members ps in let fc = f.count in let fm = f.most in let fs = f.sense in let ok : Allowed S (Exit id) = (
             st.0,
             idle_seat S id me.0 shows idle empty,
             λ zero. ⊎_elim (λ (a : me.0.leader ≡ false). absurd (shows.leads.1 a zero))
                 (λ (a : me.0.known.unpublished ≡ true). ((shows.inside q inside_q).unpublished a).1) free,
-          ) in
-          let on : State = record { round = S.round + 1; parties = ps; closer = S.closer; published = S.published; rounds = S.rounds } in
+          ) in let on : State = record { round = S.round + 1; parties = ps; closer = S.closer; published = S.published; rounds = S.rounds } in
           let own : S.round ≡ round_of me.0.standing = st.1 ∙ sym (ap round_of inside_q) in
           let both : Words t (after S (Exit id)) (set s.words barrier_at (exit_word old)) × Shows (after S (Exit id)) id (exiting old me.0) ×
           ((after S (Exit id)).published ≡ S.published) =
@@ -79,9 +74,8 @@ module _ {X N : Type 0} (D : Discipline X N) (law : Lawful D) (t : ℕ) where
           let away : Shows on id (exiting old me.0) = rw (le-ltb 1 (most_of old) (omega arith), never (count_of old == 1))
           (reseated _ Away _ shows look (ap (λ (z : Party). z.status) look, λ e. cc) (λ _ e. cc)) in
           (hidden_words t S on s.words (exit_word old) r.words hidden hidden (new ∙ omega arith), away, refl))
-          (λ others. let more : most_of old ≢ 1 = (λ e. others (omega arith)) in
-          let new : exit_word old ≡ old - one_party = rw (ne_eqb (most_of old) 1 more) in let s' : State = arrived S id ps in
-          let closer : Bool → Option ℕ = (λ b. if b then Some id else S.closer) in
+          (λ others. let more : most_of old ≢ 1 = (λ e. others (omega arith)) in let new : exit_word old ≡ old - one_party = rw (ne_eqb (most_of old) 1 more) in
+          let s' : State = arrived S id ps in let closer : Bool → Option ℕ = (λ b. if b then Some id else S.closer) in
           let left : Shows s' id (exiting old me.0) = rw (lt-ltb 1 (most_of old) (omega arith)) (by_equal (count_of old) 1
           (λ z. Shows s' id (noted (trace barrier_at kind.Exit old (exit_word old))
           (outside (if z && true then Closing (round_of me.0.standing) false false None else Away) me.0)))
@@ -121,9 +115,8 @@ module _ {X N : Type 0} (D : Discipline X N) (law : Lawful D) (t : ℕ) where
       owed : (run : List Event) (s : table.State X (View N)) → Before D law t slots id me barrier_at run s → Rule D t (End id ∷ run)
           (stepped s barrier_at (turned_word n) id me.1 (ending (turned_word n) me.0) keeps)
       owed run s b = let r = b.rule in let at = b.at in let S : State = state run in let h = sound run r.is_run in let seat = r.seats id me.0 at in
-          let shows = seat.0 in let st = subst (Stands S id) closes shows.stands in
-          let hidden = st.2 refl in let is : n ≡ word S = sym (st.4 n refl) in let f = word_fields S h n is in let fc = f.count in let fm = f.most in
-          let fs = f.sense in let z = (h.gate.closing id st.0).0 in
+          let shows = seat.0 in let st = subst (Stands S id) closes shows.stands in let hidden = st.2 refl in let is : n ≡ word S = sym (st.4 n refl) in
+          let f = word_fields S h n is in let fc = f.count in let fm = f.most in let fs = f.sense in let z = (h.gate.closing id st.0).0 in
           let i = inside_wake S.parties in let m = members_wake S.parties in let few = h.gate.few in
           moves D law t run s r barrier_at (turned_word n) id me (ending (turned_word n) me.0) (End id ∷ []) at (refl, tt) (tt, tt) (refl, refl, refl)
           ((st.0, hidden), r.is_run)
@@ -145,8 +138,7 @@ module _ {X N : Type 0} (D : Discipline X N) (law : Lawful D) (t : ℕ) where
       go : (q : ℕ) → u.laid ≡ Some q → (o : Option ℕ) → S.published ≡ o → StandsFor t (S.rounds q) ws
       go q e None hidden = l.left q e hidden
       go q e (Some n) shown = let here : q ≡ S.round = (let a = l.current (λ z. cc) in cc) in let jobs = (h.gate.shown n shown).0 in
-          let k = w.counters n shown in
-          let quiet : (p j : ℕ) → (party S p).taken j ≡ false = (λ p j.
+          let k = w.counters n shown in let quiet : (p j : ℕ) → (party S p).taken j ≡ false = (λ p j.
           (idle_out h.fate (now S) S.parties h.work p (none_in S.parties (h.gate.closing c closes).0 p)).0 j) in
           subst (λ (z : ℕ). StandsFor t (S.rounds z) ws) (sym here) (λ j. (
             (λ a. subst (λ (m : ℕ). IsLeft t ws m j) (sym jobs) (k.free j (a.0, a.1, λ p. quiet p j))),
@@ -161,10 +153,9 @@ module _ {X N : Type 0} (D : Discipline X N) (law : Lawful D) (t : ℕ) where
       owed : (run : List Event) (s : table.State X (View N)) → Before D law t slots id me published_at run s → Rule D t (Clear id ∷ run)
           (stepped s published_at 0 id me.1 (clearing 0 me.0) keeps)
       owed run s b = let r = b.rule in let at = b.at in let S : State = state run in let h = sound run r.is_run in let seat = r.seats id me.0 at in
-          let shows = seat.0 in let st = subst (Stands S id) closes shows.stands in
-          let w : View N = clearing 0 me.0 in let is : with_clear me.0.standing ≡ Closing q member true read = ap with_clear closes in
-          let wide = r.words.wide in let ok : IsRun (Clear id ∷ run) = (st.0, r.is_run) in
-          let q' = quiet_run (Clear id ∷ []) run (tt, tt) ok in
+          let shows = seat.0 in let st = subst (Stands S id) closes shows.stands in let w : View N = clearing 0 me.0 in
+          let is : with_clear me.0.standing ≡ Closing q member true read = ap with_clear closes in let wide = r.words.wide in
+          let ok : IsRun (Clear id ∷ run) = (st.0, r.is_run) in let q' = quiet_run (Clear id ∷ []) run (tt, tt) ok in
           moves_with D t run s r published_at 0 id me w keeps (Clear id ∷ []) at (refl, tt) ok
           (hidden_shown (length-set s.words published_at 0 ∙ r.words.wide)
           (get_or-set_other s.words published_at barrier_at 0 0 (λ e. omega arith) ∙ r.words.barrier)

@@ -36,16 +36,13 @@ module _ {X N : Type 0} (D : Discipline X N) (law : Lawful D) (t : ℕ) where
       (filled_at j) x [] FillTells
   fills slots id me q j x low inside_q alone = let i : ℕ = filled_at j in
       stores D law t slots id me i x [] (filling i) (step slots i x 0 none) (λ run s b. let r = b.rule in let at = b.at in let S : State = state run in
-      let seat = r.seats id me.0 at in let shows = seat.0 in
-      let knows = shows.inside q inside_q in let only = knows.unpublished alone in let hidden = only.1 in let w : View N = filling i x me.0 in
-      let wide = r.words.wide in
+      let seat = r.seats id me.0 at in let shows = seat.0 in let knows = shows.inside q inside_q in let only = knows.unpublished alone in let hidden = only.1 in
+      let w : View N = filling i x me.0 in let wide = r.words.wide in
       let other : (k : ℕ) → k < finished_at → get_or (set s.words i x) k 0 ≡ get_or s.words k 0 =
-      (λ k lt. get_or-set_other s.words i k x 0 (λ e. omega arith)) in
-      moves_with D t run s r i x id me w keeps [] at tt r.is_run
+      (λ k lt. get_or-set_other s.words i k x 0 (λ e. omega arith)) in moves_with D t run s r i x id me w keeps [] at tt r.is_run
       (hidden_shown (length-set s.words i x ∙ r.words.wide) (other barrier_at (omega arith) ∙ r.words.barrier)
       (other published_at (omega arith) ∙ r.words.published) hidden)
-      (shown shows.stands shows.leads shows.claim shows.share (λ q e. let k = shows.inside q e in
-      knowing k.number k.unpublished k.seen k.emptied k.unread))
+      (shown shows.stands shows.leads shows.claim shows.share (λ q e. let k = shows.inside q e in knowing k.number k.unpublished k.seen k.emptied k.unread))
       seat.1 refl
       (λ v e. ⊎_elim (λ (h : (0 ≡ id) × (w ≡ v)). let l = r.lays me.0 (subst (λ (a : ℕ). get_elem? s.views a ≡ some me.0) (sym h.0) at) in
       subst (Laid t S (set s.words i x)) h.1
@@ -96,9 +93,8 @@ module _ (t n : ℕ) (S' : State) (ws : List ℕ) (free : (k : ℕ) → k < n �
     free = λ k f. dite (dec_le n (k + n % t)) (λ le. inr ((let e = rest in omega arith), below k f))
         (λ no. let e = div-add-mod' n t in let d : ℕ = n / t in let e' : d * t + n % t ≡ n = e in
         let some : 0 < d = dite (ℕ_discrete d 0) (λ z. let y : d * t ≡ 0 = ap (λ (a : ℕ). a * t) z ∙ zero-mul t in
-        absurd (omega arith)) (λ z. omega arith) in
-        let lt : k / d < t = (div-lt_iff_lt-mul {k = d} {x = k} {y = t} some).1 (omega arith) in let m = div-add-mod' k d in let r : k % d < d = omega arith in
-        inl (k / d, lt, into (k / d) k lt (omega arith) (omega arith)));
+        absurd (omega arith)) (λ z. omega arith) in let lt : k / d < t = (div-lt_iff_lt-mul {k = d} {x = k} {y = t} some).1 (omega arith) in
+        let m = div-add-mod' k d in let r : k % d < d = omega arith in inl (k / d, lt, into (k / d) k lt (omega arith) (omega arith)));
     ranges = λ i k lt z. let a = range i k lt z in let a₀ = a.0 in let a₁ = a.1 in let b = in_all i lt in free k (omega arith);
     remainder = λ k z. free k z.1;
     few = let e = rest in omega arith;
@@ -148,16 +144,13 @@ module _ {X N : Type 0} (D : Discipline X N) (law : Lawful D) (t slots id : ℕ)
   owed run s b = let r = b.rule in let at = b.at in let S : State = state run in let x : ℕ = publish_word may_stop n in let h = sound run r.is_run in
       let seat = r.seats id me.0 at in let shows = seat.0 in let st = subst (Stands S id) inside_q shows.stands in
       let only = (shows.inside q inside_q).unpublished alone in let hidden = only.1 in let w : View N = publishing may_stop n me.0 in let wide = r.words.wide in
-      let zero_jobs = h.gate.hidden hidden (no_closer S h id st.0) in
-      let e : Event = shows_number may_stop id n in let S' : State = publish S may_stop n in
+      let zero_jobs = h.gate.hidden hidden (no_closer S h id st.0) in let e : Event = shows_number may_stop id n in let S' : State = publish S may_stop n in
       let R : Round = record (now S) { jobs = n; stoppable = may_stop } in let now_is : now S' ≡ R = put_here S.rounds S.round R in
-      let is : S' ≡ after S e = sym (becomes may_stop S n id) in
-      let laid = r.lays me.0 (subst (λ (a : ℕ). get_elem? s.views a ≡ some me.0) only.0 at) in
+      let is : S' ≡ after S e = sym (becomes may_stop S n id) in let laid = r.lays me.0 (subst (λ (a : ℕ). get_elem? s.views a ≡ some me.0) only.0 at) in
       let stored : (j : ℕ) → j < 3 + t → get_or s.words (filled_at j) 0 ≡ fill_value t n j =
       (λ j lt. (laid.stored (filled_at j) (fill_value t n j) (full j lt)).1) in
       let other : (i : ℕ) → i ≢ published_at → get_or (set s.words published_at x) i 0 ≡ get_or s.words i 0 =
-      (λ i ne. get_or-set_other s.words published_at i x 0 ne) in
-      let all_open = none_begun h.fate (now S) S.parties h.work zero_jobs in
+      (λ i ne. get_or-set_other s.words published_at i x 0 ne) in let all_open = none_begun h.fate (now S) S.parties h.work zero_jobs in
       let free : (k : ℕ) → k < n → Free S' k = (λ k lt. let f = open_is_free h.fate (now S) S.parties h.work k (all_open k) in
       (subst (λ (z : Round). k < z.jobs) (sym now_is) lt, ap (λ (z : Round). times k z.begun) now_is ∙ f.0, f.1)) in
       let at_rest : (now S).stopped ≡ false = untrue (now S).stopped (λ e. let a = (h.work.stops e).1 in omega arith) in

@@ -45,7 +45,8 @@ module _ (S : State) (id k : ℕ) (runs : (party S id).running ≡ Some k) where
   free_on j f = (subst (λ (z : Round). j < z.jobs) (sym its_round) f.0, ap (λ (z : Round). times j z.begun) its_round ∙ f.1, λ a. taken_same a j ∙ f.2 a)
 
   pub free_back : (j : ℕ) → Free done j → Free S j
-  free_back j f = (subst (λ (z : Round). j < z.jobs) its_round f.0, sym (ap (λ (z : Round). times j z.begun) its_round) ∙ f.1, λ a. sym (taken_same a j) ∙ f.2 a)
+  free_back j f = let begun = ap (λ (z : Round). times j z.begun) its_round in
+      (subst (λ (z : Round). j < z.jobs) its_round f.0, sym begun ∙ f.1, λ a. sym (taken_same a j) ∙ f.2 a)
 
   -- where it is the last, as many have finished as there are jobs
   pub all_done : (x m : ℕ) → x ≡ length (now S).finished → m ≡ x + 1 → (now S).jobs ≡ m → length (now done).finished ≡ (now done).jobs
@@ -167,10 +168,9 @@ module _ {X N : Type 0} (D : Discipline X N) (law : Lawful D) (t : ℕ) where
     shows = λ run s r _ at small. let x : ℕ = get_or s.words finished_at 0 in let S : State = state run in let h = sound run r.is_run in
         let shows = (r.seats id me.0 at).0 in let st = subst (Stands S id) may.0.1 shows.stands in let knows = shows.inside may.0.0 may.0.1 in
         let runs : (party S id).running ≡ Some k = shows.claim ∙ may.1 in let S' : State = done S id k runs in let w : View N = finishing x me.0 in
-        let ran = (h.work.fits id).ran k runs in
-        let below : k < (now S).jobs = h.work.below k (λ e. cc) in let is_shown : S.published ≢ None = some_published S h id st.0 (omega arith) in
-        let few = few_finished S h (few_jobs S h is_shown) in let is = r.words.finished is_shown in
-        let new : (x + 1) % 18446744073709551616 ≡ length (now S).finished + 1 = omega arith in
+        let ran = (h.work.fits id).ran k runs in let below : k < (now S).jobs = h.work.below k (λ e. cc) in
+        let is_shown : S.published ≢ None = some_published S h id st.0 (omega arith) in let few = few_finished S h (few_jobs S h is_shown) in
+        let is = r.words.finished is_shown in let new : (x + 1) % 18446744073709551616 ≡ length (now S).finished + 1 = omega arith in
         let alone : (p : ℕ) (u : View N) → p ≢ id → get_elem? s.views p ≡ some u → u.claim ≢ Some k =
         (λ p u n e c. let a = (h.work.fits p).ran k ((r.seats p u e).0.claim ∙ c) in let b : Ran p ≡ Ran id = sym a ∙ ran in let d : p ≡ id = cc in n d) in
         let g = law.finishes S S' s.homes s.views id me.0 w me.1 k r.slots (finishes_here S id k runs) at may.1 alone (refl, refl) give in
@@ -184,8 +184,8 @@ module _ {X N : Type 0} (D : Discipline X N) (law : Lawful D) (t : ℕ) where
               (shown (subst (Stands S' id) (sym may.0.1) (ap (λ (z : Party). z.status) look ∙ st.0, st.1)) shows.leads (ap (λ (z : Party). z.running) look)
               (λ j. subst (λ (z : Bool). ((z ≡ true) → (me.0.from ≤ j) × (j < me.0.to)) × ((me.0.from ≤ j) × (j < me.0.to) → z ≡ true))
               (sym (taken_same S id k runs id j)) (shows.share j))
-              (λ a e. let old : Knows me.0.threads S' id me.0.known = knows_on knows refl round refl refl refl (free_back S id k runs) in knowing old.number old.unpublished old.seen
-              (λ m j e l. listed_finished me.0.known.number m (x + 1) me.0.threads me.0.known.emptied (IsEmptied me.0.threads m S') e
+              (λ a e. let old : Knows me.0.threads S' id me.0.known = knows_on knows refl round refl refl refl (free_back S id k runs) in
+              knowing old.number old.unpublished old.seen (λ m j e l. listed_finished me.0.known.number m (x + 1) me.0.threads me.0.known.emptied (IsEmptied me.0.threads m S') e
               (λ last i. inl (λ a f _. none_free S' (sound (Finish id ∷ run) ((k, runs), r.is_run))
               (all_done S id k runs x m is last (h.gate.shown m (knows.number m e).0).0) a f)) (λ i' l'. old.emptied m i' e l') j l)
               (λ e. unlisted_finished me.0.known.number (x + 1) me.0.threads me.0.known.emptied e (knows.unread e))))

@@ -35,18 +35,16 @@ module _ {X N : Type 0} (D : Discipline X N) (law : Lawful D) (t : ℕ) where
       owed : (run : List Event) (s : table.State X (View N)) → Before D law t slots id me barrier_at run s → get_or s.words barrier_at 0 ≡ old → Rule D t
           (Leave id ∷ run) (stepped s barrier_at (old - one_member) id me.1 (leaving (get_or s.words barrier_at 0) me.0) keeps)
       owed run s b hit = let r = b.rule in let at = b.at in let x : ℕ = get_or s.words barrier_at 0 in let S : State = state run in
-          let h = sound run r.is_run in let seat = r.seats id me.0 at in let shows = seat.0 in
-          let f = word_fields S h x r.words.barrier in let is = r.words.barrier in let open_now = still_open S h (let e = f.count in omega arith) in
+          let h = sound run r.is_run in let seat = r.seats id me.0 at in let shows = seat.0 in let f = word_fields S h x r.words.barrier in
+          let is = r.words.barrier in let open_now = still_open S h (let e = f.count in omega arith) in
           let st : ((party S id).status ≡ Arrived) × (S.round ≡ q) × (S.closer ≢ Some id) × (quiet ≡ true → (id ≡ 0) × (S.published ≡ None)) = ⊎_elim (λ a. a)
           (λ (a : ((party S id).status ≡ In) × (S.round ≡ suc q) × (id ≡ 0 → S.published ≡ None) × ((now S).seen id ≡ false)). let e = f.sense in let n = a.1 in
           absurd (sense (sym (ap (λ (z : ℕ). z / sense_bit) hit) ∙ e ∙ ap (λ (z : ℕ). z % 2) (n ∙ omega arith))))
-          (subst (Stands S id) waits shows.stands) in
-          let ok : Allowed S (Leave id) = (
+          (subst (Stands S id) waits shows.stands) in let ok : Allowed S (Leave id) = (
             st.0,
             open_now,
             λ zero. ⊎_elim (λ (a : me.0.leader ≡ false). absurd (shows.leads.1 a zero)) (λ (a : quiet ≡ true). (st.3 a).1) free,
-          ) in
-          let look = look_here S.parties id (with_status Out (party S id)) in
+          ) in let look = look_here S.parties id (with_status Out (party S id)) in
           let c₀ = total_put weight_in refl S.parties id (with_status Out (party S id)) in
           let c₁ = total_put weight_member refl S.parties id (with_status Out (party S id)) in let b₀ = ap is_in st.0 in let b₁ = ap is_member st.0 in
           moves D law t run s r barrier_at (old - one_member) id me (leaving x me.0) (Leave id ∷ []) at (refl, tt) (tt, tt) (refl, refl, refl) (ok, r.is_run)

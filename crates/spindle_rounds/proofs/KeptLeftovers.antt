@@ -54,12 +54,10 @@ module _ {X N : Type 0} (D : Discipline X N) (law : Lawful D) (t : ℕ) where
       let w : View N = finding i x (reading i j empty x me.0) in let here = set-get_or s.words i 0 in let seat = r.seats id me.0 at in
       let st : List (ℕ × ℕ) = me.0.known.stored in let b : Bool = is_between me.0.standing me.0.known.unpublished in
       moves_with D t run s r i x id me w keeps [] at tt r.is_run (subst (Words t S) (sym here) r.words)
-      (shown shows.stands shows.leads shows.claim shows.share (λ q e. let k = shows.inside q e in
-      knowing k.number k.unpublished k.seen k.emptied k.unread))
+      (shown shows.stands shows.leads shows.claim shows.share (λ q e. let k = shows.inside q e in knowing k.number k.unpublished k.seen k.emptied k.unread))
       seat.1 refl
       (λ v e. subst (λ (ws : List ℕ). Laid t S ws v) (sym here) (⊎_elim
-      (λ (h : (0 ≡ id) × (w ≡ v)). let l = r.lays me.0 (subst (λ (a : ℕ). get_elem? s.views a ≡ some me.0) (sym h.0) at) in
-      subst (Laid t S s.words) h.1
+      (λ (h : (0 ≡ id) × (w ≡ v)). let l = r.lays me.0 (subst (λ (a : ℕ). get_elem? s.views a ≡ some me.0) (sym h.0) at) in subst (Laid t S s.words) h.1
       record {
         stored = known_more b i x st s.words le refl l.stored;
         unstored = λ is. none_known b i x st (λ z. let c = is_inside me.0.standing me.0.known.unpublished z in

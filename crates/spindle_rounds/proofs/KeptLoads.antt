@@ -79,8 +79,7 @@ module _ {X N : Type 0} (D : Discipline X N) (law : Lawful D) (t : ℕ) where
   pub learns : (slots id : ℕ) (me : SeatOf D t) → PlainLoad D t slots id me published_at LearnTells
   learns slots id me = turns D law t slots id me published_at (λ n. n) [] learning (step slots published_at 0 0 none) (λ run s b. let r = b.rule in
       let at = b.at in let x : ℕ = get_or s.words published_at 0 in let S : State = state run in let h = sound run r.is_run in
-      let shows = (r.seats id me.0 at).0 in
-      stays D law t run s r published_at id me (learning x me.0) at (refl, refl, refl)
+      let shows = (r.seats id me.0 at).0 in stays D law t run s r published_at id me (learning x me.0) at (refl, refl, refl)
       (shown shows.stands shows.leads shows.claim shows.share (λ q e. let k = shows.inside q e in let st = subst (Stands S id) e shows.stands in knowing
       (λ n. by_equal x 0 (λ b. (if b then None else Some (x % high_half)) ≡ Some n → (S.published ≡ Some n) × ((now S).stoppable ≡ nat_lt most_jobs x))
       (λ _ z. absurd cc) (λ not_zero z. read S.published (now S).stoppable x n r.words.published not_zero (λ m y. let a = h.gate.shown m y in (a.1, a.2)) z))

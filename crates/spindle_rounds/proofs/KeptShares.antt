@@ -88,9 +88,9 @@ module _ {X N : Type 0} (D : Discipline X N) (law : Lawful D) (t : ℕ) where
       (Begin id me.0.from ∷ []) (ShareTells D)
   shares slots id me i new high may some = record {
     shows = λ run s r _ at _. let word_at : ℕ = range_at i in let q = may.0.0 in let k : ℕ = me.0.from in let S : State = state run in
-        let h = sound run r.is_run in let seat = r.seats id me.0 at in let shows = seat.0 in
-        let st = subst (Stands S id) may.0.1 shows.stands in let knows = shows.inside q may.0.1 in
-        let held : (party S id).taken k ≡ true = (shows.share k).1 (omega arith, some) in let S' : State = begun S h id k held in
+        let h = sound run r.is_run in let seat = r.seats id me.0 at in let shows = seat.0 in let st = subst (Stands S id) may.0.1 shows.stands in
+        let knows = shows.inside q may.0.1 in let held : (party S id).taken k ≡ true = (shows.share k).1 (omega arith, some) in
+        let S' : State = begun S h id k held in
         let is_shown : S.published ≢ None = some_published S h id st.0 (let a = in_round S h id k held in omega arith) in
         let n = some_of S.published is_shown in let w : Option N → View N = (λ x. sharing word_at new x me.0) in
         let b = law.begins S S' s.homes s.views id me.0 me.1 k w r.slots (begins_here S h id k held n.0 n.1) at (λ o. (refl, refl, refl)) in

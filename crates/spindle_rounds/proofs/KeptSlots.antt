@@ -61,10 +61,9 @@ module _ {X N : Type 0} (D : Discipline X N) (law : Lawful D) where
   )
   takes_down S (suc n) hs vs v c rest held at le may w b nt cl = let u : View N = record v { board = (n, spot.Out) ∷ v.board } in
       let one = law.takes S hs vs v u n held rest at (omega arith) (may n (omega arith)) (refl, refl, refl) in let y : X = one.0 in
-      let same = length-set hs n none in
-      let more = takes_down S n (set hs n none) (set vs 0 u) u ((n, y) ∷ c) rest one.2 (first_set vs u v at) (omega arith)
-      (λ k lt. subst D.may_take (sym (spot_else v.board n k spot.Out (λ e. omega arith))) (may k (omega arith))) w b nt cl in
-      let ys : List X = more.1 in let many = more.3 in let at_n : n ≡ 0 + length ys = omega arith in (
+      let same = length-set hs n none in let more = takes_down S n (set hs n none) (set vs 0 u) u ((n, y) ∷ c) rest one.2 (first_set vs u v at) (omega arith)
+      (λ k lt. subst D.may_take (sym (spot_else v.board n k spot.Out (λ e. omega arith))) (may k (omega arith))) w b nt cl in let ys : List X = more.1 in
+      let many = more.3 in let at_n : n ≡ 0 + length ys = omega arith in (
         Act.chain (Act.takes n y) more.0,
         ys ++ y ∷ [],
         (one.1, more.2),
@@ -115,8 +114,7 @@ module _ {X N : Type 0} (D : Discipline X N) (law : Lawful D) where
         → (let w : View N = noted x (record me.0 { board = b }) in
         D.clause (state run) (homes_after s.homes me.1 a) (set s.views 0 w) → Rule D t run (stepped s published_at (get_or s.words published_at 0) id me.1 w a))
     loaded run s r id me q at l x none_done b a c = let S : State = state run in let shows = (r.seats id me.0 at).0 in
-        let w : View N = noted x (record me.0 { board = b }) in
-        moves_with D t run s r published_at (get_or s.words published_at 0) id me w a [] at tt r.is_run
+        let w : View N = noted x (record me.0 { board = b }) in moves_with D t run s r published_at (get_or s.words published_at 0) id me w a [] at tt r.is_run
         (subst (Words t S) (sym (set-get_or s.words published_at 0)) r.words)
         (shown shows.stands shows.leads shows.claim shows.share shows.inside)
         (ap (λ (d : List _). d ++ deeds_of me.0.trail) none_done ∙ (r.seats id me.0 at).1) refl
@@ -150,8 +148,7 @@ module _ {X N : Type 0} (D : Discipline X N) (law : Lawful D) where
     gives_back slots id me may = record {
       shows = λ run s r many at _. let q : ℕ = may.0 in let l = at_load run s r id me q at may.1 may.2 in let S : State = state run in
           let x : ℕ = get_or s.words published_at 0 in let w : View N = giving_back D x me.1 me.0 in
-          let calm = at_rest S (sound run r.is_run) l.hidden l.open_now in
-          let here : round_of me.0.standing ≡ S.round = ap round_of may.1 ∙ sym l.round in
+          let calm = at_rest S (sound run r.is_run) l.hidden l.open_now in let here : round_of me.0.standing ≡ S.round = ap round_of may.1 ∙ sym l.round in
           let put = subst (λ (z : ℕ). MayPutAll D z me.1 me.0.board) (sym l.round) may.3 in
           let d = gives_down S me.1 s.homes s.views me.0 calm r.slots l.at_0 put w (ap (λ (z : ℕ). board_back D z me.1 me.0.board) here) refl refl in (
             w,

@@ -43,9 +43,9 @@ half_no old j lt = by_less j (stolen_from old) (λ b. (if b then false else nat_
 half : (t n i old : ℕ) → i < t → old < 18446744073709551616 → start_of old < end_of old
     → Taking t n (range_at i) old (range_word (start_of old) (stolen_from old)) (stolen_from old) (stolen_from old + 1) (end_of old) (last_half old)
 half t n i old low small left = let w = half_within old left in let w₀ = w.0 in let w₁ = w.1 in let k : ℕ = stolen_from old in let a : ℕ = start_of old in
-    let z : ℕ = end_of old in let new : ℕ = range_word a k in
-    let a_is : old % high_half ≡ a = refl in let z_is : old / high_half ≡ z = refl in let a_small : a < high_half = omega arith in
-    let start_is : new % high_half ≡ a = shrunk a k a_small in let end_is : new / high_half ≡ k = shrunk_end a k a_small in
+    let z : ℕ = end_of old in let new : ℕ = range_word a k in let a_is : old % high_half ≡ a = refl in let z_is : old / high_half ≡ z = refl in
+    let a_small : a < high_half = omega arith in let start_is : new % high_half ≡ a = shrunk a k a_small in
+    let end_is : new / high_half ≡ k = shrunk_end a k a_small in
     let within : (j : ℕ) → last_half old j ≡ true → IsWithin old j = (λ j e. let h = half_in old j e in let h₀ = h.0 in let h₁ = h.1 in
     (omega arith, omega arith)) in record {
       high = omega arith;
@@ -78,8 +78,7 @@ last_one t n old from to k is some empty = let mine : only k k ≡ true = eq-eqb
       let now_is : get_or ws' remainder_at 0 ≡ old - 1 = get_or-set_same ws remainder_at (old - 1) 0 (omega arith) in
       let other : (i : ℕ) → get_or ws' (range_at i) 0 ≡ get_or ws (range_at i) 0 =
       (λ i. get_or-set_other ws remainder_at (range_at i) (old - 1) 0 (λ z. omega arith)) in
-      let rest_k : InRemainder ws n k = (let h = hit in (omega arith, omega arith)) in
-      taken_counters S id k (only k) mine t n ws ws' c
+      let rest_k : InRemainder ws n k = (let h = hit in (omega arith, omega arith)) in taken_counters S id k (only k) mine t n ws ws' c
       (λ i j lt z. let z' : InRange ws i j = subst (λ (w : ℕ). IsWithin w j) (other i) z in
       (z', ne_eqb j k (λ same. c.remainder_apart i j lt z' (subst (InRemainder ws n) (sym same) rest_k))))
       (λ j z. let h = hit in let z₀ = z.0 in let z₁ = z.1 in ((omega arith, z₁), ne_eqb j k (λ same. omega arith)))

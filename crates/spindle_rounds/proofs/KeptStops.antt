@@ -50,8 +50,7 @@ module _ (S : State) (stop : Bool) (seen : ℕ → Bool) where
       → Words t remarked (set ws stopped_at x)
   words_after t ws x w on off was = let wide = w.wide in let other : (j : ℕ) → j ≢ stopped_at → get_or (set ws stopped_at x) j 0 ≡ get_or ws j 0 =
       (λ j n. get_or-set_other ws stopped_at j x 0 n) in let here : get_or (set ws stopped_at x) stopped_at 0 ≡ x = get_or-set_same ws stopped_at x 0
-      (omega arith) in
-      let is = ap (λ (z : Round). z.stopped) its_round in
+      (omega arith) in let is = ap (λ (z : Round). z.stopped) its_round in
       changed_words t S remarked ws stopped_at x (omega arith) w refl (ap (λ (z : Round). z.stoppable) its_round) refl
       (λ some. other finished_at (λ z. omega arith) ∙ (w.finished some ∙ sym (ap (λ (z : Round). length z.finished) its_round)))
       (λ _. ((λ yes. here ∙ on (sym is ∙ yes)), (λ no. here ∙ off (sym is ∙ no))))
@@ -77,8 +76,7 @@ module _ {X N : Type 0} (D : Discipline X N) (law : Lawful D) (t : ℕ) where
       let number = (shows.inside may.0.0.0 may.0.0.1).number may.1.0 may.1.1 in let seen : ℕ → Bool = put (now S).seen id true in
       let runs : (party S id).running ≡ Some k = shows.claim ∙ may.0.1 in
       let own : S.round ≡ round_of me.0.standing = (subst (Stands S id) may.0.0.1 shows.stands).1 ∙ sym (ap round_of may.0.0.1) in
-      let w : View N = stopping 1 me.0 in
-      moves D law t run s r stopped_at 1 id me w (Stop id ∷ []) at (refl, tt) (tt, tt) (refl, refl, refl)
+      let w : View N = stopping 1 me.0 in moves D law t run s r stopped_at 1 id me w (Stop id ∷ []) at (refl, tt) (tt, tt) (refl, refl, refl)
       (((k, runs), number.1 ∙ may.2), r.is_run)
       (words_after S true seen t s.words 1 r.words (λ _. refl) (λ e. absurd cc) (λ e. absurd cc))
       (sees_stop S true id may.0.0.0 me.0 shows may.0.0.1 refl w.trail true refl)
@@ -90,9 +88,8 @@ module _ {X N : Type 0} (D : Discipline X N) (law : Lawful D) (t : ℕ) where
   pub sees : (slots id : ℕ) (me : SeatOf D t) → MaySee me.0 → Load D t slots id me stopped_at (λ found. if found == 1 then See id ∷ [] else []) SeeTells
   sees slots id me may = record {
     shows = λ run s r _ at _. let x : ℕ = get_or s.words stopped_at 0 in let S : State = state run in let h = sound run r.is_run in
-        let seat = r.seats id me.0 at in let shows = seat.0 in let st = subst (Stands S id) may.0.1 shows.stands in
-        let knows = shows.inside may.0.0 may.0.1 in let number = knows.number may.1.0 may.1.1 in let says = r.words.stopped (λ e. let a = number.0 in cc) in
-        let w : View N = seeing x me.0 in ⊎_elim
+        let seat = r.seats id me.0 at in let shows = seat.0 in let st = subst (Stands S id) may.0.1 shows.stands in let knows = shows.inside may.0.0 may.0.1 in
+        let number = knows.number may.1.0 may.1.1 in let says = r.words.stopped (λ e. let a = number.0 in cc) in let w : View N = seeing x me.0 in ⊎_elim
         (λ (on : (now S).stopped ≡ true). let one : x ≡ 1 = says.0 on in let seen : ℕ → Bool = put (now S).seen id true in (
           w,
           keeps,
@@ -136,8 +133,8 @@ module _ (S : State) (h : Sound S) (id from to : ℕ) (share : IsShare (party S 
   given_free j low high = let mine = (h.work.fits id).held j ((share j).1 (low, high)) in (
     h.work.below j (λ e. cc),
     h.work.begun j ∙ ap started mine,
-    λ a. given_taken j a (λ n. untrue ((party S a).taken j) (λ on. let other = (h.work.fits a).held j on in
-        let both : Held id ≡ Held a = sym mine ∙ other in let same : id ≡ a = cc in n (sym same))),
+    λ a. given_taken j a (λ n. untrue ((party S a).taken j) (λ on. let other = (h.work.fits a).held j on in let both : Held id ≡ Held a = sym mine ∙ other in
+        let same : id ≡ a = cc in n (sym same))),
   )
 
   given_on : (j : ℕ) → Free S j → Free given j
@@ -210,13 +207,11 @@ module _ {X N : Type 0} (D : Discipline X N) (law : Lawful D) (t : ℕ) where
       → Exchange D t slots id me (range_at i) old new (PutBack id ∷ []) PutBackTells
   puts slots id me i old new low may vacant start_is end_is tidy = let word_at : ℕ = range_at i in
       exchanges D law t slots id me word_at old new (PutBack id ∷ []) (putting_back word_at) (λ run s b hit. let r = b.rule in let at = b.at in
-      let S : State = state run in let h = sound run r.is_run in
-      let seat = r.seats id me.0 at in let shows = seat.0 in let q = may.0.0 in let st = subst (Stands S id) may.0.1 shows.stands in
-      let knows = shows.inside q may.0.1 in let seen : (now S).seen id ≡ true = knows.seen ∙ may.2 in
+      let S : State = state run in let h = sound run r.is_run in let seat = r.seats id me.0 at in let shows = seat.0 in let q = may.0.0 in
+      let st = subst (Stands S id) may.0.1 shows.stands in let knows = shows.inside q may.0.1 in let seen : (now S).seen id ≡ true = knows.seen ∙ may.2 in
       let stopped = h.work.saw id seen in let is_shown : S.published ≢ None = some_published S h id st.0 (h.work.stops stopped).1 in
-      let S' : State = given S h id me.0.from me.0.to shows.share in
-      let y : Party = emptied S h id me.0.from me.0.to shows.share in let look = look_here S.parties id y in
-      let w : View N = putting_back word_at (get_or s.words word_at 0) me.0 in let wide = r.words.wide in
+      let S' : State = given S h id me.0.from me.0.to shows.share in let y : Party = emptied S h id me.0.from me.0.to shows.share in
+      let look = look_here S.parties id y in let w : View N = putting_back word_at (get_or s.words word_at 0) me.0 in let wide = r.words.wide in
       moves D law t run s r word_at new id me w (PutBack id ∷ []) at (refl, tt) (tt, tt) (refl, refl, refl) ((st.0, seen, shows.claim ∙ may.1), r.is_run)
       (later_words t S S' s.words word_at new _ (omega arith) r.words refl refl refl refl refl
       (word_stays S S' refl (counts_stay weight_in refl (λ x y e. ap is_in e) S.parties id y refl)

@@ -17,7 +17,7 @@ use Rattle.spindle_parts.specs.Trail.{trace}
 use Rattle.spindle_rounds.specs.RoundSteps.{searching, reading_remainder}
 use Rattle.spindle_rounds.specs.RoundSlots.{Discipline}
 use Rattle.spindle_rounds.specs.RoundRule.{stored_at}
-use Rattle.spindle_rounds.specs.RoundShown.{Deed, Began, Ended, Showed, Stopped, ended_in, stopped_by, deed, deeds, deeds_of, IsLeft, InRange, InRemainder, IsWithin}
+use Rattle.spindle_rounds.specs.RoundShown.{Deed, Showed, Stopped, ended_in, stopped_by, deed, deeds, deeds_of, IsLeft, InRange, InRemainder, IsWithin}
 use Rattle.spindle_rounds.specs.Words.{remainder_at, range_at, start_of, end_of}
 use Rattle.spindle_rounds.specs.RoundConditions.{MayFill}
 use Rattle.spindle_rounds.specs.RoundViews.{stopped_of, stops_of}
@@ -50,13 +50,10 @@ pub every_leftover : {S N : Type 0} (D : Discipline S N) (v : View N) (q n : ℕ
 every_leftover {S = X} {N = N} D v q n may_stop may laid shown known t s rule at k =
     let r = rule.by_run in let run = rule.run in let S : State = state run in let seat = r.seats 0 v at in let l = r.lays v at in
     let hid = ((seat.0.inside may.0.0 may.0.1).unpublished may.1).1 in
-    let was = was_shown may_stop 0 run r.is_run q n (subst (IsDeed (Showed q n may_stop)) seat.1 shown) in
-    let stands = l.left q laid hid k in
+    let was = was_shown may_stop 0 run r.is_run q n (subst (IsDeed (Showed q n may_stop)) seat.1 shown) in let stands = l.left q laid hid k in
     let told = trails_begun k q run r.is_run s.views (λ p u here. (r.seats p u here).1) (λ p le. (r.beyond p le).2) in
-    let words : ℕ → Option ℕ = stored_at v.known.stored in
-    let holds : (i x : ℕ) → words i ≡ Some x → get_or s.words i 0 ≡ x = (λ i x e. (l.stored i x e).1) in
-    let same : (S.rounds q).jobs ≡ n = was.jobs in
-    let sized : v.threads ≡ t = seat.2 in (
+    let words : ℕ → Option ℕ = stored_at v.known.stored in let holds : (i x : ℕ) → words i ≡ Some x → get_or s.words i 0 ≡ x = (λ i x e. (l.stored i x e).1) in
+    let same : (S.rounds q).jobs ≡ n = was.jobs in let sized : v.threads ≡ t = seat.2 in (
       (λ z. let below = z.0 in let a = left_by t n s.words words holds k (subst (λ (a : ℕ). IsLeftBy words a n k) sized z) in
           let b = stands.1 (subst (λ (a : ℕ). IsLeft t s.words a k) (sym same) a) in (below, told ∙ b.1)),
       (λ z. let below = z.0 in let none_begun = z.1 in let a = stands.0 (subst (λ (b : ℕ). k < b) (sym same) below, sym told ∙ none_begun) in
@@ -80,8 +77,8 @@ stopped_began q k p (e ∷ es) ok d = let s : State = state es in let h = sound 
     runs_one : (s : State) → Sound s → (a j : ℕ) → (party s a).running ≡ Some j → (o : Option ℕ) → o ≡ Some j → IsDeed (Stopped q k) (stopped_by s.round o)
         → 0 < times k (s.rounds q).begun
     runs_one s h a j runs None is own = absurd own
-    runs_one s h a j runs (Some i) is own = let one : Stopped s.round i ≡ Stopped q k = ⊎_elim (λ z. z) (λ z. absurd z) own in
-        let here : s.round ≡ q = cc in let same : j ≡ k = cc in let begun = h.work.begun j ∙ ap started ((h.work.fits a).ran j runs) in
+    runs_one s h a j runs (Some i) is own = let one : Stopped s.round i ≡ Stopped q k = ⊎_elim (λ z. z) (λ z. absurd z) own in let here : s.round ≡ q = cc in
+        let same : j ≡ k = cc in let begun = h.work.begun j ∙ ap started ((h.work.fits a).ran j runs) in
         subst (λ (z : ℕ × ℕ). 0 < times z.0 (s.rounds z.1).begun) (λ x. (same x, here x)) (omega arith)
 
     new : (s : State) → Sound s → (e : Event) → Allowed s e → IsDeed (Stopped q k) (deed s e) → 0 < times k (s.rounds q).begun
@@ -113,8 +110,7 @@ stopped_begun D v q n k P moment unbegun stopped left = let s = moment.1 in let 
 pub marked_more : (xs : List Bool) (n k : ℕ) → n < length xs → IsMarked (slice_set xs n true) k ↔ (IsMarked xs k ⊎ (k ≡ n))
 marked_more xs n k lt = dite (ℕ_discrete k n)
     (λ e. ((λ _. inr e), λ _. subst (λ (a : ℕ). get_or (slice_set xs n true) a false ≡ true) (sym e) (get_or-set_same xs n true false lt)))
-    (λ ne. let other = get_or-set_other xs n k true false ne in
-    ((λ m. inl (sym other ∙ m)), λ m. ⊎_elim (λ z. other ∙ z) (λ e. absurd (ne e)) m))
+    (λ ne. let other = get_or-set_other xs n k true false ne in ((λ m. inl (sym other ∙ m)), λ m. ⊎_elim (λ z. other ∙ z) (λ e. absurd (ne e)) m))
 
 -- a number that is marked has a mark
 pub marked_within : (xs : List Bool) (k : ℕ) → IsMarked xs k → k < length xs
@@ -248,8 +244,8 @@ module _ {N : Type 0} (v w : View N) (marks marks' : List Bool) (may : MayFill v
       × ((k : ℕ) → IsMarked marks' k ↔ IsLeftBy (last_left w.trail) t (length marks) k)
   rest_found t x is f more = let stored : w.known.stored ≡ (remainder_at, x) ∷ v.known.stored =
       ap (λ z. z.known.stored) is ∙ finding_known remainder_at x (reading_remainder x v) may in
-      let trail : w.trail ≡ trace remainder_at kind.Load x x ∷ v.trail = ap (λ z. z.trail) is in
-      let known : ℕ → Option ℕ = stored_at v.known.stored in let told : ℕ → Option ℕ = last_left v.trail in (
+      let trail : w.trail ≡ trace remainder_at kind.Load x x ∷ v.trail = ap (λ z. z.trail) is in let known : ℕ → Option ℕ = stored_at v.known.stored in
+      let told : ℕ → Option ℕ = last_left v.trail in (
         subst (λ (z : List (ℕ × ℕ)). AreKnown (stored_at z) t) (sym stored) (known_all t x known told marks marks' f more),
         subst (λ (z : List (ℕ × ℕ)). (k : ℕ) → IsMarked marks' k ↔ IsLeftBy (stored_at z) t (length marks) k) (sym stored)
             (marked_known t x known told marks marks' f more),

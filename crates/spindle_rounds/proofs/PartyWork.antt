@@ -33,8 +33,13 @@ over_on v w on all = λ i le. on.emptied i (all i (let same = on.threads in omeg
 -- who has gone on with its claim and its share, and then finishes, has finished
 pub finish_after : {N : Type 0} (found : ℕ) (u v w : View N) → Onward u v → (u.known.may_stop ≡ false → SeesAsBefore u v) → SharesAsBefore u v
     → HasFinished found v w → HasFinished found u w
-finish_after found u v w on sees same f =
-    (onward_then u v w on f.0, (λ plain. let a = f.1 (on.may_stop ∙ plain) in let b = sees plain in (a.0 ∙ b.0, a.1 ∙ b.1)), (f.2.0 ∙ same.0, f.2.1 ∙ same.1), f.3, λ last. f.4 (on.number ∙ last))
+finish_after found u v w on sees same f = (
+  onward_then u v w on f.0,
+  (λ plain. let a = f.1 (on.may_stop ∙ plain) in let b = sees plain in (a.0 ∙ b.0, a.1 ∙ b.1)),
+  (f.2.0 ∙ same.0, f.2.1 ∙ same.1),
+  f.3,
+  λ last. f.4 (on.number ∙ last),
+)
 
 module _ {T S N : Type 0} (round : Round T S N) (published : PublishedRound) where
   pub went_first : (s : Seat S (View N)) → IsAtPublished round published s → WentOn round published s s

@@ -128,9 +128,7 @@ module _ {P A : Type 0} (answers : P → A → Type 0) where
   pub all_answered : (slots found n r : ℕ) (m w : Me Slot (View P)) → TakenOut (pieces answers) slots found m w → n ≤ slots → HasPublished m.0 r n
       → AreFilled answers r n m.0.board → AreAnswered answers n m.0.board w.1
   all_answered slots found n r m w t few shown filled k lt = let at : 0 + k ≡ k = omega arith in let ys : List Slot = t.0 in let many = t.1 in
-      let y = there ys k (omega arith) in
-      let put = filled k lt in let x : P = put.0 in
-      let d = subst (λ (p : Spot P). Answered answers p y.0) put.1
+      let y = there ys k (omega arith) in let put = filled k lt in let x : P = put.0 in let d = subst (λ (p : Spot P). Answered answers p y.0) put.1
       ((t.3 k y.0 y.1).1 (subst (λ (p : Spot P). IsSure m.0 k p) (sym put.1) (n, lt, shown))) in (
         r,
         x,

@@ -141,6 +141,5 @@ pub plain_finished : (s : State) → Sound s → s.published ≡ None → s.clos
 plain_finished s h hid open_now r n k w lt = let none_yet = h.gate.hidden hid open_now in
     let other : r ≢ s.round = (λ z. let a = ap (λ (i : ℕ). (s.rounds i).jobs) z in let b = w.jobs in let c = w.some in omega arith) in
     let past : r < s.round = (let a = w.past in ⊎_elim (λ (z : r < s.round). z) (λ (z : s.round < r). absurd (omega arith)) (apart r s.round other)) in
-    let c = h.ended r past in
-    let going : (s.rounds r).stopped ≡ false = untrue (s.rounds r).stopped (λ e. let a = c.stops e in let b = w.may_stop in cc) in
+    let c = h.ended r past in let going : (s.rounds r).stopped ≡ false = untrue (s.rounds r).stopped (λ e. let a = c.stops e in let b = w.may_stop in cc) in
     let full = c.full going k (let j = w.jobs in omega arith) in let same = c.same k in omega arith

@@ -145,13 +145,12 @@ left_seen m w t i found le a = dite (ℕ_discrete i t) (λ here. rw (a.1 here) (
   (refl, refl),
   (refl, refl),
   refl,
+)) (λ apart. rw (a.0 (omega arith)) (
+  onward_then m.0 (searching i found m.0) _ (searched_on i found m.0) (found_on (range_at i) found _),
+  (refl, refl),
+  (refl, refl),
+  refl,
 ))
-    (λ apart. rw (a.0 (omega arith)) (
-      onward_then m.0 (searching i found m.0) _ (searched_on i found m.0) (found_on (range_at i) found _),
-      (refl, refl),
-      (refl, refl),
-      refl,
-    ))
 
 -- Arriving.
 
@@ -193,8 +192,7 @@ pub number_learned : {S N : Type 0} (m w : Me S (View N)) (q found : ℕ) → m.
     → AtWork (found % high_half) (nat_lt most_jobs found) w.0 × (found ≤ most_jobs → w.0.known.seen_stop ≡ false) × (w.0.claim ≡ m.0.claim)
     × SharesAsBefore m.0 w.0 × (published_of w.0.trail ≡ published_of m.0.trail)
 number_learned m w q found inside_q a some = let number = by_equal found 0
-    (λ b. (if b then None else Some (found % high_half)) ≡ Some (found % high_half)) (λ z. absurd (some z)) (λ _. refl) in
-    rw a (
+    (λ b. (if b then None else Some (found % high_half)) ≡ Some (found % high_half)) (λ z. absurd (some z)) (λ _. refl) in rw a (
       record { inside = (q, inside_q); number = number; may_stop = refl },
       (λ few. by_less most_jobs found (λ b. (if b then m.0.known.seen_stop else false) ≡ false) (λ lt. absurd (omega arith)) (λ _. refl)),
       refl,

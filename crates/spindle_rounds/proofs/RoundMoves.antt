@@ -27,7 +27,8 @@ use Rattle.spindle_rounds.specs.RoundSteps.{noted, missing, loading, standing, u
 use Rattle.spindle_rounds.specs.RoundTells.{Turns, Exchanges, Begun}
 use Rattle.spindle_rounds.specs.RoundSlots.{Discipline, Lawful, SameSlots}
 use Rattle.spindle_rounds.specs.RoundRule.{ShownBy, Shown}
-use Rattle.spindle_rounds.specs.RoundShown.{deed, deeds, deeds_of, Stands, Knows, Shows, InRange, InRemainder, IsLeft, Words, home_of, IsShare, IsListed, IsEmptied}
+use Rattle.spindle_rounds.specs.RoundShown.{deed, deeds, deeds_of, Stands, Knows, Shows, InRange, InRemainder, IsLeft, Words, home_of}
+use Rattle.spindle_rounds.specs.RoundShown.{IsShare, IsListed, IsEmptied}
 use Rattle.spindle_rounds.specs.RoundRule.{Laid, StandsFor, stored_at}
 use Rattle.spindle_rounds.specs.RoundRuns.{Adds, Exchange}
 use Rattle.spindle_rounds.proofs.Lists.{in_list}
@@ -220,8 +221,7 @@ module _ {X N : Type 0} (D : Discipline X N) (t : ℕ) where
             (λ is. let none_stored = z ∙ l.unstored is in let n = ap (λ (a : List (ℕ × ℕ)). stored_at a j) none_stored in absurd cc) where_it_is) st;
         unstored = λ is. ⊎_elim (λ z. z) (λ z. z ∙ l.unstored (λ n. is (published ∙ n))) st;
         current = λ is. la ∙ (l.current (λ n. is (published ∙ n)) ∙ ap (λ (z : ℕ). Some z) (sym (round (λ n. is (published ∙ n)))));
-        left = λ q e hid. ⊎_elim (λ (low : IsLow S S' i). let lt = low.0 in
-            stands_on t (S.rounds q) (S'.rounds q) s.words (set s.words i x) (low.1 q) (low.2 q)
+        left = λ q e hid. ⊎_elim (λ (low : IsLow S S' i). let lt = low.0 in stands_on t (S.rounds q) (S'.rounds q) s.words (set s.words i x) (low.1 q) (low.2 q)
             (λ j le. get_or-set_other s.words i j x 0 (λ z. omega arith)) (l.left q (sym la ∙ e) (sym published ∙ hid)))
             (λ is. absurd (is (sym published ∙ hid))) where_it_is;
       }
@@ -314,8 +314,7 @@ module _ {X N : Type 0} (D : Discipline X N) (law : Lawful D) (t slots id : ℕ)
       tt,
       hits run s old to new (f x me.0) keeps hit (owed run s record { rule = r; at = at; small = small } hit),
       (refl, (λ _. refl), λ not. absurd (not hit)),
-    ))
-        (λ miss. (missing i x me.0, keeps, tt, misses run s r at old to new miss, (refl, (λ hit. absurd (miss hit)), λ _. refl)));
+    )) (λ miss. (missing i x me.0, keeps, tt, misses run s r at old to new miss, (refl, (λ hit. absurd (miss hit)), λ _. refl)));
   }
 
   -- an exchange with which a number begins

@@ -69,8 +69,7 @@ module _ (S : State) (id k : ℕ) (some : ℕ → Bool) (mine : some k ≡ true)
   pub was_free : (j : ℕ) → Free then_begun j → (some j ≡ false) × Free S j
   was_free j f = let c = ap (λ (z : Round). times j z.begun) last_round in
       let fresh : j ≢ k = (λ e. let a = times_same k (now S).begun in let b = ap (λ (z : ℕ). times z ((now S).begun ++ k ∷ [])) e in let d = f.1 in
-      absurd (omega arith)) in
-      let out : some j ≡ false = (both_false ((party S id).taken j) (some j)
+      absurd (omega arith)) in let out : some j ≡ false = (both_false ((party S id).taken j) (some j)
       (sym (put_else with_some.taken k false j fresh) ∙ (sym (ap (λ (z : Party). z.taken j) last_party) ∙ f.2 id))).1 in
       (out, (subst (λ (z : Round). j < z.jobs) last_round f.0, sym (times_else j (now S).begun k fresh) ∙ (sym c ∙ f.1), λ a. sym (last_taken j a out) ∙ f.2 a))
 
@@ -113,8 +112,7 @@ module _ (S : State) (id k : ℕ) (some : ℕ → Bool) (mine : some k ≡ true)
       → start_of new ≤ end_of new → Counters t then_begun (set ws (range_at i) new) n
   range_taken t n i old new ws c low deep is all less more tidy = let ws' : List ℕ = set ws (range_at i) new in
       let rest_same : get_or ws' remainder_at 0 ≡ get_or ws remainder_at 0 = get_or-set_other ws (range_at i) remainder_at new 0 (λ e. omega arith) in
-      let none : (j : ℕ) → (some j ≡ true → ⊥) → some j ≡ false = (λ j n. ⊎_elim (λ e. absurd (n e)) (λ e. e) (true_or (some j))) in
-      taken_counters t n ws ws' c
+      let none : (j : ℕ) → (some j ≡ true → ⊥) → some j ≡ false = (λ j n. ⊎_elim (λ e. absurd (n e)) (λ e. e) (true_or (some j))) in taken_counters t n ws ws' c
       (λ a j lt z. dite (ℕ_discrete a i)
       (λ e. let now_is = ap (λ (b : ℕ). get_or ws' (range_at b) 0) e ∙ get_or-set_same ws (range_at i) new 0 deep in
       let b = less j (subst (λ (w : ℕ). IsWithin w j) now_is z) in

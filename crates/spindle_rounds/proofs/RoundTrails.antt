@@ -35,8 +35,7 @@ sum_more zero a c f g lt here away = absurd (omega arith)
 sum_more (suc n) zero c f g lt here away = let b = sum_same n (λ i. f (suc i)) (λ i. g (suc i)) (λ i _. away (suc i) (λ e. omega arith)) in omega arith
 sum_more (suc n) (suc a) c f g lt here away =
     let b = sum_more n a c (λ i. f (suc i)) (λ i. g (suc i)) (omega arith) here (λ i ne. away (suc i) (λ e. ne (omega arith))) in
-    let z = away 0 (λ e. omega arith) in
-    omega arith
+    let z = away 0 (λ e. omega arith) in omega arith
 
 pub times_cat : (k : ℕ) (xs ys : List ℕ) → times k (xs ++ ys) ≡ times k xs + times k ys
 times_cat k [] ys = omega arith
@@ -63,24 +62,21 @@ module _ (k r : ℕ) (f : Deed → List ℕ) (of : Round → List ℕ) where
   counted adds none n [] ok beyond = sum_zero n ∙ sym none
   counted adds none n (e ∷ es) ok beyond = let s : State = state es in
       let older : sum n (count es) ≡ times k (of (s.rounds r)) = counted adds none n es ok.1 (λ p le. (none_left _ _ (beyond p le)).1) in
-      let new = adds s (sound es ok.1) e ok.0 in
-      let its = eq-eqb (by e) (by e) refl in
+      let new = adds s (sound es ok.1) e ok.0 in let its = eq-eqb (by e) (by e) refl in
       let both : Bool → ℕ → List Deed = λ b p. (if b then deed s e else []) ++ deeds p es in
       let here : count (e ∷ es) (by e) ≡ times k (told f (deed s e)) + count es (by e) =
       ap (λ b. times k (told f (both b (by e)))) its ∙ told_cat k f (deed s e) (deeds (by e) es) in
       let away : (p : ℕ) → p ≢ by e → count (e ∷ es) p ≡ count es p =
-      λ p ne. ap (λ b. times k (told f (both b p))) (ne_eqb (by e) p (λ z. ne (sym z))) in
-      dite (dec_le n (by e))
+      λ p ne. ap (λ b. times k (told f (both b p))) (ne_eqb (by e) p (λ z. ne (sym z))) in dite (dec_le n (by e))
       (λ le.
       let no_deed = (none_left (deed s e) (deeds (by e) es) (ap (λ b. both b (by e)) (sym its) ∙ beyond (by e) le)).0 in
-      let nothing = ap (λ l. times k (told f l)) no_deed in
-      let same = sum_same n (count (e ∷ es)) (count es) (λ p lt. away p (λ z. omega arith)) in
+      let nothing = ap (λ l. times k (told f l)) no_deed in let same = sum_same n (count (e ∷ es)) (count es) (λ p lt. away p (λ z. omega arith)) in
       omega arith)
       (λ no. let more = sum_more n (by e) (times k (told f (deed s e))) (count (e ∷ es)) (count es) (omega arith) here away in omega arith)
 
 -- an event publishes, begins, finishes or stops, or has no deed
-pub by_deed : (s : State) (P : Event → Type 0) → ((e : Event) → IsQuiet e → deed s e ≡ [] → P e) → ((p n : ℕ) → P (Publish p n)) → ((p n : ℕ) → P (PublishTry p n))
-    → ((p k : ℕ) → P (Begin p k)) → ((p : ℕ) → P (Finish p)) → ((p : ℕ) → P (Stop p)) → (e : Event) → P e
+pub by_deed : (s : State) (P : Event → Type 0) → ((e : Event) → IsQuiet e → deed s e ≡ [] → P e) → ((p n : ℕ) → P (Publish p n))
+    → ((p n : ℕ) → P (PublishTry p n)) → ((p k : ℕ) → P (Begin p k)) → ((p : ℕ) → P (Finish p)) → ((p : ℕ) → P (Stop p)) → (e : Event) → P e
 by_deed s P none shows tries begins ends stops (Publish p n) = shows p n
 by_deed s P none shows tries begins ends stops (PublishTry p n) = tries p n
 by_deed s P none shows tries begins ends stops (Begin p k) = begins p k
@@ -155,9 +151,7 @@ module _ {N : Type 0} (k : ℕ) (f : Deed → List ℕ) where
       → times k (told_by_all f vs) ≡ sum (length vs) (λ p. times k (told f (ds p)))
   seats_tell [] ds e = refl
   seats_tell (v ∷ vs) ds e = let a = times_cat k (told f (deeds_of v.trail)) (told_by_all f vs) in
-      let b = seats_tell vs (λ p. ds (suc p)) (λ p u at. e (suc p) u at) in
-      let c = ap (λ (l : List Deed). times k (told f l)) (e 0 v refl) in
-      omega arith
+      let b = seats_tell vs (λ p. ds (suc p)) (λ p u at. e (suc p) u at) in let c = ap (λ (l : List Deed). times k (told f l)) (e 0 v refl) in omega arith
 
 module _ {N : Type 0} (k r : ℕ) (run : List Event) (ok : IsRun run) (vs : List (View N))
     (trails : (p : ℕ) (v : View N) → get_elem? vs p ≡ some v → deeds_of v.trail ≡ deeds p run)

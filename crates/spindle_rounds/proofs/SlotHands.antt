@@ -120,8 +120,8 @@ module _ {P A : Type 0} (answers : P → A → Type 0) where
       (let inside = p.on.0.inside in (inside.0, on.standing ∙ inside.1, idle.0, idle.1)),
       done,
       λ k lt. dite (dec_le n k) (λ le out. let v : Vacant ≡ Out = sym (l.vacant k le lt) ∙ (sym (ap (λ (b : Board). spot_at b k) same) ∙ out) in absurd cc)
-          (λ no out. let f = l.filled k (omega arith) in
-          let v : Filled r f.0 ≡ Out = sym f.1 ∙ (sym (ap (λ (b : Board). spot_at b k) same) ∙ out) in absurd cc),
+          (λ no out. let f = l.filled k (omega arith) in let v : Filled r f.0 ≡ Out = sym f.1 ∙ (sym (ap (λ (b : Board). spot_at b k) same) ∙ out) in
+          absurd cc),
       (
         r,
         published_last u.0 r n (published_of m.0.trail) (on.published ∙ p.published),

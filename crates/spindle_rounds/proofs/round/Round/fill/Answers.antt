@@ -39,9 +39,9 @@ store-requires-in-loop-i g c = let i = c.loop-i.i in let l = subst MayFill (sym 
 
 pub loop-i-preserved : goal.loop-i-preserved
 loop-i-preserved g c = let i = c.loop-i.i in let t = c.args.self.now.init.threads in let n = c.args.jobs in let v = c.args.seat.now.me.0 in
-    let f = c.loop-i.invariant in let e = c.store-in-loop-i.ensures in
-    let x : ℕ = n / t * i + high_half * (n / t * i + n / t) in let at : range_at i ≡ filled_at (3 + i) = omega arith in
-    let third : suc (suc (suc i)) ≡ 3 + i = omega arith in let next : suc (3 + i) ≡ 3 + (i + 1) = omega arith in (
+    let f = c.loop-i.invariant in let e = c.store-in-loop-i.ensures in let x : ℕ = n / t * i + high_half * (n / t * i + n / t) in
+    let at : range_at i ≡ filled_at (3 + i) = omega arith in let third : suc (suc (suc i)) ≡ 3 + i = omega arith in
+    let next : suc (3 + i) ≡ 3 + (i + 1) = omega arith in (
       e.0 ∙ f.0,
       e.1 ∙ f.1,
       e.2.0 ∙ f.2,
@@ -51,6 +51,5 @@ loop-i-preserved g c = let i = c.loop-i.i in let t = c.args.self.now.init.thread
 
 pub returns-clause-filled : goal.returns-clause-filled
 returns-clause-filled g c = let t = c.args.self.now.init.threads in let n = c.args.jobs in let v = c.args.seat.now.me.0 in
-    let all : c.loop-i.i ≡ t = omega arith in
-    let e = subst (λ (k : ℕ). c.loop-i.seat.me.0 ≡ filled_view t n (3 + k) v) all c.loop-i.invariant.3 in
+    let all : c.loop-i.i ≡ t = omega arith in let e = subst (λ (k : ℕ). c.loop-i.seat.me.0 ≡ filled_view t n (3 + k) v) all c.loop-i.invariant.3 in
     subst (FilledBy t n v) (sym e) (refl, filled_stands t n v.known.stored (3 + t))

@@ -16,9 +16,8 @@ loop-i-init g c = (refl, refl, ([], refl, refl, ((λ some. absurd (omega arith))
 
 pub loop-i-preserved : goal.loop-i-preserved
 loop-i-preserved g c = let f = c.loop-i.invariant in let l : List ℕ = f.2.0 in let x : ℕ = c.load-found.result in let e = c.load-found.ensures in
-    let v = c.args.seat.now.me.0 in let b = f.2.3 in
-    let i_is : c.loop-i.i ≡ 0 + length l = (let n = f.2.1 in omega arith) in let old = c.length.ensures in let new = c.length-in-loop-i.ensures in
-    let seen = e.2.1 c.loop-i.i refl ∙ ((λ j. searching (i_is j) x (f.2.2 j).0) ∙ sym (searched_more 0 l x v)) in (
+    let v = c.args.seat.now.me.0 in let b = f.2.3 in let i_is : c.loop-i.i ≡ 0 + length l = (let n = f.2.1 in omega arith) in let old = c.length.ensures in
+    let new = c.length-in-loop-i.ensures in let seen = e.2.1 c.loop-i.i refl ∙ ((λ j. searching (i_is j) x (f.2.2 j).0) ∙ sym (searched_more 0 l x v)) in (
       e.0 ∙ f.0,
       e.1 ∙ f.1,
       (

@@ -89,15 +89,13 @@ returns-clause-left g c = let n = c.loop-thread.invariant.count in
     (at_last g c).2
 
 pub returns-clause-unbegun : goal.returns-clause-unbegun
-returns-clause-unbegun g c = λ q may_stop laid shown t s rule at k. let i = c.loop-thread.invariant in let n = i.count in
-    let w = c.left-rest.new.seat.me.0 in let old = c.requires.between in let m = c.loop-thread.seat.me.0 in
+returns-clause-unbegun g c = λ q may_stop laid shown t s rule at k. let i = c.loop-thread.invariant in let n = i.count in let w = c.left-rest.new.seat.me.0 in
+    let old = c.requires.between in let m = c.loop-thread.seat.me.0 in
     let on = (left_seen c.loop-thread.seat.me c.left-rest.new.seat.me c.args.self.now.init.threads c.args.self.now.init.threads c.left-rest.result (omega arith)
-    c.left-rest.ensures.step).0 in let all = onward_then c.args.seat.now.me.0 m w i.on on in
-    let deeds = returns-clause-deeds g c in
+    c.left-rest.ensures.step).0 in let all = onward_then c.args.seat.now.me.0 m w i.on on in let deeds = returns-clause-deeds g c in
     let sized : w.threads ≡ c.args.self.now.init.threads = all.threads ∙ c.requires.sized in let found = at_last g c in
     let length_is : ℕ = length c.args.marks.now.items in
     let tells = every_leftover g.D.SlotContents.discipline w q length_is may_stop ((old.0.0, all.standing ∙ old.0.1), all.unpublished ∙ old.1) (all.laid ∙ laid)
     (subst (IsDeed (Showed q length_is may_stop)) (sym deeds) shown) (subst (AreKnown (stored_at w.known.stored)) (sym sized) found.0) t s rule at k in
     let marked = subst (λ (z : ℕ × ℕ). IsMarked c.mark-2.new.marks.items k ↔ IsLeftBy (stored_at w.known.stored) z.0 z.1 k) (λ j. (sym sized j, n j))
-    (found.1 k) in
-    ((λ z. tells.0 (marked.0 z)), λ z. marked.1 (tells.1 z))
+    (found.1 k) in ((λ z. tells.0 (marked.0 z)), λ z. marked.1 (tells.1 z))

@@ -29,8 +29,8 @@ overflow_sub-jobs g c = let m = c.requires.free in let r = recalled_view _ _ _ _
 
 pub returns-then-found-rest-clause-step : goal.returns-then-found-rest-clause-step
 returns-then-found-rest-clause-step g c = let n : ℕ = number_or c.args.seat.now.me.0.known.number in let v : ℕ = c.load-rest.result in
-    let r = recalled_view _ _ _ _ _ c.requires.free c.load-rest.ensures.2.1 c.load-jobs.ensures.2.1 in
-    let hit = c.if-found-rest.true in let b = c.compare_exchange-found.ensures.2.0 hit in let same = ap (λ w. number_or w.known.number) r.0 in
+    let r = recalled_view _ _ _ _ _ c.requires.free c.load-rest.ensures.2.1 c.load-jobs.ensures.2.1 in let hit = c.if-found-rest.true in
+    let b = c.compare_exchange-found.ensures.2.0 hit in let same = ap (λ w. number_or w.known.number) r.0 in
     let is : c.new.result ≡ n - v = c.new.ensures ∙ ap (λ (z : ℕ). z - v) r.1 in (
       v,
       b.0,

@@ -50,8 +50,7 @@ run-requires-clause-taken g c = share_taken g.D.SlotContents.discipline (λ h.
 
 pub loop-preserved : goal.loop-preserved
 loop-preserved g c = let i = c.loop.invariant in let e = c.sees_stop.ensures in let f = c.run.ensures in let a = c.sees_stop.new.seat in
-    let b = c.next_of_share.new.seat in
-    let n = share_next g.D.SlotContents.discipline a.me b.me _ _ c.loop.share c.next_of_share.new.share
+    let b = c.next_of_share.new.seat in let n = share_next g.D.SlotContents.discipline a.me b.me _ _ c.loop.share c.next_of_share.new.share
     (e.went.at.on.0.inside, e.same.1 ∙ i.idle, e.seen ∙ c.if-sees_stop.false)
     (i.own.0 ∙ sym e.same.0.0, i.own.1 ∙ sym e.same.0.1) c.in-Some-next_of_share.ensures.step in
     let claimed = went_more _ _ _ a b (went_then _ _ _ _ _ i.went e.went) c.next_of_share.ensures.seat n.0 (λ _. n.1) in record {
