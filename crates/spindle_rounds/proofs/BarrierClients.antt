@@ -9,8 +9,8 @@
 -- The invariant of a loop that waits is `Keeps l.initial.b l.b × Stayed l.initial.b.seat.me l.b.seat.me`: keeps_first begins it, keeps_on,
 -- look_on and stayed_on keep it, passed_on ends it. Give barriers and `me`s explicitly. Where two arms of a match hand the barrier on,
 -- put the match into a function that answers `Result<Barrier, Done>`: the join of two arms loses their facts.
-use Rattle.std.proofs.Common.{◌≡◌, ◌≢◌, ◌⊎◌, inl, inr, ⊎_elim, ℕ, ◌+◌, ◌-◌, ◌/◌, ◌%◌, ◌<◌, ◌≤◌, Bool, true, false, eq-eqb, ne_eqb, le-ltb, lt-ltb, List, []}
-use Rattle.std.proofs.Common.{◌∷◌, ◌++◌, append_assoc, sym, refl, ap, ◌∙◌, subst, arith, Option, None, if◌then◌else◌, ◌==◌, ◌&&◌, nat_lt}
+use Rattle.std.proofs.Common.{◌≡◌, ◌≢◌, ◌⊎◌, inl, inr, ⊎_elim, ℕ, ◌+◌, ◌/◌, ◌%◌, ◌<◌, ◌≤◌, Bool, true, false, eq-eqb, ne_eqb, le-ltb, lt-ltb, List, []}
+use Rattle.std.proofs.Common.{◌∷◌, ◌++◌, append_assoc, sym, refl, ap, ◌∙◌, subst, arith, Option, None, ◌==◌}
 use Rattle.atomic_table.specs.Table.{Me}
 use Rattle.spindle_parts.specs.declared.trail.Trace.{Trace}
 use Rattle.spindle_rounds.specs.declared.barrier.steps.JoinStep.TheVariants as join
@@ -28,8 +28,7 @@ use Rattle.spindle_parts.specs.Trail.{trace}
 use Rattle.spindle_rounds.specs.declared.round_table.view.Kind.TheVariants as kind
 use Rattle.spindle_rounds.specs.Seating.{IsSameSeat}
 use Rattle.spindle_rounds.specs.Words.{barrier_at, sense_bit, high_half, count_of, most_of, sense_of}
-use Rattle.spindle_rounds.specs.RoundSteps.{round_of, unknown, noted, standing, outside, loading, missing, looking, leaving, exit_word, with_word, with_clear}
-use Rattle.spindle_rounds.specs.RoundSteps.{clearing, turned_word, after_end}
+use Rattle.spindle_rounds.specs.RoundSteps.{round_of, unknown, noted, standing, loading, looking, with_clear, clearing}
 use Rattle.spindle_rounds.specs.RoundConditions.{HasSense, IsWaiting, MayLeave}
 use Rattle.spindle_rounds.specs.Working.{IsIdle}
 use Rattle.spindle_rounds.specs.RoundAnswers.{JoinedBy, JoinRefusedBy, ArrivedBy, LookedBy, LeftBy, ExitedBy, EndedBy}

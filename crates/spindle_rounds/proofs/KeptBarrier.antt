@@ -14,9 +14,9 @@ use Rattle.spindle_parts.proofs.Soundness.{Sound, sound, no_closer, hidden_out}
 use Rattle.spindle_rounds.specs.declared.round_table.view.Standing.TheVariants.{Away, Inside, Waiting, Closing}
 use Rattle.spindle_rounds.specs.declared.round_table.view.View.{View}
 use Rattle.spindle_rounds.specs.RoundSlots.{Discipline, Lawful}
-use Rattle.spindle_rounds.specs.RoundShown.{Deed, deeds, Stands, Knows, Shows, IsShare, IsListed}
+use Rattle.spindle_rounds.specs.RoundShown.{Deed, deeds, Stands, Knows, Shows, IsListed}
 use Rattle.spindle_rounds.specs.Words.{barrier_at, field_size, one_member, one_party, sense_bit}
-use Rattle.spindle_rounds.specs.RoundSteps.{round_of, unknown, standing, loading, missing, joining, arriving, looking, with_word, closer_reading}
+use Rattle.spindle_rounds.specs.RoundSteps.{round_of, unknown, standing, loading, missing, joining, arriving, looking, with_word}
 use Rattle.spindle_rounds.specs.RoundTells.{JoinTells, ArrivalTells, LookTells, CloserReadTells}
 use Rattle.spindle_rounds.specs.RoundConditions.{IsDone}
 use Rattle.spindle_rounds.specs.RoundRuns.{PlainLoad, Exchange, Subtraction}

@@ -1,11 +1,11 @@
 -- The exchanges with which numbers are claimed.
-use Rattle.std.proofs.Common.{◌≡◌, ◌≢◌, inl, inr, ⊎_elim, ℕ, ◌+◌, ◌/◌, ◌%◌, ◌<◌, ◌≤◌, Bool, true, false, eq-eqb, ne_eqb, List, [], ◌∷◌, ◌++◌, length}
+use Rattle.std.proofs.Common.{◌≡◌, ◌≢◌, inr, ⊎_elim, ℕ, ◌+◌, ◌/◌, ◌%◌, ◌<◌, ◌≤◌, Bool, true, false, eq-eqb, ne_eqb, List, [], ◌∷◌, ◌++◌, length}
 use Rattle.std.proofs.Common.{get_or, set, sym, refl, ap, ◌∙◌, subst, arith, Option, Some, None, if◌then◌else◌}
 use mathlib.Core.Logic.{dite}
 use native.Mathlib.Decide.{ℕ_discrete}
 use Rattle.atomic_table.specs.Table as table
 use Rattle.atomic_table.specs.Table.{Act, stepped, Valid, carried_after}
-use Rattle.spindle_parts.specs.State.{State, Party, Round, put, party, Free}
+use Rattle.spindle_parts.specs.State.{State, Party, put, party, Free}
 use Rattle.spindle_parts.specs.Steps.{Event, Take, Begin, Allowed}
 use Rattle.spindle_parts.specs.Runs.{state}
 use Rattle.spindle_parts.specs.EverySchedule.{only}

@@ -13,13 +13,11 @@ use Rattle.spindle_parts.specs.Steps.{Event, Exit, Clear, End, after, arrived, A
 use Rattle.spindle_parts.specs.Runs.{state, IsRun}
 use Rattle.spindle_parts.specs.BarrierWord.{word}
 use Rattle.spindle_parts.specs.Trail.{trace}
-use Rattle.spindle_parts.specs.declared.trail.Trace.{Trace}
 use Rattle.spindle_parts.proofs.Parties.{look_here, look_wake, total_put, inside_le_members, inside_wake, members_wake}
 use Rattle.spindle_parts.proofs.Fates.{idle_out}
 use Rattle.spindle_parts.proofs.Soundness.{Sound, sound, none_in, no_closer, alone_hidden}
 use Rattle.spindle_rounds.specs.declared.round_table.view.Standing.{Standing}
 use Rattle.spindle_rounds.specs.declared.round_table.view.Standing.TheVariants.{Away, Inside, Closing}
-use Rattle.spindle_rounds.specs.declared.round_table.view.Kind.{Kind}
 use Rattle.spindle_rounds.specs.declared.round_table.view.View.{View}
 use Rattle.spindle_rounds.specs.RoundSlots.{Discipline, Lawful}
 use Rattle.spindle_rounds.specs.declared.round_table.view.Kind.TheVariants as kind

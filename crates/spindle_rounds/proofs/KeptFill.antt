@@ -21,8 +21,7 @@ use Rattle.spindle_rounds.specs.declared.round_table.view.Standing.TheVariants.{
 use Rattle.spindle_rounds.specs.declared.round_table.view.View.{View}
 use Rattle.spindle_rounds.specs.RoundSlots.{Discipline, Lawful, Publishes}
 use Rattle.spindle_rounds.specs.RoundRule.{Laid, stored_at, IsFilled, fill_value}
-use Rattle.spindle_rounds.specs.RoundShown.{Deed, Showed, deed, deeds, Stands, Shows, Counters, InRange, Words, home_of}
-use Rattle.spindle_rounds.specs.RoundShown.{number_of}
+use Rattle.spindle_rounds.specs.RoundShown.{Deed, Showed, deed, deeds, Stands, Shows, Counters, InRange, Words, home_of, number_of}
 use Rattle.spindle_rounds.specs.Words.{barrier_at, published_at, finished_at, stopped_at, remainder_at, range_at, filled_at, high_half, most_jobs}
 use Rattle.spindle_rounds.specs.RoundSteps.{round_of, filling, publish_word, publishing}
 use Rattle.spindle_rounds.specs.RoundTells.{FillTells, PublishTells, PublishTryTells}

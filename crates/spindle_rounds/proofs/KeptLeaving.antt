@@ -4,7 +4,7 @@ use Rattle.std.proofs.Common.{arith, Some, None}
 use Rattle.atomic_table.specs.Table as table
 use Rattle.atomic_table.specs.Table.{keeps, stepped}
 use Rattle.spindle_parts.specs.State.{State, Out, In, Arrived, Party, now, party, inside, weight_in, weight_member, is_in, is_member}
-use Rattle.spindle_parts.specs.Steps.{Event, Leave, after, Allowed, with_status}
+use Rattle.spindle_parts.specs.Steps.{Event, Leave, Allowed, with_status}
 use Rattle.spindle_parts.specs.Runs.{state}
 use Rattle.spindle_parts.proofs.Parties.{look_here, total_put}
 use Rattle.spindle_parts.proofs.Soundness.{Sound, sound}

@@ -1,5 +1,5 @@
 -- The store with which the first number of a share begins.
-use Rattle.std.proofs.Common.{◌≡◌, ◌≢◌, ◌⊎◌, inl, inr, ⊎_elim, ℕ, ◌+◌, ◌<◌, ◌≤◌, Bool, true, false, eq-eqb, List, [], ◌∷◌, ◌++◌, length, get_or, set}
+use Rattle.std.proofs.Common.{◌≡◌, ◌≢◌, ◌⊎◌, inr, ⊎_elim, ℕ, ◌+◌, ◌<◌, ◌≤◌, Bool, true, false, eq-eqb, List, [], ◌∷◌, ◌++◌, set}
 use Rattle.std.proofs.Common.{get_or-set_other, sym, refl, ap, ◌∙◌, subst, arith, Option, Some, None, if◌then◌else◌}
 use mathlib.Core.Logic.{dite}
 use native.Mathlib.Decide.{ℕ_discrete}
@@ -7,12 +7,12 @@ use Rattle.spindle_parts.specs.State.{State, Party, Round, put, now, party, time
 use Rattle.spindle_parts.specs.Steps.{Begin, after}
 use Rattle.spindle_parts.specs.Runs.{state}
 use Rattle.spindle_parts.proofs.Fates.{Held, started, over}
-use Rattle.spindle_parts.proofs.Parties.{put_here, put_else, put_all, look_here, look_else, times_same, times_else}
+use Rattle.spindle_parts.proofs.Parties.{put_here, put_else, put_all, look_here, times_same, times_else}
 use Rattle.spindle_parts.proofs.Soundness.{Sound, sound}
 use Rattle.spindle_rounds.specs.declared.round_table.view.View.{View}
 use Rattle.spindle_rounds.specs.RoundSlots.{Discipline, Lawful, Begins}
 use Rattle.spindle_rounds.specs.RoundShown.{Began, deeds, Stands, Words, IsShare}
-use Rattle.spindle_rounds.specs.Words.{finished_at, stopped_at, remainder_at, range_at}
+use Rattle.spindle_rounds.specs.Words.{remainder_at, range_at}
 use Rattle.spindle_rounds.specs.RoundSteps.{round_of, sharing}
 use Rattle.spindle_rounds.specs.RoundTells.{ShareTells}
 use Rattle.spindle_rounds.specs.RoundConditions.{MayBegin}

@@ -1,5 +1,5 @@
 -- The leader takes every slot out, and gives back those that it holds.
-use Rattle.std.proofs.Common.{◌≡◌, ◌⊎◌, inl, inr, ⊎_elim, ℕ, zero, suc, ◌+◌, ◌<◌, ◌≤◌, true, false, List, [], ◌∷◌, ◌++◌, length, length-append, get_or, set}
+use Rattle.std.proofs.Common.{◌≡◌, inl, inr, ⊎_elim, ℕ, zero, suc, ◌+◌, ◌<◌, ◌≤◌, true, false, List, [], ◌∷◌, ◌++◌, length, length-append, get_or, set}
 use Rattle.std.proofs.Common.{length-set, sym, refl, ap, ◌∙◌, subst, arith, None}
 use mathlib.Core.Option as m
 use mathlib.Core.Option.{none, some, some-injective, some-ne-none}

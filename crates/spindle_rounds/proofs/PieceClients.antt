@@ -13,7 +13,7 @@ use Rattle.spindle_rounds.specs.declared.round_table.view.Spot.TheVariants.{Out,
 use Rattle.spindle_rounds.specs.declared.round_table.pieces.SlotState.{SlotState}
 use Rattle.spindle_rounds.specs.declared.round_table.pieces.SlotState.TheVariants.{Waits}
 use Rattle.spindle_rounds.specs.RoundSlots.{spot_at}
-use Rattle.spindle_rounds.specs.RoundShown.{Deed, Began, Ended, Showed, Stopped, deeds_of}
+use Rattle.spindle_rounds.specs.RoundShown.{Deed, Showed, deeds_of}
 use Rattle.spindle_rounds.specs.RoundViews.{shown_of, published_of}
 use Rattle.spindle_rounds.specs.RoundConditions.{MayPutAll}
 use Rattle.spindle_rounds.specs.SlotSteps.{numbered, board_out, board_back, IsDeed, HasPublished, IsSure, TakenOut}

@@ -1,11 +1,10 @@
 -- What a publish of the leader says of its round ever after, and what is so while nothing is published.
-use Rattle.std.proofs.Common.{◌≡◌, ◌≢◌, ◌⊎◌, inl, inr, ⊎_elim, ℕ, zero, suc, ◌+◌, ◌<◌, ◌≤◌, Bool, true, false, eq-eqb, ne_eqb, List, [], ◌∷◌, ◌++◌}
+use Rattle.std.proofs.Common.{◌≡◌, ◌≢◌, ◌⊎◌, inl, inr, ⊎_elim, ℕ, zero, suc, ◌<◌, ◌≤◌, Bool, true, false, List, [], ◌∷◌, ◌++◌}
 use Rattle.std.proofs.Common.{sym, refl, ap, ◌∙◌, subst, arith, Option, Some, None, if◌then◌else◌, ◌==◌}
 use mathlib.Core.Logic.{dite}
 use native.Mathlib.Decide.{ℕ_discrete}
 use Rattle.spindle_parts.specs.State.{State, Party, Round, now, party, times, put, members, put_party, Out}
-use Rattle.spindle_parts.specs.Steps.{Event, Join, Publish, PublishTry, Take, Begin, Finish, Stop, See, PutBack, Arrive, Leave, Exit, Clear, End}
-use Rattle.spindle_parts.specs.Steps.{with_status, Allowed, after, by, arrived, publish, ended_by}
+use Rattle.spindle_parts.specs.Steps.{Event, Publish, PublishTry, Begin, Finish, Stop, See, Exit, with_status, Allowed, after, by, arrived, publish, ended_by}
 use Rattle.spindle_parts.specs.Runs.{state, IsRun}
 use Rattle.spindle_parts.proofs.Parties.{next_round, put_here, put_else, put_all}
 use Rattle.spindle_parts.proofs.Fates.{started, over, none_begun}

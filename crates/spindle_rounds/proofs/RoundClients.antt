@@ -11,7 +11,7 @@
 -- The invariant of a loop: the seat's `table_id` and `id` are as at the function's entry, Onward from there (`onward_then` of
 -- RoundOnward chains it), and MayClaim, which claims_again gives after a finish, or no claim and IsItsShare. With slots the lemmas are
 -- the same; what a begin did to them is `D.took c m.1 x w.1` in the call's answer.
-use Rattle.std.proofs.Common.{◌≡◌, ◌≢◌, inr, ℕ, ◌+◌, ◌-◌, ◌%◌, ◌<◌, ◌≤◌, Bool, true, false, ◌∷◌, get_or, sym, refl, ap, ◌∙◌, subst, arith, Some, None}
+use Rattle.std.proofs.Common.{◌≡◌, ◌≢◌, inr, ℕ, ◌+◌, ◌%◌, ◌<◌, ◌≤◌, Bool, true, false, ◌∷◌, get_or, sym, refl, ap, ◌∙◌, subst, arith, Some, None}
 use Rattle.std.proofs.Common.{if◌then◌else◌, nat_lt}
 use mathlib.Core.Logic.{dite}
 use native.Mathlib.Decide.{ℕ_discrete}
@@ -27,12 +27,11 @@ use Rattle.spindle_rounds.specs.declared.round.stopping.PutBack.TheVariants as b
 use Rattle.spindle_rounds.specs.Spans.{Span}
 use Rattle.spindle_rounds.specs.RoundSlots.{Discipline}
 use Rattle.spindle_rounds.specs.RoundShown.{Showed, deeds_of, IsListed}
-use Rattle.spindle_rounds.specs.Words.{remainder_at, range_at, high_half, most_jobs, start_of, range_word}
-use Rattle.spindle_rounds.specs.RoundSteps.{round_of, missing, learning, publishing, searching, reading_remainder, recalling, claiming, stealing}
-use Rattle.spindle_rounds.specs.RoundSteps.{claiming_remainder, finishing, stopping, putting_back}
+use Rattle.spindle_rounds.specs.Words.{remainder_at, range_at, high_half, most_jobs, range_word}
+use Rattle.spindle_rounds.specs.RoundSteps.{round_of, learning, publishing, searching, reading_remainder, recalling, finishing, stopping}
 use Rattle.spindle_rounds.specs.RoundConditions.{MayPublish, MayClaim, MayBegin, MayFinish, MayPutBack, IsItsShare, IsDone}
 use Rattle.spindle_rounds.specs.RoundAnswers.{searching_all, OwnClaimedBy, StolenBy, RemainderClaimedBy, SharedBy, SeenBy, PutBy, FilledBy}
-use Rattle.spindle_rounds.specs.Leftovers.{finding, LeftOverBy}
+use Rattle.spindle_rounds.specs.Leftovers.{LeftOverBy}
 use Rattle.spindle_rounds.specs.PartyWork.{HasFinished}
 use Rattle.spindle_rounds.specs.RoundViews.{published_of, AtWork, Onward, SeesAsBefore, StopsAsBefore, SharesAsBefore, AfterClaim, AfterSteal}
 use Rattle.spindle_rounds.proofs.RoundWords.{by_less, by_equal}

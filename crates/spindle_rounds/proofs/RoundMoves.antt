@@ -1,9 +1,8 @@
 -- What every kind of step on a round table shares: the other seats show what they showed, and the leader's stores stand.
-use Rattle.std.proofs.Common.{◌≡◌, ◌≢◌, ◌⊎◌, inl, inr, ⊎_elim, ℕ, zero, suc, ◌+◌, ◌/◌, ◌%◌, ◌<◌, ◌≤◌, Bool, true, false, eq-eqb, ne_eqb, List, [], ◌∷◌}
-use Rattle.std.proofs.Common.{◌++◌, length, get_or, set, length-set, get_or-set_other, sym, refl, ap, ◌∙◌, subst, arith, Option, Some, None, if◌then◌else◌}
-use Rattle.std.proofs.Common.{◌==◌}
+use Rattle.std.proofs.Common.{◌≡◌, ◌≢◌, ◌⊎◌, inl, inr, ⊎_elim, ℕ, suc, ◌+◌, ◌/◌, ◌%◌, ◌<◌, ◌≤◌, Bool, true, false, eq-eqb, ne_eqb, List, [], ◌∷◌, ◌++◌, get_or}
+use Rattle.std.proofs.Common.{set, length-set, get_or-set_other, sym, refl, ap, ◌∙◌, subst, arith, Option, Some, None, if◌then◌else◌, ◌==◌}
 use mathlib.Core.Logic.{dite}
-use mathlib.Core.Option.{some, some-ne-none}
+use mathlib.Core.Option.{some}
 use native.Mathlib.Decide.{ℕ_discrete}
 use lib.ListN.{get_elem?}
 use lib.Seq.{set-get_or}
@@ -26,10 +25,9 @@ use Rattle.spindle_rounds.specs.Words.{barrier_at, finished_at, remainder_at, ra
 use Rattle.spindle_rounds.specs.RoundSteps.{noted, missing, loading, standing, unknown}
 use Rattle.spindle_rounds.specs.RoundTells.{Turns, Exchanges, Begun}
 use Rattle.spindle_rounds.specs.RoundSlots.{Discipline, Lawful, SameSlots}
-use Rattle.spindle_rounds.specs.RoundRule.{ShownBy, Shown}
+use Rattle.spindle_rounds.specs.RoundRule.{ShownBy, Shown, Laid, StandsFor, stored_at}
 use Rattle.spindle_rounds.specs.RoundShown.{deed, deeds, deeds_of, Stands, Knows, Shows, InRange, InRemainder, IsLeft, Words, home_of}
 use Rattle.spindle_rounds.specs.RoundShown.{IsShare, IsListed, IsEmptied}
-use Rattle.spindle_rounds.specs.RoundRule.{Laid, StandsFor, stored_at}
 use Rattle.spindle_rounds.specs.RoundRuns.{Adds, Exchange}
 use Rattle.spindle_rounds.proofs.Lists.{in_list}
 use Rattle.spindle_rounds.proofs.RoundQuiet.{AllQuiet, quiet_run}

@@ -1,19 +1,19 @@
 -- A party takes a set of free numbers and begins one of them in the same step: what becomes of the state and of the counters.
 use Rattle.std.proofs.Common.{◌≡◌, ◌≢◌, ◌⊎◌, inl, inr, ⊎_elim, ℕ, ◌<◌, ◌≤◌, Bool, true, false, ◌||◌, List, [], ◌∷◌, ◌++◌, length, get_or, set}
-use Rattle.std.proofs.Common.{length-set, get_or-set_same, get_or-set_other, sym, refl, ap, ◌∙◌, subst, arith, Some}
+use Rattle.std.proofs.Common.{get_or-set_same, get_or-set_other, sym, refl, ap, ◌∙◌, subst, arith, Some}
 use mathlib.Core.Logic.{dite}
 use native.Mathlib.Decide.{ℕ_discrete}
 use Rattle.spindle_parts.specs.State.{State, Party, Round, put, now, party, times, Free, weight_in, weight_member, is_in, is_member}
 use Rattle.spindle_parts.specs.Steps.{Event, Take, Begin, after}
 use Rattle.spindle_parts.specs.Runs.{state, IsRun, IsOnce}
 use Rattle.spindle_parts.specs.BarrierWord.{word}
-use Rattle.spindle_parts.proofs.Parties.{put_here, put_else, put_all, look_here, look_else, times_same, times_else}
+use Rattle.spindle_parts.proofs.Parties.{put_here, put_else, put_all, look_here, times_same, times_else}
 use Rattle.spindle_parts.proofs.Soundness.{Sound, sound, run_once}
 use Rattle.spindle_rounds.specs.RoundSlots.{Begins}
-use Rattle.spindle_rounds.specs.RoundShown.{Counters, InRange, InRemainder, IsWithin, Words, number_of}
+use Rattle.spindle_rounds.specs.RoundShown.{Counters, InRange, InRemainder, IsWithin, Words}
 use Rattle.spindle_rounds.proofs.RoundWords.{counts_stay, word_stays, taken_put}
 use Rattle.spindle_rounds.proofs.RoundChanges.{later_words}
-use Rattle.spindle_rounds.specs.Words.{barrier_at, published_at, finished_at, stopped_at, remainder_at, range_at, start_of, end_of}
+use Rattle.spindle_rounds.specs.Words.{remainder_at, range_at, start_of, end_of}
 
 pub or_false : (a b : Bool) → b ≡ false → (a || b) ≡ a
 or_false true b e = refl

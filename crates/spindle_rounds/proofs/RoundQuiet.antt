@@ -1,11 +1,7 @@
 -- Events at which no number begins, finishes or is published.
-use Rattle.std.proofs.Common.{◌≡◌, ◌≢◌, inr, ℕ, ◌+◌, ◌<◌, Bool, true, eq-eqb, ne_eqb, List, [], ◌∷◌, ◌++◌, sym, refl, ap, ◌∙◌, subst, arith, Some}
-use Rattle.std.proofs.Common.{if◌then◌else◌}
-use mathlib.Core.Logic.{dite}
-use native.Mathlib.Decide.{ℕ_discrete}
+use Rattle.std.proofs.Common.{◌≡◌, ◌≢◌, inr, ℕ, ◌<◌, true, List, [], ◌∷◌, ◌++◌, sym, refl, ap, ◌∙◌, subst, arith, Some, if◌then◌else◌}
 use Rattle.spindle_parts.specs.State.{State, Out, Party, Round, put, put_party, members, now, party, times, inside, change_round}
-use Rattle.spindle_parts.specs.Steps.{Event, Join, Publish, PublishTry, Take, Begin, Finish, Stop, See, PutBack, Arrive, Leave, Exit, Clear, End, with_status}
-use Rattle.spindle_parts.specs.Steps.{Allowed, after, arrived}
+use Rattle.spindle_parts.specs.Steps.{Event, Publish, PublishTry, Begin, Finish, Stop, See, Exit, Clear, End, with_status, Allowed, after, arrived}
 use Rattle.spindle_parts.specs.Runs.{IsRun, state}
 use Rattle.spindle_parts.proofs.Parties.{next_round, put_all}
 use Rattle.spindle_parts.proofs.Fates.{Fate, Open, Held, Ran, Done, started, over, none_begun}

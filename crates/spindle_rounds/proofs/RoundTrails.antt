@@ -6,8 +6,7 @@ use mathlib.Core.Option.{some}
 use native.Mathlib.Decide.{dec_le}
 use lib.ListN.{get_elem?}
 use Rattle.spindle_parts.specs.State.{State, Round, put, now, party, times}
-use Rattle.spindle_parts.specs.Steps.{Event, Join, Publish, PublishTry, Take, Begin, Finish, Stop, See, PutBack, Arrive, Leave, Exit, Clear, End, Allowed}
-use Rattle.spindle_parts.specs.Steps.{after, by, ended_by}
+use Rattle.spindle_parts.specs.Steps.{Event, Publish, PublishTry, Begin, Finish, Stop, Allowed, after, by, ended_by}
 use Rattle.spindle_parts.specs.Runs.{state, IsRun}
 use Rattle.spindle_parts.proofs.Parties.{put_all}
 use Rattle.spindle_parts.proofs.Soundness.{Sound, sound}

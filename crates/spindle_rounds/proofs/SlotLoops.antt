@@ -2,9 +2,8 @@
 -- Its invariant is `Turning P Q n i` of the hand: P holds of what is left from slot i on, Q of what was put before it. turning_first
 -- begins it, turning_head gives what `swap_slot` and `put_piece` ask, turning_next goes on with their clause `behind`, and turning_last
 -- ends it. After a part of the slots pieces_held gives what `publish_held` rests on.
-use Rattle.std.proofs.Common.{◌≡◌, ◌⊎◌, inl, inr, ⊎_elim, true, ℕ, zero, suc, ◌+◌, ◌<◌, ◌≤◌, List, [], ◌∷◌, ◌++◌, length, length-append, sym, refl, ap, ◌∙◌}
-use Rattle.std.proofs.Common.{subst, arith}
-use mathlib.Core.Option.{some, some-injective, some-ne-none}
+use Rattle.std.proofs.Common.{◌≡◌, ⊎_elim, true, ℕ, suc, ◌+◌, ◌<◌, ◌≤◌, List, [], ◌∷◌, ◌++◌, length, length-append, sym, refl, ap, ◌∙◌, subst, arith}
+use mathlib.Core.Option.{some, some-ne-none}
 use lib.ListN.{get_elem?}
 use Rattle.atomic_table.specs.Table.{Me, rest}
 use Rattle.spindle_rounds.specs.declared.round_table.view.Spot.{Spot}
