@@ -109,21 +109,11 @@ abbrev pub shows_number : Bool → ℕ → ℕ → Event
 shows_number false p n = Publish p n
 shows_number true p n = PublishTry p n
 
-becomes : (b : Bool) (S : State) (n id : ℕ) → after S (shows_number b id n) ≡ publish S b n
-becomes false S n id = refl
-becomes true S n id = refl
-
-allows : (b : Bool) (S : State) (n id : ℕ) → IsPublishable S id n → Allowed S (shows_number b id n)
-allows false S n id ok = ok
-allows true S n id ok = ok
-
-its_own : (b : Bool) (n id : ℕ) → by (shows_number b id n) ≡ id
-its_own false n id = refl
-its_own true n id = refl
-
-its_deed : (b : Bool) (S : State) (n id : ℕ) → deed S (shows_number b id n) ≡ Showed S.round n b ∷ []
-its_deed false S n id = refl
-its_deed true S n id = refl
+-- it publishes, where it may, and is this party's, with the deed that is shown
+shows_as : (b : Bool) (S : State) (n id : ℕ) → (after S (shows_number b id n) ≡ publish S b n) × (by (shows_number b id n) ≡ id)
+    × (deed S (shows_number b id n) ≡ Showed S.round n b ∷ []) × (IsPublishable S id n → Allowed S (shows_number b id n))
+shows_as false S n id = (refl, refl, refl, λ ok. ok)
+shows_as true S n id = (refl, refl, refl, λ ok. ok)
 
 module _ (may_stop : Bool) (S : State) (n id : ℕ) where
   published_here : Publishes S (publish S may_stop n) n
@@ -145,7 +135,7 @@ module _ {X N : Type 0} (D : Discipline X N) (law : Lawful D) (t slots id : ℕ)
       let only = (shows.inside q inside_q).unpublished alone in let hidden = only.1 in let w : View N = publishing may_stop n me.0 in let wide = r.words.wide in
       let zero_jobs = h.gate.hidden hidden (no_closer S h id st.0) in let e : Event = shows_number may_stop id n in let S' : State = publish S may_stop n in
       let R : Round = record (now S) { jobs = n; stoppable = may_stop } in let now_is : now S' ≡ R = put_here S.rounds S.round R in
-      let is : S' ≡ after S e = sym (becomes may_stop S n id) in let laid = r.lays me.0 (subst (λ (a : ℕ). get_elem? s.views a ≡ some me.0) only.0 at) in
+      let it = shows_as may_stop S n id in let is : S' ≡ after S e = sym it.0 in let laid = r.lays me.0 (subst (λ (a : ℕ). get_elem? s.views a ≡ some me.0) only.0 at) in
       let stored : (j : ℕ) → j < 3 + t → get_or s.words (filled_at j) 0 ≡ fill_value t n j =
       (λ j lt. (laid.stored (filled_at j) (fill_value t n j) (full j lt)).1) in
       let other : (i : ℕ) → i ≢ published_at → get_or (set s.words published_at x) i 0 ≡ get_or s.words i 0 =
@@ -154,8 +144,8 @@ module _ {X N : Type 0} (D : Discipline X N) (law : Lawful D) (t slots id : ℕ)
       (subst (λ (z : Round). k < z.jobs) (sym now_is) lt, ap (λ (z : Round). times k z.begun) now_is ∙ f.0, f.1)) in
       let at_rest : (now S).stopped ≡ false = untrue (now S).stopped (λ e. let a = (h.work.stops e).1 in omega arith) in
       let own : S.round ≡ round_of me.0.standing = st.1 ∙ sym (ap round_of inside_q) in
-      moves_with D t run s r published_at x id me w keeps (e ∷ []) at (its_own may_stop n id, tt)
-      (allows may_stop S n id (only.0, st.0, hidden, low, high), r.is_run)
+      moves_with D t run s r published_at x id me w keeps (e ∷ []) at (it.1, tt)
+      (it.3 (only.0, st.0, hidden, low, high), r.is_run)
       (subst (λ (z : State). Words t z (set s.words published_at x)) is record {
         wide = length-set s.words published_at x ∙ r.words.wide;
         barrier = other barrier_at (λ e. omega arith) ∙ r.words.barrier;
@@ -174,7 +164,7 @@ module _ {X N : Type 0} (D : Discipline X N) (law : Lawful D) (t slots id : ℕ)
       (λ m e. let a : n ≡ m = cc in (ap (λ (z : ℕ). Some z) a, ap (λ (z : Round). z.stoppable) now_is)) (λ e. absurd cc)
       (ap (λ (z : Round). z.seen id) now_is ∙ untrue ((now S).seen id) (λ saw. let a = h.work.saw id saw in absurd cc)) (λ _ _ _ l. absurd l) (λ _. refl))))
       ((λ z. Showed (sym own z) n may_stop ∷ seat.1 z) ∙ sym (ap (λ (b : Bool). (if b then deed S e else []) ++ deeds id run)
-      (eq-eqb (by e) id (its_own may_stop n id)) ∙ ap (λ (l : List Deed). l ++ deeds id run) (its_deed may_stop S n id))) refl
+      (eq-eqb (by e) id it.1) ∙ ap (λ (l : List Deed). l ++ deeds id run) it.2)) refl
       (λ v e. ⊎_elim (λ (z : (0 ≡ id) × (w ≡ v)). subst (λ (y : State × View N). Laid t y.0 (set s.words published_at x) y.1) (λ i. (is i, z.1 i)) record {
         stored = λ i y e. absurd cc;
         unstored = λ _. refl;

@@ -5,7 +5,7 @@ use mathlib.Core.Logic.{dite}
 use mathlib.Core.Option.{some}
 use native.Mathlib.Decide.{ℕ_discrete}
 use lib.ListN.{get_elem?}
-use Rattle.spindle_parts.specs.State.{State, Party, Round, now, party, times, Free, weight_in, weight_member, is_in, is_member}
+use Rattle.spindle_parts.specs.State.{State, Party, Round, now, party, times, Free}
 use Rattle.spindle_parts.specs.Steps.{Finish, after, ended_by}
 use Rattle.spindle_parts.specs.Runs.{state}
 use Rattle.spindle_parts.proofs.Fates.{Fate, Open, Held, Ran, Done, started, over}
@@ -20,7 +20,7 @@ use Rattle.spindle_rounds.specs.RoundTells.{FinishTells}
 use Rattle.spindle_rounds.specs.RoundConditions.{MayFinish}
 use Rattle.spindle_rounds.specs.RoundRuns.{Addition}
 use Rattle.spindle_rounds.proofs.RoundMoves.{SeatOf, moves_with, still_laid, shown, knowing, knows_on}
-use Rattle.spindle_rounds.proofs.RoundWords.{by_equal, counts_stay, word_stays, counters_stay, taken_put}
+use Rattle.spindle_rounds.proofs.RoundWords.{by_equal, word_stays, counters_stay, taken_put}
 use Rattle.spindle_rounds.proofs.RoundChanges.{changed_words, some_published}
 
 -- the party id finishes k
@@ -67,8 +67,7 @@ module _ (S : State) (id k : ℕ) (runs : (party S id).running ≡ Some k) where
   words_after t ws x w shown is = let wide = w.wide in let other : (j : ℕ) → j ≢ finished_at → get_or (set ws finished_at x) j 0 ≡ get_or ws j 0 =
       (λ j n. get_or-set_other ws finished_at j x 0 n) in
       changed_words t S done ws finished_at x (omega arith) w refl (ap (λ (z : Round). z.stoppable) its_round)
-      (word_stays S done refl (counts_stay weight_in refl (λ x y e. ap is_in e) S.parties id idle refl)
-      (counts_stay weight_member refl (λ x y e. ap is_member e) S.parties id idle refl))
+      (word_stays S id idle refl done refl refl)
       (λ _. get_or-set_same ws finished_at x 0 (omega arith) ∙ (is ∙ (sym (length-append (now S).finished (k ∷ [])) ∙ sym
       (ap (λ (z : Round). length z.finished) its_round))))
       (λ on. let e = ap (λ (z : Round). z.stopped) its_round in (

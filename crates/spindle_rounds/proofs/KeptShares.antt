@@ -3,7 +3,7 @@ use Rattle.std.proofs.Common.{◌≡◌, ◌≢◌, ◌⊎◌, inr, ⊎_elim, �
 use Rattle.std.proofs.Common.{get_or-set_other, sym, refl, ap, ◌∙◌, subst, arith, Option, Some, None, if◌then◌else◌}
 use mathlib.Core.Logic.{dite}
 use native.Mathlib.Decide.{ℕ_discrete}
-use Rattle.spindle_parts.specs.State.{State, Party, Round, put, now, party, times, Free, weight_in, weight_member, is_in, is_member}
+use Rattle.spindle_parts.specs.State.{State, Party, Round, put, now, party, times, Free}
 use Rattle.spindle_parts.specs.Steps.{Begin, after}
 use Rattle.spindle_parts.specs.Runs.{state}
 use Rattle.spindle_parts.proofs.Fates.{Held, started, over}
@@ -18,7 +18,8 @@ use Rattle.spindle_rounds.specs.RoundTells.{ShareTells}
 use Rattle.spindle_rounds.specs.RoundConditions.{MayBegin}
 use Rattle.spindle_rounds.specs.RoundRuns.{Store}
 use Rattle.spindle_rounds.proofs.RoundMoves.{SeatOf, moves_with, still_laid, some_of, shown, knows_on}
-use Rattle.spindle_rounds.proofs.RoundWords.{counts_stay, word_stays, counters_stay, taken_put}
+use Rattle.spindle_rounds.proofs.RoundNumbers.{begins}
+use Rattle.spindle_rounds.proofs.RoundWords.{word_stays, counters_stay, taken_put}
 use Rattle.spindle_rounds.proofs.RoundChanges.{later_words, some_published}
 
 -- the party id begins k, which it has taken
@@ -62,26 +63,15 @@ module _ (S : State) (h : Sound S) (id k : ℕ) (held : (party S id).taken k ≡
 
   pub words_after : (t i x : ℕ) (ws : List ℕ) → range_at t ≤ i → Words t S ws → Words t begun (set ws i x)
   words_after t i x ws high w = later_words t S begun ws i x _ (omega arith) w refl its_round refl refl refl
-      (word_stays S begun refl (counts_stay weight_in refl (λ x y e. ap is_in e) S.parties id without refl)
-      (counts_stay weight_member refl (λ x y e. ap is_member e) S.parties id without refl))
+      (word_stays S id without refl begun refl refl)
       (λ n e. counters_stay t S begun ws (set ws i x) n (get_or-set_other ws i remainder_at x 0 (λ z. omega arith))
       (λ j lt. get_or-set_other ws i (range_at j) x 0 (λ z. omega arith)) free_on free_back (λ on. sym (ap (λ (z : Round). z.stopped) its_round) ∙ on)
       (w.counters n e))
 
   -- to the slots, k begins
   pub begins_here : (n : ℕ) → S.published ≡ Some n → Begins S begun k
-  begins_here n shown = let R : Round = record (now S) { begun = (now S).begun ++ k ∷ [] } in let jobs = (h.gate.shown n shown).0 in let below = in_round in
-      let not_begun = unbegun in record {
-        round = refl;
-        published = refl;
-        begun = λ q j o. put_all (λ a y. (a ≢ S.round) ⊎ (j ≢ k) → times j y.begun ≡ times j (S.rounds a).begun) S.rounds S.round R
-            (λ o. ⊎_elim (λ (z : S.round ≢ S.round). absurd (z refl)) (λ (z : j ≢ k). times_else j (now S).begun k z) o) (λ a z o. refl) q o;
-        finished = λ q j. put_all (λ a y. times j y.finished ≡ times j (S.rounds a).finished) S.rounds S.round R refl (λ a z. refl) q;
-        before = unbegun;
-        after = (let a = ap (λ (z : Round). times k z.begun) its_round in let b = times_same k (now S).begun in omega arith);
-        unfinished = h.work.finished k ∙ ap over mine;
-        shown = (n, shown, omega arith);
-      }
+  begins_here n shown = let jobs = (h.gate.shown n shown).0 in let below = in_round in
+      begins S begun.parties S.closer k n unbegun (h.work.finished k ∙ ap over mine) shown (omega arith)
 
 module _ {X N : Type 0} (D : Discipline X N) (law : Lawful D) (t : ℕ) where
   pub shares : (slots id : ℕ) (me : SeatOf D t) (i new : ℕ) → t ≤ i → MayBegin me.0 → me.0.from < me.0.to → Store D t slots id me (range_at i) new

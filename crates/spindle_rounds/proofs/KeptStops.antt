@@ -5,7 +5,7 @@ use mathlib.Core.Logic.{dite}
 use mathlib.Core.Option.{none}
 use native.Mathlib.Decide.{ℕ_discrete}
 use Rattle.atomic_table.specs.Table.{step, keeps, stepped}
-use Rattle.spindle_parts.specs.State.{State, Party, Round, put, no_set, now, party, Free, times, weight_in, weight_member, is_in, is_member}
+use Rattle.spindle_parts.specs.State.{State, Party, Round, put, no_set, now, party, Free, times}
 use Rattle.spindle_parts.specs.Steps.{Stop, See, PutBack, after}
 use Rattle.spindle_parts.specs.Runs.{state}
 use Rattle.spindle_parts.proofs.Fates.{Held, started}
@@ -24,7 +24,7 @@ use Rattle.spindle_rounds.specs.RoundConditions.{MayStop, MaySee, MayPutBack}
 use Rattle.spindle_rounds.specs.RoundRuns.{Load, Store, Exchange}
 use Rattle.spindle_rounds.proofs.RoundMoves.{Rule, SeatOf, stores, exchanges, moves, stays, untrue, shown, knowing}
 use Rattle.spindle_rounds.proofs.RoundNumbers.{true_or}
-use Rattle.spindle_rounds.proofs.RoundWords.{counts_stay, word_stays, counters_stay}
+use Rattle.spindle_rounds.proofs.RoundWords.{range_here, range_else, word_stays, counters_stay}
 use Rattle.spindle_rounds.proofs.RoundChanges.{changed_words, later_words, some_published}
 use Rattle.spindle_rounds.proofs.KeptBarrier.{no_deed}
 
@@ -157,18 +157,15 @@ module _ (S : State) (h : Sound S) (id from to : ℕ) (share : IsShare (party S 
     abbrev after_put : List ℕ
     after_put = set ws (range_at i) new
 
-    range_other : (a : ℕ) → a ≢ i → get_or after_put (range_at a) 0 ≡ get_or ws (range_at a) 0
-    range_other a ne = get_or-set_other ws (range_at i) (range_at a) new 0 (λ e. ne (omega arith))
-
     rest_other : get_or after_put remainder_at 0 ≡ get_or ws remainder_at 0
     rest_other = get_or-set_other ws (range_at i) remainder_at new 0 (λ e. omega arith)
 
     -- a number in a range afterwards is of the share, or was in that range
     which : (a j : ℕ) → InRange after_put a j → ((a ≡ i) × ((from ≤ j) × (j < to))) ⊎ ((a ≢ i) × InRange ws a j)
     which a j z = dite (ℕ_discrete a i) (λ e. let z' : IsWithin new j = subst (λ (w : ℕ). IsWithin w j)
-        (ap (λ (b : ℕ). get_or after_put (range_at b) 0) e ∙ get_or-set_same ws (range_at i) new 0 deep) z in let z₀ = z'.0 in let z₁ = z'.1 in
+        (range_here ws i new a deep e) z in let z₀ = z'.0 in let z₁ = z'.1 in
         inl (e, (omega arith, omega arith)))
-        (λ ne. inr (ne, subst (λ (w : ℕ). IsWithin w j) (range_other a ne) z))
+        (λ ne. inr (ne, subst (λ (w : ℕ). IsWithin w j) (range_else ws i new a ne) z))
 
     into : (j : ℕ) → (from ≤ j) × (j < to) → InRange after_put i j
     into j z = let z₀ = z.0 in let z₁ = z.1 in subst (λ (w : ℕ). IsWithin w j) (sym (get_or-set_same ws (range_at i) new 0 deep)) (omega arith, omega arith)
@@ -182,7 +179,7 @@ module _ (S : State) (h : Sound S) (id from to : ℕ) (share : IsShare (party S 
     pub given_counters : Counters t given after_put n
     given_counters = record {
       free = λ j f. ⊎_elim (λ (g : Free S j). ⊎_elim (λ (z : (a : ℕ) × (a < t) × InRange ws a j). inl
-          (z.0, z.1, subst (λ (w : ℕ). IsWithin w j) (sym (range_other z.0 (λ e. none_there j (subst (λ (a : ℕ). InRange ws a j) e z.2)))) z.2))
+          (z.0, z.1, subst (λ (w : ℕ). IsWithin w j) (sym (range_else ws i new z.0 (λ e. none_there j (subst (λ (a : ℕ). InRange ws a j) e z.2)))) z.2))
           (λ (z : InRemainder ws n j). let e = rest_other in let z₀ = z.0 in inr (omega arith, z.1)) (c.free j g))
           (λ (z : (from ≤ j) × (j < to)). inl (i, low, into j z)) (free_or j f);
       ranges = λ a j lt z. ⊎_elim (λ (y : (a ≡ i) × ((from ≤ j) × (j < to))). given_free j y.1.0 y.1.1)
@@ -197,8 +194,8 @@ module _ (S : State) (h : Sound S) (id from to : ℕ) (share : IsShare (party S 
       remainder_apart = λ a j lt x y. ⊎_elim (λ (x' : (a ≡ i) × ((from ≤ j) × (j < to))). not_shared j (c.remainder j (rest_was j y)) x'.1)
           (λ (x' : (a ≢ i) × InRange ws a j). c.remainder_apart a j lt x'.1 (rest_was j y)) (which a j x);
       ordered = λ a lt. dite (ℕ_discrete a i) (λ e. subst (λ (w : ℕ). start_of w ≤ end_of w)
-          (sym (ap (λ (b : ℕ). get_or after_put (range_at b) 0) e ∙ get_or-set_same ws (range_at i) new 0 deep)) (omega arith))
-          (λ ne. subst (λ (w : ℕ). start_of w ≤ end_of w) (sym (range_other a ne)) (c.ordered a lt));
+          (sym (range_here ws i new a deep e)) (omega arith))
+          (λ ne. subst (λ (w : ℕ). start_of w ≤ end_of w) (sym (range_else ws i new a ne)) (c.ordered a lt));
     }
 
 module _ {X N : Type 0} (D : Discipline X N) (law : Lawful D) (t : ℕ) where
@@ -214,8 +211,7 @@ module _ {X N : Type 0} (D : Discipline X N) (law : Lawful D) (t : ℕ) where
       let look = look_here S.parties id y in let w : View N = putting_back word_at (get_or s.words word_at 0) me.0 in let wide = r.words.wide in
       moves D law t run s r word_at new id me w (PutBack id ∷ []) at (refl, tt) (tt, tt) (refl, refl, refl) ((st.0, seen, shows.claim ∙ may.1), r.is_run)
       (later_words t S S' s.words word_at new _ (omega arith) r.words refl refl refl refl refl
-      (word_stays S S' refl (counts_stay weight_in refl (λ x y e. ap is_in e) S.parties id y refl)
-      (counts_stay weight_member refl (λ x y e. ap is_member e) S.parties id y refl))
+      (word_stays S id y refl S' refl refl)
       (λ n e. given_counters S h id me.0.from me.0.to shows.share t n i old new s.words (r.words.counters n e) stopped low
       (omega arith) hit vacant start_is end_is tidy))
       (shown (subst (Stands S' id) (sym may.0.1) (ap (λ (z : Party). z.status) look ∙ st.0, st.1)) shows.leads

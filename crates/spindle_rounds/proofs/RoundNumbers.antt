@@ -1,17 +1,17 @@
 -- A party takes a set of free numbers and begins one of them in the same step: what becomes of the state and of the counters.
 use Rattle.std.proofs.Common.{◌≡◌, ◌≢◌, ◌⊎◌, inl, inr, ⊎_elim, ℕ, ◌<◌, ◌≤◌, Bool, true, false, ◌||◌, List, [], ◌∷◌, ◌++◌, length, get_or, set}
-use Rattle.std.proofs.Common.{get_or-set_same, get_or-set_other, sym, refl, ap, ◌∙◌, subst, arith, Some}
+use Rattle.std.proofs.Common.{get_or-set_same, get_or-set_other, sym, refl, ap, ◌∙◌, subst, arith, Option, Some}
 use mathlib.Core.Logic.{dite}
 use native.Mathlib.Decide.{ℕ_discrete}
-use Rattle.spindle_parts.specs.State.{State, Party, Round, put, now, party, times, Free, weight_in, weight_member, is_in, is_member}
+use Rattle.spindle_parts.specs.State.{State, Party, Round, put, now, party, times, Free}
 use Rattle.spindle_parts.specs.Steps.{Event, Take, Begin, after}
 use Rattle.spindle_parts.specs.Runs.{state, IsRun, IsOnce}
 use Rattle.spindle_parts.specs.BarrierWord.{word}
-use Rattle.spindle_parts.proofs.Parties.{put_here, put_else, put_all, look_here, times_same, times_else}
+use Rattle.spindle_parts.proofs.Parties.{with_parties, put_here, put_else, put_all, look_here, times_same, times_else}
 use Rattle.spindle_parts.proofs.Soundness.{Sound, sound, run_once}
 use Rattle.spindle_rounds.specs.RoundSlots.{Begins}
 use Rattle.spindle_rounds.specs.RoundShown.{Counters, InRange, InRemainder, IsWithin, Words}
-use Rattle.spindle_rounds.proofs.RoundWords.{counts_stay, word_stays, taken_put}
+use Rattle.spindle_rounds.proofs.RoundWords.{range_here, range_else, word_stays, taken_put}
 use Rattle.spindle_rounds.proofs.RoundChanges.{later_words}
 use Rattle.spindle_rounds.specs.Words.{remainder_at, range_at, start_of, end_of}
 
@@ -30,6 +30,21 @@ both_false false b e = (refl, e)
 pub true_or : (b : Bool) → (b ≡ true) ⊎ (b ≡ false)
 true_or true = inl refl
 true_or false = inr refl
+
+-- to the slots k begins, where the record of the round takes it in
+pub begins : (S : State) (ps : List Party) (c : Option ℕ) (k n : ℕ) → times k (now S).begun ≡ 0 → times k (now S).finished ≡ 0 → S.published ≡ Some n → k < n
+    → Begins S (with_parties S ps c (put S.rounds S.round (record (now S) { begun = (now S).begun ++ k ∷ [] }))) k
+begins S ps c k n unbegun unfinished shown below = let R : Round = record (now S) { begun = (now S).begun ++ k ∷ [] } in record {
+  round = refl;
+  published = refl;
+  begun = λ q j o. put_all (λ a y. (a ≢ S.round) ⊎ (j ≢ k) → times j y.begun ≡ times j (S.rounds a).begun) S.rounds S.round R
+      (λ o. ⊎_elim (λ (z : S.round ≢ S.round). absurd (z refl)) (λ (z : j ≢ k). times_else j (now S).begun k z) o) (λ a z o. refl) q o;
+  finished = λ q j. put_all (λ a y. times j y.finished ≡ times j (S.rounds a).finished) S.rounds S.round R refl (λ a z. refl) q;
+  before = unbegun;
+  after = (let a = ap (λ (z : Round). times k z.begun) (put_here S.rounds S.round R) in let b = times_same k (now S).begun in omega arith);
+  unfinished = unfinished;
+  shown = (n, shown, below);
+}
 
 -- the party id takes the numbers of `some`, and begins k, which is one of them
 module _ (S : State) (id k : ℕ) (some : ℕ → Bool) (mine : some k ≡ true) where
@@ -75,12 +90,8 @@ module _ (S : State) (id k : ℕ) (some : ℕ → Bool) (mine : some k ≡ true)
 
   -- its status stays, and so do both counts
   pub same_word : word S ≡ word then_begun
-  same_word = word_stays S then_begun refl (counts_stay weight_in refl (λ x y e. ap is_in e) taken_first.parties id
-      (record (party taken_first id) { running = Some k; taken = put (party taken_first id).taken k false }) refl ∙ counts_stay weight_in refl
-      (λ x y e. ap is_in e) S.parties id with_some refl)
-      (counts_stay weight_member refl (λ x y e. ap is_member e) taken_first.parties id
-      (record (party taken_first id) { running = Some k; taken = put (party taken_first id).taken k false }) refl ∙ counts_stay weight_member refl
-      (λ x y e. ap is_member e) S.parties id with_some refl)
+  same_word = word_stays S id with_some refl taken_first refl refl ∙ word_stays taken_first id
+      (record (party taken_first id) { running = Some k; taken = put (party taken_first id).taken k false }) refl then_begun refl refl
 
   -- the word i of the counters becomes x
   pub last_words : (t : ℕ) (ws : List ℕ) (i x : ℕ) → remainder_at ≤ i → Words t S ws → ((n : ℕ) → S.published ≡ Some n → Counters t then_begun (set ws i x) n)
@@ -114,35 +125,25 @@ module _ (S : State) (id k : ℕ) (some : ℕ → Bool) (mine : some k ≡ true)
       let rest_same : get_or ws' remainder_at 0 ≡ get_or ws remainder_at 0 = get_or-set_other ws (range_at i) remainder_at new 0 (λ e. omega arith) in
       let none : (j : ℕ) → (some j ≡ true → ⊥) → some j ≡ false = (λ j n. ⊎_elim (λ e. absurd (n e)) (λ e. e) (true_or (some j))) in taken_counters t n ws ws' c
       (λ a j lt z. dite (ℕ_discrete a i)
-      (λ e. let now_is = ap (λ (b : ℕ). get_or ws' (range_at b) 0) e ∙ get_or-set_same ws (range_at i) new 0 deep in
+      (λ e. let now_is = range_here ws i new a deep e in
       let b = less j (subst (λ (w : ℕ). IsWithin w j) now_is z) in
       (subst (λ (w : ℕ). IsWithin w j) (sym (ap (λ (b : ℕ). get_or ws (range_at b) 0) e ∙ is)) b.0, b.1))
-      (λ other. let z' : InRange ws a j = subst (λ (w : ℕ). IsWithin w j) (get_or-set_other ws (range_at i) (range_at a) new 0 (λ e. other (omega arith))) z in
+      (λ other. let z' : InRange ws a j = subst (λ (w : ℕ). IsWithin w j) (range_else ws i new a other) z in
       (z', none j (λ e. other (c.apart a i j lt low z' (subst (λ (w : ℕ). IsWithin w j) (sym is) (all j e)))))))
       (λ j z. let z₀ = z.0 in let z' : InRemainder ws n j = (omega arith, z.1) in
       (z', none j (λ e. c.remainder_apart i j low (subst (λ (w : ℕ). IsWithin w j) (sym is) (all j e)) z')))
       (λ a j lt out z. dite (ℕ_discrete a i)
-      (λ e. subst (λ (w : ℕ). IsWithin w j) (sym (ap (λ (b : ℕ). get_or ws' (range_at b) 0) e ∙ get_or-set_same ws (range_at i) new 0 deep))
+      (λ e. subst (λ (w : ℕ). IsWithin w j) (sym (range_here ws i new a deep e))
       (more j out (subst (λ (w : ℕ). IsWithin w j) (ap (λ (b : ℕ). get_or ws (range_at b) 0) e ∙ is) z)))
-      (λ other. subst (λ (w : ℕ). IsWithin w j) (sym (get_or-set_other ws (range_at i) (range_at a) new 0 (λ e. other (omega arith)))) z))
+      (λ other. subst (λ (w : ℕ). IsWithin w j) (sym (range_else ws i new a other)) z))
       (λ j out z. let z₀ = z.0 in (omega arith, z.1)) (omega arith)
       (λ a lt. dite (ℕ_discrete a i)
-      (λ e. subst (λ (w : ℕ). start_of w ≤ end_of w) (sym (ap (λ (b : ℕ). get_or ws' (range_at b) 0) e ∙ get_or-set_same ws (range_at i) new 0 deep)) tidy)
-      (λ other. subst (λ (w : ℕ). start_of w ≤ end_of w) (sym (get_or-set_other ws (range_at i) (range_at a) new 0 (λ e. other (omega arith))))
+      (λ e. subst (λ (w : ℕ). start_of w ≤ end_of w) (sym (range_here ws i new a deep e)) tidy)
+      (λ other. subst (λ (w : ℕ). start_of w ≤ end_of w) (sym (range_else ws i new a other))
       (c.ordered a lt)))
 
   -- to the slots, k begins
   pub begun_here : (run : List Event) → S ≡ state run → IsRun run → (n : ℕ) → Free S k → S.published ≡ Some n → Begins S then_begun k
-  begun_here run is ok n free shown = let R : Round = record (now S) { begun = (now S).begun ++ k ∷ [] } in
-      let once = subst IsOnce (sym is) (run_once run ok) in let h = subst Sound (sym is) (sound run ok) in let at_most = (once S.round k).1 in
-      let none_begun = free.1 in record {
-        round = refl;
-        published = refl;
-        begun = λ q j o. put_all (λ a y. (a ≢ S.round) ⊎ (j ≢ k) → times j y.begun ≡ times j (S.rounds a).begun) S.rounds S.round R
-            (λ o. ⊎_elim (λ (z : S.round ≢ S.round). absurd (z refl)) (λ (z : j ≢ k). times_else j (now S).begun k z) o) (λ a z o. refl) q o;
-        finished = λ q j. put_all (λ a y. times j y.finished ≡ times j (S.rounds a).finished) S.rounds S.round R refl (λ a z. refl) q;
-        before = free.1;
-        after = (let a = ap (λ (z : Round). times k z.begun) last_round in let b = times_same k (now S).begun in omega arith);
-        unfinished = omega arith;
-        shown = (n, shown, (let a = (h.gate.shown n shown).0 in let b = free.0 in omega arith));
-      }
+  begun_here run is ok n free shown = let once = subst IsOnce (sym is) (run_once run ok) in let h = subst Sound (sym is) (sound run ok) in
+      let at_most = (once S.round k).1 in let none_begun = free.1 in
+      begins S then_begun.parties S.closer k n free.1 (omega arith) shown (let a = (h.gate.shown n shown).0 in let b = free.0 in omega arith)

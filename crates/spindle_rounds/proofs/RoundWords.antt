@@ -4,6 +4,7 @@ use Rattle.std.proofs.Common.{get_or, set, length-set, get_or-set_same, get_or-s
 use mathlib.Core.Logic.{dite}
 use native.Mathlib.Decide.{ℕ_discrete, dec_le}
 use Rattle.spindle_parts.specs.State.{State, Status, Party, Round, party_of, put_party, now, party, times, Free, inside, members, total, absent}
+use Rattle.spindle_parts.specs.State.{weight_in, weight_member, is_in, is_member}
 use Rattle.spindle_parts.specs.Steps.{with_status}
 use Rattle.spindle_parts.specs.BarrierWord.{word}
 use Rattle.spindle_parts.proofs.Parties.{look_here, look_else, total_put, inside_le_members}
@@ -113,11 +114,18 @@ module _ (t : ℕ) where
       x ≡ word s' → Words t s' (set ws barrier_at x)
   status_words s ws p x st c w is = barrier_words s _ ws x w refl refl (λ a k. taken_put s.parties p (with_status st (party s p)) k refl a) is
 
--- who keeps its status leaves both counts
-pub counts_stay : (w : Party → ℕ) → w absent ≡ 0 → ((x y : Party) → x.status ≡ y.status → w x ≡ w y) → (l : List Party) (p : ℕ) (y : Party) → y.status ≡
-    (party_of l p).status → total w (put_party l p y) ≡ total w l
-counts_stay w z by_status l p y e = let a = total_put w z l p y in let b = by_status y (party_of l p) e in omega arith
+-- who keeps its status leaves both counts, and so the barrier word
+module _ (s : State) (p : ℕ) (y : Party) (same : y.status ≡ (party s p).status) where
+  counts : (w : Party → ℕ) → w absent ≡ 0 → w y ≡ w (party s p) → total w (put_party s.parties p y) ≡ total w s.parties
+  counts w z e = let a = total_put w z s.parties p y in omega arith
 
--- the barrier word is of the round and the two counts
-pub word_stays : (s s' : State) → s'.round ≡ s.round → inside s'.parties ≡ inside s.parties → members s'.parties ≡ members s.parties → word s ≡ word s'
-word_stays s s' r a b i = sym a i + one_member * sym b i + sense_bit * (sym r i % 2)
+  pub word_stays : (s' : State) → s'.round ≡ s.round → s'.parties ≡ put_party s.parties p y → word s ≡ word s'
+  word_stays s' round parties = let a = ap inside parties ∙ counts weight_in refl (ap is_in same) in
+      let b = ap members parties ∙ counts weight_member refl (ap is_member same) in λ i. sym a i + one_member * sym b i + sense_bit * (sym round i % 2)
+
+-- the word of a range after a store, and those of the others
+pub range_here : (ws : List ℕ) (i new a : ℕ) → range_at i < length ws → a ≡ i → get_or (set ws (range_at i) new) (range_at a) 0 ≡ new
+range_here ws i new a deep e = ap (λ (b : ℕ). get_or (set ws (range_at i) new) (range_at b) 0) e ∙ get_or-set_same ws (range_at i) new 0 deep
+
+pub range_else : (ws : List ℕ) (i new a : ℕ) → a ≢ i → get_or (set ws (range_at i) new) (range_at a) 0 ≡ get_or ws (range_at a) 0
+range_else ws i new a other = get_or-set_other ws (range_at i) (range_at a) new 0 (λ e. other (omega arith))
