@@ -12,18 +12,14 @@ loop-init g c = record {
   keeps = g.met.W.Work.keeps_same _ _ _ (onward_same c.args.seat.now.me.0) refl;
 }
 
-pub returns-then-sees_stop-clause-went : goal.returns-then-sees_stop-clause-went
-returns-then-sees_stop-clause-went g c = went_then _ _ _ _ _ c.loop.invariant.went c.sees_stop.ensures.went
-
-pub returns-then-sees_stop-clause-idle : goal.returns-then-sees_stop-clause-idle
-returns-then-sees_stop-clause-idle g c = let i = c.loop.invariant in let e = c.sees_stop.ensures in
-    still_idle c.loop.seat.me.0 c.sees_stop.new.seat.me.0 i.idle e.same.0 (e.same.1 ∙ i.idle.0)
-
-pub returns-then-sees_stop-clause-keeps : goal.returns-then-sees_stop-clause-keeps
-returns-then-sees_stop-clause-keeps g c = let e = c.sees_stop.ensures in g.met.W.Work.keeps_then _ _ _ _ _ _ c.loop.invariant.keeps (g.met.W.Work.keeps_same _ _ _ e.went.on e.stops)
-
-pub returns-then-sees_stop-clause-holds : goal.returns-then-sees_stop-clause-holds
-returns-then-sees_stop-clause-holds g c = rw c.sees_stop.ensures.hands c.loop.invariant.holds
+pub returns-then-sees_stop : goal.returns-then-sees_stop
+returns-then-sees_stop g c = let i = c.loop.invariant in let e = c.sees_stop.ensures in record {
+  went = went_then _ _ _ _ _ i.went e.went;
+  idle = still_idle c.loop.seat.me.0 c.sees_stop.new.seat.me.0 i.idle e.same.0 (e.same.1 ∙ i.idle.0);
+  left = inr (inl (e.seen ∙ c.if-sees_stop.true));
+  holds = rw e.hands i.holds;
+  keeps = g.met.W.Work.keeps_then _ _ _ _ _ _ i.keeps (g.met.W.Work.keeps_same _ _ _ e.went.on e.stops);
+}
 
 pub try_claim-requires-clause-free : goal.try_claim-requires-clause-free
 try_claim-requires-clause-free g c = let i = c.loop.invariant in let e = c.sees_stop.ensures in
@@ -49,11 +45,9 @@ loop-preserved-else-run g c = let i = c.loop.invariant in let e = c.sees_stop.en
       (λ _. a.1)) f.went;
   idle = f.idle;
   holds = f.holds;
-  keeps = g.met.W.Work.keeps_then _ _ _ _ _ _ (g.met.W.Work.keeps_then _ _ _ _ _ _ i.keeps (g.met.W.Work.keeps_same _ _ _ e.went.on e.stops)) (g.met.W.Work.keeps_then _ _ _ _ _ _ (g.met.W.Work.keeps_same _ _ _ a.0 a.1.1) f.keeps);
+  keeps = g.met.W.Work.keeps_then _ _ _ _ _ _ (g.met.W.Work.keeps_then _ _ _ _ _ _ i.keeps (g.met.W.Work.keeps_same _ _ _ e.went.on e.stops))
+      (g.met.W.Work.keeps_then _ _ _ _ _ _ (g.met.W.Work.keeps_same _ _ _ a.0 a.1.1) f.keeps);
 }
-
-pub returns-then-sees_stop-clause-left : goal.returns-then-sees_stop-clause-left
-returns-then-sees_stop-clause-left g c = inr (inl (c.sees_stop.ensures.seen ∙ c.if-sees_stop.true))
 
 pub returns-then-run-clause-went : goal.returns-then-run-clause-went
 returns-then-run-clause-went g c = let a = c.in-Job.ensures.taken in went_then _ _ _ _ _ (went_more _ _ _ c.sees_stop.new.seat c.try_claim.new.seat
@@ -64,31 +58,24 @@ returns-then-run-clause-left g c = c.run.ensures.over c.if-run.true
 
 pub returns-then-run-clause-keeps : goal.returns-then-run-clause-keeps
 returns-then-run-clause-keeps g c = let e = c.sees_stop.ensures in let a = c.in-Job.ensures.taken in
-    g.met.W.Work.keeps_then _ _ _ _ _ _ (g.met.W.Work.keeps_then _ _ _ _ _ _ c.loop.invariant.keeps (g.met.W.Work.keeps_same _ _ _ e.went.on e.stops)) (g.met.W.Work.keeps_then _ _ _ _ _ _ (g.met.W.Work.keeps_same _ _ _ a.0 a.1.1) c.run.ensures.keeps)
+    g.met.W.Work.keeps_then _ _ _ _ _ _ (g.met.W.Work.keeps_then _ _ _ _ _ _ c.loop.invariant.keeps (g.met.W.Work.keeps_same _ _ _ e.went.on e.stops))
+    (g.met.W.Work.keeps_then _ _ _ _ _ _ (g.met.W.Work.keeps_same _ _ _ a.0 a.1.1) c.run.ensures.keeps)
 
-pub returns-in-Nothing-clause-went : goal.returns-in-Nothing-clause-went
-returns-in-Nothing-clause-went g c = let a = c.in-Nothing.ensures.taken in
-    went_more _ _ _ c.sees_stop.new.seat c.try_claim.new.seat (went_then _ _ _ _ _ c.loop.invariant.went c.sees_stop.ensures.went) c.try_claim.ensures.seat a.0
-    (λ _. a.1)
-
-pub returns-in-Nothing-clause-idle : goal.returns-in-Nothing-clause-idle
-returns-in-Nothing-clause-idle g c = let a = c.in-Nothing.ensures.taken in (a.2.0.2, a.2.0.3)
-
-pub returns-in-Nothing-clause-keeps : goal.returns-in-Nothing-clause-keeps
-returns-in-Nothing-clause-keeps g c = let e = c.sees_stop.ensures in let a = c.in-Nothing.ensures.taken in
-    g.met.W.Work.keeps_then _ _ _ _ _ _ (g.met.W.Work.keeps_then _ _ _ _ _ _ c.loop.invariant.keeps (g.met.W.Work.keeps_same _ _ _ e.went.on e.stops)) (g.met.W.Work.keeps_same _ _ _ a.0 a.1.1)
-
-pub returns-in-Nothing-clause-left : goal.returns-in-Nothing-clause-left
-returns-in-Nothing-clause-left g c = c.in-Nothing.ensures.taken.4
-
-pub returns-in-Nothing-clause-holds : goal.returns-in-Nothing-clause-holds
-returns-in-Nothing-clause-holds g c = subst (λ h. g.W.Work.holds c.loop.work h)
-    (sym (c.in-Nothing.ensures.taken.3 ∙ c.sees_stop.ensures.hands)) c.loop.invariant.holds
+pub returns-in-Nothing : goal.returns-in-Nothing
+returns-in-Nothing g c = let i = c.loop.invariant in let e = c.sees_stop.ensures in let a = c.in-Nothing.ensures.taken in record {
+  went = went_more _ _ _ c.sees_stop.new.seat c.try_claim.new.seat (went_then _ _ _ _ _ i.went e.went) c.try_claim.ensures.seat a.0 (λ _. a.1);
+  idle = (a.2.0.2, a.2.0.3);
+  left = a.4;
+  holds = subst (λ h. g.W.Work.holds c.loop.work h) (sym (a.3 ∙ e.hands)) i.holds;
+  keeps = g.met.W.Work.keeps_then _ _ _ _ _ _ (g.met.W.Work.keeps_then _ _ _ _ _ _ i.keeps (g.met.W.Work.keeps_same _ _ _ e.went.on e.stops))
+      (g.met.W.Work.keeps_same _ _ _ a.0 a.1.1);
+}
 
 pub loop-preserved : goal.loop-preserved
 loop-preserved g c = let i = c.loop.invariant in let e = c.sees_stop.ensures in let a = c.in-Again.ensures.taken in record {
   went = went_more _ _ _ c.sees_stop.new.seat c.try_claim.new.seat (went_then _ _ _ _ _ i.went e.went) c.try_claim.ensures.seat a.0 (λ _. a.1);
   idle = (a.2.0.2, a.2.0.3);
   holds = subst (λ h. g.W.Work.holds c.loop.work h) (sym (a.3 ∙ e.hands)) i.holds;
-  keeps = g.met.W.Work.keeps_then _ _ _ _ _ _ (g.met.W.Work.keeps_then _ _ _ _ _ _ i.keeps (g.met.W.Work.keeps_same _ _ _ e.went.on e.stops)) (g.met.W.Work.keeps_same _ _ _ a.0 a.1.1);
+  keeps = g.met.W.Work.keeps_then _ _ _ _ _ _ (g.met.W.Work.keeps_then _ _ _ _ _ _ i.keeps (g.met.W.Work.keeps_same _ _ _ e.went.on e.stops))
+      (g.met.W.Work.keeps_same _ _ _ a.0 a.1.1);
 }

@@ -23,18 +23,15 @@ put_back-requires-clause-free g c = let e = c.sees_stop.ensures in (e.went.at.on
 pub next_of_share-requires-clause-free : goal.next_of_share-requires-clause-free
 next_of_share-requires-clause-free g c = let e = c.sees_stop.ensures in (e.went.at.on.0.inside, e.same.1 ∙ c.loop.invariant.idle, e.seen ∙ c.if-sees_stop.false)
 
-pub returns-then-sees_stop-clause-went : goal.returns-then-sees_stop-clause-went
-returns-then-sees_stop-clause-went g c = went_then _ _ _ _ _ (went_then _ _ _ _ _ c.loop.invariant.went c.sees_stop.ensures.went) c.put_back.ensures.went
-
-pub returns-then-sees_stop-clause-over : goal.returns-then-sees_stop-clause-over
-returns-then-sees_stop-clause-over g c = λ _. inr (inl c.put_back.ensures.seen)
-
-pub returns-then-sees_stop-clause-keeps : goal.returns-then-sees_stop-clause-keeps
-returns-then-sees_stop-clause-keeps g c = let e = c.sees_stop.ensures in let p = c.put_back.ensures in
-    g.met.W.Work.keeps_then _ _ _ _ _ _ (g.met.W.Work.keeps_then _ _ _ _ _ _ c.loop.invariant.keeps (g.met.W.Work.keeps_same _ _ _ e.went.on e.stops)) (g.met.W.Work.keeps_same _ _ _ p.went.on p.stops)
-
-pub returns-then-sees_stop-clause-holds : goal.returns-then-sees_stop-clause-holds
-returns-then-sees_stop-clause-holds g c = rw (c.put_back.ensures.hands, c.sees_stop.ensures.hands) c.loop.invariant.holds
+pub returns-then-sees_stop : goal.returns-then-sees_stop
+returns-then-sees_stop g c = let i = c.loop.invariant in let e = c.sees_stop.ensures in let p = c.put_back.ensures in record {
+  went = went_then _ _ _ _ _ (went_then _ _ _ _ _ i.went e.went) p.went;
+  idle = p.idle;
+  over = λ _. inr (inl p.seen);
+  holds = rw (p.hands, e.hands) i.holds;
+  keeps = g.met.W.Work.keeps_then _ _ _ _ _ _ (g.met.W.Work.keeps_then _ _ _ _ _ _ i.keeps (g.met.W.Work.keeps_same _ _ _ e.went.on e.stops))
+      (g.met.W.Work.keeps_same _ _ _ p.went.on p.stops);
+}
 
 pub run-requires-clause-at : goal.run-requires-clause-at
 run-requires-clause-at g c = let i = c.loop.invariant in let e = c.sees_stop.ensures in let a = c.sees_stop.new.seat in let b = c.next_of_share.new.seat in
@@ -59,30 +56,20 @@ loop-preserved g c = let i = c.loop.invariant in let e = c.sees_stop.ensures in 
       own = (n.3.0 ∙ sym f.finished.2.0, n.3.1 ∙ sym f.finished.2.1);
       over = λ e. over_at _ _ b c.run.new.seat c.run.result claimed.at f.finished (c.is_last-is_over.ensures e);
       holds = f.holds;
-      keeps = g.met.W.Work.keeps_then _ _ _ _ _ _ (g.met.W.Work.keeps_then _ _ _ _ _ _ i.keeps (g.met.W.Work.keeps_same _ _ _ e.went.on e.stops)) (g.met.W.Work.keeps_then _ _ _ _ _ _ (g.met.W.Work.keeps_same _ _ _ n.0 n.1.1) f.keeps);
+      keeps = g.met.W.Work.keeps_then _ _ _ _ _ _ (g.met.W.Work.keeps_then _ _ _ _ _ _ i.keeps (g.met.W.Work.keeps_same _ _ _ e.went.on e.stops))
+          (g.met.W.Work.keeps_then _ _ _ _ _ _ (g.met.W.Work.keeps_same _ _ _ n.0 n.1.1) f.keeps);
     }
 
-pub returns-in-None-next_of_share-clause-went : goal.returns-in-None-next_of_share-clause-went
-returns-in-None-next_of_share-clause-went g c = went_still _ _ _ c.sees_stop.new.seat c.next_of_share.new.seat
-    (went_then _ _ _ _ _ c.loop.invariant.went c.sees_stop.ensures.went) c.next_of_share.ensures.seat c.in-None-next_of_share.ensures.step.0
-
-pub returns-in-None-next_of_share-clause-idle : goal.returns-in-None-next_of_share-clause-idle
-returns-in-None-next_of_share-clause-idle g c = let i = c.loop.invariant in let e = c.sees_stop.ensures in let step = c.in-None-next_of_share.ensures.step in
+pub returns-in-None-next_of_share : goal.returns-in-None-next_of_share
+returns-in-None-next_of_share g c = let i = c.loop.invariant in let e = c.sees_stop.ensures in let step = c.in-None-next_of_share.ensures.step in
     let own = i.own in let same = e.same.0 in let empty = step.2 in
     let idle : IsIdle c.sees_stop.new.seat.me.0 = (e.same.1 ∙ i.idle, (let x = own.0 in let y = own.1 in let p = same.0 in let q = same.1 in omega arith)) in
-    subst (λ m. IsIdle m.0) (sym step.0) idle
-
-pub returns-in-None-next_of_share-clause-over : goal.returns-in-None-next_of_share-clause-over
-returns-in-None-next_of_share-clause-over g c = let i = c.loop.invariant in let e = c.sees_stop.ensures in let step = c.in-None-next_of_share.ensures.step in
-    let went = went_still _ _ _ c.sees_stop.new.seat c.next_of_share.new.seat (went_then _ _ _ _ _ i.went e.went) c.next_of_share.ensures.seat step.0 in
-    λ over. done_over _ _ c.next_of_share.new.seat went.at
-    (subst (λ m. HasEmptiedAll m.0) (sym step.0) (over_on c.loop.seat.me.0 c.sees_stop.new.seat.me.0 e.went.on (i.over over)))
-
-pub returns-in-None-next_of_share-clause-keeps : goal.returns-in-None-next_of_share-clause-keeps
-returns-in-None-next_of_share-clause-keeps g c = let e = c.sees_stop.ensures in
-    subst (λ m. g.W.Work.keeps c.args.work.now c.args.seat.now.me.0 c.loop.work m.0) (sym c.in-None-next_of_share.ensures.step.0)
-    (g.met.W.Work.keeps_then _ _ _ _ _ _ c.loop.invariant.keeps (g.met.W.Work.keeps_same _ _ _ e.went.on e.stops))
-
-pub returns-in-None-next_of_share-clause-holds : goal.returns-in-None-next_of_share-clause-holds
-returns-in-None-next_of_share-clause-holds g c = subst (λ h. g.W.Work.holds c.loop.work h)
-    (sym (ap (λ m. m.1) c.in-None-next_of_share.ensures.step.0 ∙ c.sees_stop.ensures.hands)) c.loop.invariant.holds
+    let went = went_still _ _ _ c.sees_stop.new.seat c.next_of_share.new.seat (went_then _ _ _ _ _ i.went e.went) c.next_of_share.ensures.seat step.0 in record {
+      went = went;
+      idle = subst (λ m. IsIdle m.0) (sym step.0) idle;
+      over = λ over. done_over _ _ c.next_of_share.new.seat went.at
+          (subst (λ m. HasEmptiedAll m.0) (sym step.0) (over_on c.loop.seat.me.0 c.sees_stop.new.seat.me.0 e.went.on (i.over over)));
+      holds = subst (λ h. g.W.Work.holds c.loop.work h) (sym (ap (λ m. m.1) step.0 ∙ e.hands)) i.holds;
+      keeps = subst (λ m. g.W.Work.keeps c.args.work.now c.args.seat.now.me.0 c.loop.work m.0) (sym step.0)
+          (g.met.W.Work.keeps_then _ _ _ _ _ _ i.keeps (g.met.W.Work.keeps_same _ _ _ e.went.on e.stops));
+    }
