@@ -39,11 +39,6 @@ module _ {A : Type 0} where
   first_twice (x ∷ xs) u w = refl
 
 module _ {X N : Type 0} (D : Discipline X N) (law : Lawful D) where
-  -- the view changes in nothing that the slots see
-  unmoved : (S : State) (hs : List (m.Option X)) (vs : List (View N)) (v w : View N) → D.clause S hs vs → get_elem? vs 0 ≡ some v → w.board ≡ v.board
-      → w.note ≡ v.note → w.claim ≡ v.claim → D.clause S hs (set vs 0 w)
-  unmoved S hs vs v w c at b n l = law.stays S S hs vs 0 v w c (unchanged S) at (b, n, l)
-
   -- the first n slots go out, the last of them first
   takes_down : (S : State) (n : ℕ) (hs : List (m.Option X)) (vs : List (View N)) (v : View N) (c : List (ℕ × X)) → AtRest S → D.clause S hs vs
       → get_elem? vs 0 ≡ some v → n ≤ length hs → ((k : ℕ) → k < n → D.may_take (spot_at v.board k))
@@ -56,7 +51,7 @@ module _ {X N : Type 0} (D : Discipline X N) (law : Lawful D) where
     tt,
     refl,
     refl,
-    unmoved S hs vs v w held at b nt cl,
+    law.stays S S hs vs 0 v w held (unchanged S) at (b, nt, cl),
     λ k y e. absurd (some-ne-none y (sym e)),
   )
   takes_down S (suc n) hs vs v c rest held at le may w b nt cl = let u : View N = record v { board = (n, spot.Out) ∷ v.board } in
@@ -82,7 +77,7 @@ module _ {X N : Type 0} (D : Discipline X N) (law : Lawful D) where
       → get_elem? vs 0 ≡ some v → MayPutAll D S.round c v.board
       → (w : View N) → w.board ≡ board_back D S.round c v.board → w.note ≡ v.note → w.claim ≡ v.claim
       → (a : Act X) × Valid hs c a × (carried_after c a ≡ []) × D.clause S (homes_after hs c a) (set vs 0 w)
-  gives_down S [] hs vs v rest held at may w b nt cl = (Act.keeps, tt, refl, unmoved S hs vs v w held at b nt cl)
+  gives_down S [] hs vs v rest held at may w b nt cl = (Act.keeps, tt, refl, law.stays S S hs vs 0 v w held (unchanged S) at (b, nt, cl))
   gives_down S (x ∷ c) hs vs v rest held at may w b nt cl = let u : View N = record v { board = (x.0, D.spot_of S.round x.1) ∷ v.board } in
       let one = law.puts S hs vs v u x.0 x.1 held rest at may.0 (refl, refl, refl) in
       let more = gives_down S c (set hs x.0 (some x.1)) (set vs 0 u) u rest one (first_set vs u v at) may.1 w b nt cl in

@@ -30,10 +30,6 @@ shown_deed r n b (_ ∷ ds) e = inr (shown_deed r n b ds e)
 pub published_last : {N : Type 0} (v : View N) (r n : ℕ) (older : List Deed) → published_of v.trail ≡ Showed r n false ∷ older → HasPublished v r n
 published_last v r n older is = shown_deed r n false (deeds_of v.trail) (subst (IsDeed (Showed r n false)) (sym is) (inl refl))
 
-abbrev head_or : {A : Type 0} → A → List A → A
-head_or a [] = a
-head_or a (x ∷ xs) = x
-
 module _ {X : Type 0} where
   -- the slots from i on, each under its number
   pub numbered_at : (ys : List X) (i k : ℕ) (c : List (ℕ × X)) (y : X) → get_elem? ys k ≡ some y → get_elem? (numbered i ys c) k ≡ some (i + k, y)
@@ -49,8 +45,7 @@ module _ {X : Type 0} where
 
   -- there is one value at the hand
   pub one_at_hand : (c : List (ℕ × X)) (k : ℕ) (y z : X) → IsAtHand k y c → IsAtHand k z c → y ≡ z
-  one_at_hand [] k y z a b = absurd cc
-  one_at_hand (x ∷ c) k y z a b = let first : (k, y) ≡ (k, z) = ap (λ (l : List (ℕ × X)). head_or x l) (sym a ∙ b) in ap (λ (p : ℕ × X). p.1) first
+  one_at_hand c k y z a b = let first : (k, y) ≡ (k, z) = cc in ap (λ (p : ℕ × X). p.1) first
 
   -- behind the slots from i on
   numbered_behind : (i : ℕ) (ys : List X) (c d : List (ℕ × X)) → numbered i ys c ++ d ≡ numbered i ys (c ++ d)

@@ -2,7 +2,7 @@
 use Rattle.std.proofs.Common.{◌≡◌, ◌≢◌, ◌⊎◌, inl, inr, ⊎_elim, ℕ, zero, suc, ◌<◌, ◌≤◌, Bool, true, false, List, [], ◌∷◌, ◌++◌}
 use Rattle.std.proofs.Common.{sym, refl, ap, ◌∙◌, subst, arith, Option, Some, None, if◌then◌else◌, ◌==◌}
 use mathlib.Core.Logic.{dite}
-use native.Mathlib.Decide.{ℕ_discrete}
+use native.Mathlib.Decide.{ℕ_discrete, dec_le}
 use Rattle.spindle_parts.specs.State.{State, Party, Round, now, party, times, put, members, put_party, Out}
 use Rattle.spindle_parts.specs.Steps.{Event, Publish, PublishTry, Begin, Finish, Stop, See, Exit, with_status, Allowed, after, by, arrived, publish, ended_by}
 use Rattle.spindle_parts.specs.Runs.{state, IsRun}
@@ -16,10 +16,7 @@ use Rattle.spindle_rounds.proofs.RoundWords.{by_equal}
 use Rattle.spindle_rounds.proofs.RoundMoves.{untrue}
 
 apart : (a b : ℕ) → a ≢ b → (a < b) ⊎ (b < a)
-apart zero zero n = absurd (n refl)
-apart zero (suc b) n = inl (omega arith)
-apart (suc a) zero n = inr (omega arith)
-apart (suc a) (suc b) n = ⊎_elim (λ lt. inl (omega arith)) (λ lt. inr (omega arith)) (apart a b (λ e. n (ap suc e)))
+apart a b n = dite (dec_le b a) (λ le. inr (omega arith)) (λ no. inl (omega arith))
 
 -- nothing runs while nothing is published and nobody closes
 pub at_rest : (s : State) → Sound s → s.published ≡ None → s.closer ≡ None → AtRest s
@@ -54,34 +51,26 @@ module _ (b : Bool) where
     pub some : 2 ≤ n
     pub past : r ≤ s.round
 
+  still_shown : (s s' : State) (r n : ℕ) → (s'.rounds r).jobs ≡ (s.rounds r).jobs → (s'.rounds r).stoppable ≡ (s.rounds r).stoppable → s.round ≤ s'.round
+      → WasShown s r n → WasShown s' r n
+  still_shown s s' r n jobs may le w = let a = w.past in record { jobs = jobs ∙ w.jobs; may_stop = may ∙ w.may_stop; some = w.some; past = omega arith }
+
   same_shown : (s s' : State) (r n : ℕ) → s'.rounds ≡ s.rounds → s.round ≤ s'.round → WasShown s r n → WasShown s' r n
-  same_shown s s' r n e le w = let a = w.past in record {
-    jobs = ap (λ (f : ℕ → Round). (f r).jobs) e ∙ w.jobs;
-    may_stop = ap (λ (f : ℕ → Round). (f r).stoppable) e ∙ w.may_stop;
-    some = w.some;
-    past = omega arith;
-  }
+  same_shown s s' r n e le w = still_shown s s' r n (ap (λ (f : ℕ → Round). (f r).jobs) e) (ap (λ (f : ℕ → Round). (f r).stoppable) e) le w
 
   put_shown : (s s' : State) (x : Round) (r n : ℕ) → s'.rounds ≡ put s.rounds s.round x → s'.round ≡ s.round → x.jobs ≡ (now s).jobs
       → x.stoppable ≡ (now s).stoppable → WasShown s r n → WasShown s' r n
-  put_shown s s' x r n e same j b w = let a = w.past in record {
-    jobs = ap (λ (f : ℕ → Round). (f r).jobs) e ∙ (put_all (λ i (z : Round). z.jobs ≡ (s.rounds i).jobs) s.rounds s.round x j (λ i n. refl) r ∙ w.jobs);
-    may_stop = ap (λ (f : ℕ → Round). (f r).stoppable) e ∙ (put_all (λ i (z : Round). z.stoppable ≡ (s.rounds i).stoppable) s.rounds s.round x b (λ i n. refl) r
-        ∙ w.may_stop);
-    some = w.some;
-    past = omega arith;
-  }
+  put_shown s s' x r n e same j b w = still_shown s s' r n
+      (ap (λ (f : ℕ → Round). (f r).jobs) e ∙ put_all (λ i (z : Round). z.jobs ≡ (s.rounds i).jobs) s.rounds s.round x j (λ i n. refl) r)
+      (ap (λ (f : ℕ → Round). (f r).stoppable) e ∙ put_all (λ i (z : Round). z.stoppable ≡ (s.rounds i).stoppable) s.rounds s.round x b (λ i n. refl) r)
+      (omega arith) w
 
   -- another publish is of another round
   publish_shown : (s s' : State) (x : Round) → s'.rounds ≡ put s.rounds s.round x → s'.round ≡ s.round → (now s).jobs ≡ 0 → (r n : ℕ) → WasShown s r n
       → WasShown s' r n
   publish_shown s s' x e same none_yet r n w = let other : r ≢ s.round = (λ z. let a = ap (λ (i : ℕ). (s.rounds i).jobs) z in let b = w.jobs in
-      let c = w.some in omega arith) in let a = w.past in record {
-        jobs = ap (λ (f : ℕ → Round). (f r).jobs) e ∙ (ap (λ (z : Round). z.jobs) (put_else s.rounds s.round x r other) ∙ w.jobs);
-        may_stop = ap (λ (f : ℕ → Round). (f r).stoppable) e ∙ (ap (λ (z : Round). z.stoppable) (put_else s.rounds s.round x r other) ∙ w.may_stop);
-        some = w.some;
-        past = omega arith;
-      }
+      let c = w.some in omega arith) in let same_record : s'.rounds r ≡ s.rounds r = ap (λ (f : ℕ → Round). f r) e ∙ put_else s.rounds s.round x r other in
+      still_shown s s' r n (ap (λ (z : Round). z.jobs) same_record) (ap (λ (z : Round). z.stoppable) same_record) (omega arith) w
 
   keeps_shown : (s : State) → Sound s → (e : Event) → Allowed s e → (r n : ℕ) → WasShown s r n → WasShown (after s e) r n
   keeps_shown s h (Publish p m) ok r n w = publish_shown s (after s (Publish p m)) (record (now s) { jobs = m; stoppable = false }) refl refl

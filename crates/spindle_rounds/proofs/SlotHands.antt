@@ -56,13 +56,8 @@ module _ {X : Type 0} where
   }
 
 module _ {P : Type 0} where
-  filled_piece : Spot P → P → P
-  filled_piece (Filled r x) z = x
-  filled_piece _ z = z
-
   pub same_piece : (b : List (ℕ × Spot P)) (k q r : ℕ) (x z : P) → spot_at b k ≡ Filled q x → spot_at b k ≡ Filled r z → x ≡ z
-  unfolding filled_piece
-  same_piece b k q r x z e f = ap (λ (p : Spot P). filled_piece p x) (sym e ∙ f)
+  same_piece b k q r x z e f = cc
 
 module _ {P A : Type 0} (answers : P → A → Type 0) where
   abbrev Slot : Type 0
