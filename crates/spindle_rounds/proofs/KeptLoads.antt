@@ -79,15 +79,15 @@ module _ {X N : Type 0} (D : Discipline X N) (law : Lawful D) (t : ℕ) where
   pub learns : (slots id : ℕ) (me : SeatOf D t) → PlainLoad D t slots id me published_at LearnTells
   learns slots id me = turns D law t slots id me published_at (λ n. n) [] learning (step slots published_at 0 0 none) (λ run s b. let r = b.rule in
       let at = b.at in let x : ℕ = get_or s.words published_at 0 in let S : State = state run in let h = sound run r.is_run in
+      let number : (n : ℕ) → (if x == 0 then None else Some (x % high_half)) ≡ Some n → (S.published ≡ Some n) × ((now S).stoppable ≡ nat_lt most_jobs x) =
+      (λ n. by_equal x 0 (λ b. (if b then None else Some (x % high_half)) ≡ Some n → (S.published ≡ Some n) × ((now S).stoppable ≡ nat_lt most_jobs x))
+      (λ _ z. absurd cc) (λ not_zero z. read S.published (now S).stoppable x n r.words.published not_zero (λ m y. let a = h.gate.shown m y in (a.1, a.2)) z)) in
       let shows = (r.seats id me.0 at).0 in stays D law t run s r published_at id me (learning x me.0) at (refl, refl, refl)
       (shown shows.stands shows.leads shows.claim shows.share (λ q e. let k = shows.inside q e in let st = subst (Stands S id) e shows.stands in knowing
-      (λ n. by_equal x 0 (λ b. (if b then None else Some (x % high_half)) ≡ Some n → (S.published ≡ Some n) × ((now S).stoppable ≡ nat_lt most_jobs x))
-      (λ _ z. absurd cc) (λ not_zero z. read S.published (now S).stoppable x n r.words.published not_zero (λ m y. let a = h.gate.shown m y in (a.1, a.2)) z))
-      k.unpublished
+      number k.unpublished
       (by_less most_jobs x (λ b. (now S).seen id ≡ (if b then me.0.known.seen_stop else false)) (λ _. k.seen)
       (λ le. untrue ((now S).seen id) (λ saw. plain S h st.0 x r.words.published le saw)))
-      (λ n i e' l. still_empty k n i (by_equal x 0 (λ b. (if b then None else Some (x % high_half)) ≡ Some n → S.published ≡ Some n) (λ _ z. absurd cc)
-      (λ not_zero z. (read S.published (now S).stoppable x n r.words.published not_zero (λ m y. let a = h.gate.shown m y in (a.1, a.2)) z).0) e') l)
+      (λ n i e' l. still_empty k n i (number n e').0 l)
       (by_equal x 0 (λ b. (if b then None else Some (x % high_half)) ≡ None → me.0.known.emptied ≡ [])
       (λ zero_read _. unread_yet k (hidden S.published (now S).stoppable x r.words.published zero_read (λ m y. (h.gate.shown m y).1))) (λ _ z. absurd cc))))
       refl refl (inr refl) refl)

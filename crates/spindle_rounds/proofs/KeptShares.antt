@@ -1,5 +1,5 @@
 -- The store with which the first number of a share begins.
-use Rattle.std.proofs.Common.{◌≡◌, ◌≢◌, ◌⊎◌, inr, ⊎_elim, ℕ, ◌+◌, ◌<◌, ◌≤◌, Bool, true, false, eq-eqb, List, [], ◌∷◌, ◌++◌, set}
+use Rattle.std.proofs.Common.{◌≡◌, ◌≢◌, inr, ℕ, ◌+◌, ◌<◌, ◌≤◌, Bool, true, false, eq-eqb, List, [], ◌∷◌, ◌++◌, set}
 use Rattle.std.proofs.Common.{get_or-set_other, sym, refl, ap, ◌∙◌, subst, arith, Option, Some, None, if◌then◌else◌}
 use mathlib.Core.Logic.{dite}
 use native.Mathlib.Decide.{ℕ_discrete}
@@ -7,7 +7,7 @@ use Rattle.spindle_parts.specs.State.{State, Party, Round, put, now, party, time
 use Rattle.spindle_parts.specs.Steps.{Begin, after}
 use Rattle.spindle_parts.specs.Runs.{state}
 use Rattle.spindle_parts.proofs.Fates.{Held, started, over}
-use Rattle.spindle_parts.proofs.Parties.{put_here, put_else, put_all, look_here, times_same, times_else}
+use Rattle.spindle_parts.proofs.Parties.{put_here, put_else, look_here, times_same, times_else}
 use Rattle.spindle_parts.proofs.Soundness.{Sound, sound}
 use Rattle.spindle_rounds.specs.declared.round_table.view.View.{View}
 use Rattle.spindle_rounds.specs.RoundSlots.{Discipline, Lawful, Begins}
@@ -62,8 +62,7 @@ module _ (S : State) (h : Sound S) (id k : ℕ) (held : (party S id).taken k ≡
       (subst (λ (z : Round). j < z.jobs) its_round f.0, sym (times_else j (now S).begun k n) ∙ (sym c ∙ f.1), λ a. sym (taken_else j a n) ∙ f.2 a)
 
   pub words_after : (t i x : ℕ) (ws : List ℕ) → range_at t ≤ i → Words t S ws → Words t begun (set ws i x)
-  words_after t i x ws high w = later_words t S begun ws i x _ (omega arith) w refl its_round refl refl refl
-      (word_stays S id without refl begun refl refl)
+  words_after t i x ws high w = later_words t S begun ws i x _ (omega arith) w refl its_round refl refl refl (word_stays S id without refl begun refl refl)
       (λ n e. counters_stay t S begun ws (set ws i x) n (get_or-set_other ws i remainder_at x 0 (λ z. omega arith))
       (λ j lt. get_or-set_other ws i (range_at j) x 0 (λ z. omega arith)) free_on free_back (λ on. sym (ap (λ (z : Round). z.stopped) its_round) ∙ on)
       (w.counters n e))

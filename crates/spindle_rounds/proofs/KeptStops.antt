@@ -163,8 +163,7 @@ module _ (S : State) (h : Sound S) (id from to : ℕ) (share : IsShare (party S 
     -- a number in a range afterwards is of the share, or was in that range
     which : (a j : ℕ) → InRange after_put a j → ((a ≡ i) × ((from ≤ j) × (j < to))) ⊎ ((a ≢ i) × InRange ws a j)
     which a j z = dite (ℕ_discrete a i) (λ e. let z' : IsWithin new j = subst (λ (w : ℕ). IsWithin w j)
-        (range_here ws i new a deep e) z in let z₀ = z'.0 in let z₁ = z'.1 in
-        inl (e, (omega arith, omega arith)))
+        (range_here ws i new a deep e) z in let z₀ = z'.0 in let z₁ = z'.1 in inl (e, (omega arith, omega arith)))
         (λ ne. inr (ne, subst (λ (w : ℕ). IsWithin w j) (range_else ws i new a ne) z))
 
     into : (j : ℕ) → (from ≤ j) × (j < to) → InRange after_put i j
@@ -193,8 +192,7 @@ module _ (S : State) (h : Sound S) (id from to : ℕ) (share : IsShare (party S 
           (λ (y' : (b ≢ i) × InRange ws b j). c.apart a b j la lb x'.1 y'.1) (which b j y)) (which a j x);
       remainder_apart = λ a j lt x y. ⊎_elim (λ (x' : (a ≡ i) × ((from ≤ j) × (j < to))). not_shared j (c.remainder j (rest_was j y)) x'.1)
           (λ (x' : (a ≢ i) × InRange ws a j). c.remainder_apart a j lt x'.1 (rest_was j y)) (which a j x);
-      ordered = λ a lt. dite (ℕ_discrete a i) (λ e. subst (λ (w : ℕ). start_of w ≤ end_of w)
-          (sym (range_here ws i new a deep e)) (omega arith))
+      ordered = λ a lt. dite (ℕ_discrete a i) (λ e. subst (λ (w : ℕ). start_of w ≤ end_of w) (sym (range_here ws i new a deep e)) (omega arith))
           (λ ne. subst (λ (w : ℕ). start_of w ≤ end_of w) (sym (range_else ws i new a ne)) (c.ordered a lt));
     }
 

@@ -1,6 +1,6 @@
 -- A party takes a set of free numbers and begins one of them in the same step: what becomes of the state and of the counters.
 use Rattle.std.proofs.Common.{◌≡◌, ◌≢◌, ◌⊎◌, inl, inr, ⊎_elim, ℕ, ◌<◌, ◌≤◌, Bool, true, false, ◌||◌, List, [], ◌∷◌, ◌++◌, length, get_or, set}
-use Rattle.std.proofs.Common.{get_or-set_same, get_or-set_other, sym, refl, ap, ◌∙◌, subst, arith, Option, Some}
+use Rattle.std.proofs.Common.{get_or-set_other, sym, refl, ap, ◌∙◌, subst, arith, Option, Some}
 use mathlib.Core.Logic.{dite}
 use native.Mathlib.Decide.{ℕ_discrete}
 use Rattle.spindle_parts.specs.State.{State, Party, Round, put, now, party, times, Free}
@@ -125,8 +125,7 @@ module _ (S : State) (id k : ℕ) (some : ℕ → Bool) (mine : some k ≡ true)
       let rest_same : get_or ws' remainder_at 0 ≡ get_or ws remainder_at 0 = get_or-set_other ws (range_at i) remainder_at new 0 (λ e. omega arith) in
       let none : (j : ℕ) → (some j ≡ true → ⊥) → some j ≡ false = (λ j n. ⊎_elim (λ e. absurd (n e)) (λ e. e) (true_or (some j))) in taken_counters t n ws ws' c
       (λ a j lt z. dite (ℕ_discrete a i)
-      (λ e. let now_is = range_here ws i new a deep e in
-      let b = less j (subst (λ (w : ℕ). IsWithin w j) now_is z) in
+      (λ e. let now_is = range_here ws i new a deep e in let b = less j (subst (λ (w : ℕ). IsWithin w j) now_is z) in
       (subst (λ (w : ℕ). IsWithin w j) (sym (ap (λ (b : ℕ). get_or ws (range_at b) 0) e ∙ is)) b.0, b.1))
       (λ other. let z' : InRange ws a j = subst (λ (w : ℕ). IsWithin w j) (range_else ws i new a other) z in
       (z', none j (λ e. other (c.apart a i j lt low z' (subst (λ (w : ℕ). IsWithin w j) (sym is) (all j e)))))))
