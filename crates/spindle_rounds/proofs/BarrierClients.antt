@@ -41,7 +41,7 @@ use Rattle.spindle_rounds.specs.declared.barrier.waiting.ExitStatus.{ExitStatus}
 use Rattle.spindle_rounds.specs.declared.barrier.waiting.ExitStatus.TheVariants as status
 use Rattle.spindle_rounds.specs.Holding.{IsHeld, Keeps, AwaitTold, StatusTold}
 use Rattle.spindle_rounds.specs.Passing.{Moved, Stayed, InNext, WentOut, TurnsOn}
-use Rattle.spindle_rounds.proofs.RoundWords.{never}
+use Rattle.spindle_rounds.proofs.RoundWords.{and_false}
 
 module _ {N : Type 0} (v : View N) (q : ℕ) (quiet : Bool) (waits : v.standing ≡ Waiting q quiet) (n : ℕ) where
   -- its own sense isn't in the word: the round goes on
@@ -141,7 +141,7 @@ module _ {S N : Type 0} where
     -- Exits.
     pub exit_gone : ExitedBy exit.Gone m w → WentOut m w
     exit_gone a = ⊎_elim (λ (e : count_of a.0 ≢ 1). rw (a.1, ne_eqb (count_of a.0) 1 e) (moved_twice _ _ m a.0 _ refl))
-        (λ (e : most_of a.0 ≤ 1). rw (a.1, le-ltb 1 (most_of a.0) e, never (count_of a.0 == 1)) (moved_twice _ _ m a.0 _ refl)) a.2
+        (λ (e : most_of a.0 ≤ 1). rw (a.1, le-ltb 1 (most_of a.0) e, and_false (count_of a.0 == 1)) (moved_twice _ _ m a.0 _ refl)) a.2
 
     pub exit_closer : ExitedBy exit.Closer m w → Moved (Closing (round_of m.0.standing) false false None) (unknown false false) m w
     exit_closer a = rw (a.1, eq-eqb (count_of a.0) 1 a.2, lt-ltb 1 (most_of a.0) a.3) (moved_twice _ _ m a.0 _ refl)

@@ -20,7 +20,8 @@ use Rattle.spindle_rounds.specs.RoundSteps.{round_of, unknown, standing, loading
 use Rattle.spindle_rounds.specs.RoundTells.{JoinTells, ArrivalTells, LookTells, CloserReadTells}
 use Rattle.spindle_rounds.specs.RoundConditions.{IsDone}
 use Rattle.spindle_rounds.specs.RoundRuns.{PlainLoad, Exchange, Subtraction}
-use Rattle.spindle_rounds.proofs.RoundMoves.{Rule, SeatOf, Before, turns, reads, hits, misses, moves, stays, noted_shows, untrue, shown, knows_none, reseated}
+use Rattle.spindle_rounds.proofs.RoundMoves.{Rule, SeatOf, Before, turns, reads, hits, misses, moves, stays, noted_shows, untrue, shows_by}
+use Rattle.spindle_rounds.proofs.RoundMoves.{knows_none, reseated}
 use Rattle.spindle_rounds.proofs.RoundWords.{word_fields, by_equal, status_words}
 use Rattle.spindle_rounds.proofs.KeptLoads.{used_up}
 
@@ -138,7 +139,7 @@ module _ {X N : Type 0} (D : Discipline X N) (law : Lawful D) (t : ℕ) where
               (⊎_elim (λ (a : ((party S id).status ≡ Arrived) × (S.round ≡ q) × (S.closer ≢ Some id) ×
               (quiet ≡ true → (id ≡ 0) × (S.published ≡ None))). let a₁ = a.1 in absurd (over (sense ∙ ap (λ (z : ℕ). z % 2) (a₁ ∙ sym own))))
               (λ (a : ((party S id).status ≡ In) × (S.round ≡ suc q) × (id ≡ 0 → S.published ≡ None) × ((now S).seen id ≡ false)). let a₁ = a.1 in
-              shown (a.0, omega arith) shows.leads shows.claim shows.share
+              shows_by (a.0, omega arith) shows.leads shows.claim shows.share
               (λ _ _. knows_none me.0.leader false (λ lead. (shows.leads.0 lead, a.2 (shows.leads.0 lead))) a.3)) st) refl refl (inl refl) refl),
           (refl, refl, f.small),
         );
@@ -151,7 +152,7 @@ module _ {X N : Type 0} (D : Discipline X N) (law : Lawful D) (t : ℕ) where
       (λ run s b. let r = b.rule in let x : ℕ = get_or s.words barrier_at 0 in let S : State = state run in
       let f = word_fields S (sound run r.is_run) x r.words.barrier in let shows = (r.seats id me.0 b.at).0 in
       let st = subst (Stands S id) closes shows.stands in let is : with_word x me.0.standing ≡ Closing q member cleared (Some x) = ap (with_word x) closes in (
-        shown (subst (Stands S id) (sym is) (st.0, st.1, st.2, st.3, λ n e. let same : x ≡ n = cc in sym r.words.barrier ∙ same))
+        shows_by (subst (Stands S id) (sym is) (st.0, st.1, st.2, st.3, λ n e. let same : x ≡ n = cc in sym r.words.barrier ∙ same))
             shows.leads shows.claim shows.share (λ q' e. let no : Closing q member cleared (Some x) ≡ Inside q' = sym is ∙ e in absurd cc),
         (refl, refl, f.small),
       ))

@@ -20,7 +20,7 @@ use Rattle.spindle_rounds.specs.RoundSteps.{round_of, beginning, claiming}
 use Rattle.spindle_rounds.specs.RoundTells.{ClaimTells}
 use Rattle.spindle_rounds.specs.RoundConditions.{MayClaim}
 use Rattle.spindle_rounds.specs.RoundRuns.{Exchange, claim_of}
-use Rattle.spindle_rounds.proofs.RoundMoves.{Rule, SeatOf, Before, begins_by, moves_with, still_laid, shown, knows_on}
+use Rattle.spindle_rounds.proofs.RoundMoves.{Rule, SeatOf, Before, begins_by, moves_with, still_laid, shows_by, knows_on}
 use Rattle.spindle_rounds.proofs.RoundNumbers.{or_false, or_right, true_or, with_some, taken_first, then_begun, first_party, last_party, last_round, last_words}
 use Rattle.spindle_rounds.proofs.RoundNumbers.{was_free, range_taken, begun_here}
 
@@ -66,7 +66,7 @@ module _ {X N : Type 0} (D : Discipline X N) (law : Lawful D) (t slots id : ℕ)
         moves_with D t run s r i new id me (claimer b'.0) b'.1 (Begin id k ∷ Take id some ∷ []) at (refl, (refl, tt)) (began, (took, r.is_run))
             (last_words S id k some take.mine t s.words i new take.high r.words (λ m e. let same : n ≡ m = (let z = is_shown in cc) in
             subst (Counters t S' (set s.words i new)) same (take.less S id s.words c r.words.wide hit)))
-            (shown (subst (Stands S' id) (sym inside_q) (ap (λ (z : Party). z.status) last ∙ st.0, st.1)) shows.leads (ap (λ (z : Party). z.running) last)
+            (shows_by (subst (Stands S' id) (sym inside_q) (ap (λ (z : Party). z.status) last ∙ st.0, st.1)) shows.leads (ap (λ (z : Party). z.running) last)
             (subst (λ (f : ℕ → Bool). IsShare f from to) (sym (ap (λ (z : Party). z.taken) last)) (λ j. dite (ℕ_discrete j k)
             (λ e. ((λ on. let a = put_here y k false in let b = ap (put y k false) e in absurd cc), (λ z. absurd (((take.kept j).1 z).1 e))))
             (λ apart. (

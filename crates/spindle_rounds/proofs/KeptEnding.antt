@@ -29,8 +29,8 @@ use Rattle.spindle_rounds.specs.RoundTells.{ExitTells, ClearTells, EndTells}
 use Rattle.spindle_rounds.specs.RoundConditions.{MayExit}
 use Rattle.spindle_rounds.specs.RoundRuns.{Exchange, Store}
 use Rattle.spindle_rounds.proofs.RoundQuiet.{quiet_run}
-use Rattle.spindle_rounds.proofs.RoundMoves.{Rule, SeatOf, Before, exchanges, stores, moves, moves_with, stands_on, shown, knows_none, reseated, laid_hidden}
-use Rattle.spindle_rounds.proofs.RoundWords.{word_fields, status_words, by_equal, hidden_shown, never}
+use Rattle.spindle_rounds.proofs.RoundMoves.{Rule, SeatOf, Before, exchanges, stores, moves, moves_with, stands_on, shows_by, knows_none, reseated, laid_hidden}
+use Rattle.spindle_rounds.proofs.RoundWords.{word_fields, status_words, by_equal, hidden_shown, and_false}
 use Rattle.spindle_rounds.proofs.KeptBarrier.{idle_seat, no_deed}
 
 -- nothing is published before or after a step on the barrier word
@@ -69,7 +69,7 @@ module _ {X N : Type 0} (D : Discipline X N) (law : Lawful D) (t : ℕ) where
           Words t s' (set s.words barrier_at (exit_word old)) × Shows s' id (exiting old me.0) × (s'.published ≡ S.published))
           (λ sole. let hidden = alone_hidden S h id st.0 ok.2 sole in let one : most_of old ≡ 1 = omega arith in
           let new : exit_word old ≡ sense_bit * (1 - sense_of old) = rw (eq-eqb (most_of old) 1 one) in
-          let away : Shows on id (exiting old me.0) = rw (le-ltb 1 (most_of old) (omega arith), never (count_of old == 1))
+          let away : Shows on id (exiting old me.0) = rw (le-ltb 1 (most_of old) (omega arith), and_false (count_of old == 1))
           (reseated _ Away _ shows look (ap (λ (z : Party). z.status) look, λ e. cc) (λ _ e. cc)) in
           (hidden_words t S on s.words (exit_word old) r.words hidden hidden (new ∙ omega arith), away, refl))
           (λ others. let more : most_of old ≢ 1 = (λ e. others (omega arith)) in let new : exit_word old ≡ old - one_party = rw (ne_eqb (most_of old) 1 more) in
@@ -158,7 +158,7 @@ module _ {X N : Type 0} (D : Discipline X N) (law : Lawful D) (t : ℕ) where
           (hidden_shown (length-set s.words published_at 0 ∙ r.words.wide)
           (get_or-set_other s.words published_at barrier_at 0 0 (λ e. omega arith) ∙ r.words.barrier)
           (get_or-set_same s.words published_at 0 0 (omega arith)) refl)
-          (shown (subst (Stands (after S (Clear id)) id) (sym is) (st.0, st.1, (λ _. refl), st.3, st.4)) shows.leads shows.claim shows.share
+          (shows_by (subst (Stands (after S (Clear id)) id) (sym is) (st.0, st.1, (λ _. refl), st.3, st.4)) shows.leads shows.claim shows.share
           (λ q' e. let no : Closing q member true read ≡ Inside q' = sym is ∙ e in absurd cc))
           (seat.1 ∙ sym (no_deed id (deeds id run))) refl
           (λ v e. ⊎_elim (λ (z : (0 ≡ id) × (w ≡ v)). let l = r.lays me.0 (subst (λ (a : ℕ). get_elem? s.views a ≡ some me.0) (sym z.0) at) in

@@ -27,7 +27,7 @@ use Rattle.spindle_rounds.specs.RoundSteps.{round_of, filling, publish_word, pub
 use Rattle.spindle_rounds.specs.RoundTells.{FillTells, PublishTells, PublishTryTells}
 use Rattle.spindle_rounds.specs.RoundRuns.{Store}
 use Rattle.spindle_rounds.proofs.RoundQuiet.{unchanged}
-use Rattle.spindle_rounds.proofs.RoundMoves.{Rule, SeatOf, Before, stores, moves_with, untrue, shown, knowing, laid_hidden}
+use Rattle.spindle_rounds.proofs.RoundMoves.{Rule, SeatOf, Before, stores, moves_with, untrue, shows_by, knows_by, laid_hidden}
 use Rattle.spindle_rounds.proofs.RoundWords.{by_equal, by_less, hidden_shown}
 
 module _ {X N : Type 0} (D : Discipline X N) (law : Lawful D) (t : ℕ) where
@@ -41,7 +41,7 @@ module _ {X N : Type 0} (D : Discipline X N) (law : Lawful D) (t : ℕ) where
       (λ k lt. get_or-set_other s.words i k x 0 (λ e. omega arith)) in moves_with D t run s r i x id me w keeps [] at tt r.is_run
       (hidden_shown (length-set s.words i x ∙ r.words.wide) (other barrier_at (omega arith) ∙ r.words.barrier)
       (other published_at (omega arith) ∙ r.words.published) hidden)
-      (shown shows.stands shows.leads shows.claim shows.share (λ q e. let k = shows.inside q e in knowing k.number k.unpublished k.seen k.emptied k.unread))
+      (shows_by shows.stands shows.leads shows.claim shows.share (λ q e. let k = shows.inside q e in knows_by k.number k.unpublished k.seen k.emptied k.unread))
       seat.1 refl
       (λ v e. ⊎_elim (λ (h : (0 ≡ id) × (w ≡ v)). let l = r.lays me.0 (subst (λ (a : ℕ). get_elem? s.views a ≡ some me.0) (sym h.0) at) in
       subst (Laid t S (set s.words i x)) h.1
@@ -135,7 +135,8 @@ module _ {X N : Type 0} (D : Discipline X N) (law : Lawful D) (t slots id : ℕ)
       let only = (shows.inside q inside_q).unpublished alone in let hidden = only.1 in let w : View N = publishing may_stop n me.0 in let wide = r.words.wide in
       let zero_jobs = h.gate.hidden hidden (no_closer S h id st.0) in let e : Event = shows_number may_stop id n in let S' : State = publish S may_stop n in
       let R : Round = record (now S) { jobs = n; stoppable = may_stop } in let now_is : now S' ≡ R = put_here S.rounds S.round R in
-      let it = shows_as may_stop S n id in let is : S' ≡ after S e = sym it.0 in let laid = r.lays me.0 (subst (λ (a : ℕ). get_elem? s.views a ≡ some me.0) only.0 at) in
+      let it = shows_as may_stop S n id in let is : S' ≡ after S e = sym it.0 in
+      let laid = r.lays me.0 (subst (λ (a : ℕ). get_elem? s.views a ≡ some me.0) only.0 at) in
       let stored : (j : ℕ) → j < 3 + t → get_or s.words (filled_at j) 0 ≡ fill_value t n j =
       (λ j lt. (laid.stored (filled_at j) (fill_value t n j) (full j lt)).1) in
       let other : (i : ℕ) → i ≢ published_at → get_or (set s.words published_at x) i 0 ≡ get_or s.words i 0 =
@@ -160,7 +161,7 @@ module _ {X N : Type 0} (D : Discipline X N) (law : Lawful D) (t slots id : ℕ)
             other (range_at i) (λ z. omega arith) ∙ (ap (λ (z : ℕ). get_or s.words z 0) j ∙ stored (suc (suc (suc i))) (omega arith))));
         barren = λ z. absurd (omega arith);
       })
-      (subst (λ (z : State). Shows z id w) is (shown (subst (Stands S' id) (sym inside_q) (st.0, st.1)) shows.leads shows.claim shows.share (λ a e. knowing
+      (subst (λ (z : State). Shows z id w) is (shows_by (subst (Stands S' id) (sym inside_q) (st.0, st.1)) shows.leads shows.claim shows.share (λ a e. knows_by
       (λ m e. let a : n ≡ m = cc in (ap (λ (z : ℕ). Some z) a, ap (λ (z : Round). z.stoppable) now_is)) (λ e. absurd cc)
       (ap (λ (z : Round). z.seen id) now_is ∙ untrue ((now S).seen id) (λ saw. let a = h.work.saw id saw in absurd cc)) (λ _ _ _ l. absurd l) (λ _. refl))))
       ((λ z. Showed (sym own z) n may_stop ∷ seat.1 z) ∙ sym (ap (λ (b : Bool). (if b then deed S e else []) ++ deeds id run)

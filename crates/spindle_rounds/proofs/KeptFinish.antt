@@ -19,7 +19,7 @@ use Rattle.spindle_rounds.specs.RoundSteps.{round_of, number_or, list_all, list_
 use Rattle.spindle_rounds.specs.RoundTells.{FinishTells}
 use Rattle.spindle_rounds.specs.RoundConditions.{MayFinish}
 use Rattle.spindle_rounds.specs.RoundRuns.{Addition}
-use Rattle.spindle_rounds.proofs.RoundMoves.{SeatOf, moves_with, still_laid, shown, knowing, knows_on}
+use Rattle.spindle_rounds.proofs.RoundMoves.{SeatOf, moves_with, still_laid, shows_by, knows_by, knows_on}
 use Rattle.spindle_rounds.proofs.RoundWords.{by_equal, word_stays, counters_stay, taken_put}
 use Rattle.spindle_rounds.proofs.RoundChanges.{changed_words, some_published}
 
@@ -179,11 +179,12 @@ module _ {X N : Type 0} (D : Discipline X N) (law : Lawful D) (t : ℕ) where
           g.0,
           moves_with D t run s r finished_at ((x + 1) % 18446744073709551616) id me w D.gives (Finish id ∷ []) at (refl, tt) ((k, runs), r.is_run)
               (words_after S id k runs t s.words ((x + 1) % 18446744073709551616) r.words is_shown new)
-              (shown (subst (Stands S' id) (sym may.0.1) (ap (λ (z : Party). z.status) look ∙ st.0, st.1)) shows.leads (ap (λ (z : Party). z.running) look)
+              (shows_by (subst (Stands S' id) (sym may.0.1) (ap (λ (z : Party). z.status) look ∙ st.0, st.1)) shows.leads (ap (λ (z : Party). z.running) look)
               (λ j. subst (λ (z : Bool). ((z ≡ true) → (me.0.from ≤ j) × (j < me.0.to)) × ((me.0.from ≤ j) × (j < me.0.to) → z ≡ true))
               (sym (taken_same S id k runs id j)) (shows.share j))
               (λ a e. let old : Knows me.0.threads S' id me.0.known = knows_on knows refl round refl refl refl (free_back S id k runs) in
-              knowing old.number old.unpublished old.seen (λ m j e l. listed_finished me.0.known.number m (x + 1) me.0.threads me.0.known.emptied (IsEmptied me.0.threads m S') e
+              knows_by old.number old.unpublished old.seen
+              (λ m j e l. listed_finished me.0.known.number m (x + 1) me.0.threads me.0.known.emptied (IsEmptied me.0.threads m S') e
               (λ last i. inl (λ a f _. none_free S' (sound (Finish id ∷ run) ((k, runs), r.is_run))
               (all_done S id k runs x m is last (h.gate.shown m (knows.number m e).0).0) a f)) (λ i' l'. old.emptied m i' e l') j l)
               (λ e. unlisted_finished me.0.known.number (x + 1) me.0.threads me.0.known.emptied e (knows.unread e))))

@@ -22,7 +22,7 @@ use Rattle.spindle_rounds.specs.Leftovers.{is_between, finding, FindTells, FindR
 use Rattle.spindle_rounds.specs.RoundRuns.{PlainLoad}
 use Rattle.spindle_rounds.proofs.Lists.{first_set}
 use Rattle.spindle_rounds.proofs.RoundQuiet.{unchanged}
-use Rattle.spindle_rounds.proofs.RoundMoves.{Rule, SeatOf, moves_with, shown, knowing}
+use Rattle.spindle_rounds.proofs.RoundMoves.{Rule, SeatOf, moves_with, shows_by, knows_by}
 use Rattle.spindle_rounds.proofs.RoundWords.{by_equal}
 use Rattle.spindle_rounds.proofs.KeptLoads.{search_shows, remainder_shows}
 
@@ -54,7 +54,7 @@ module _ {X N : Type 0} (D : Discipline X N) (law : Lawful D) (t : ℕ) where
       let w : View N = finding i x (reading i j empty x me.0) in let here = set-get_or s.words i 0 in let seat = r.seats id me.0 at in
       let st : List (ℕ × ℕ) = me.0.known.stored in let b : Bool = is_between me.0.standing me.0.known.unpublished in
       moves_with D t run s r i x id me w keeps [] at tt r.is_run (subst (Words t S) (sym here) r.words)
-      (shown shows.stands shows.leads shows.claim shows.share (λ q e. let k = shows.inside q e in knowing k.number k.unpublished k.seen k.emptied k.unread))
+      (shows_by shows.stands shows.leads shows.claim shows.share (λ q e. let k = shows.inside q e in knows_by k.number k.unpublished k.seen k.emptied k.unread))
       seat.1 refl
       (λ v e. subst (λ (ws : List ℕ). Laid t S ws v) (sym here) (⊎_elim
       (λ (h : (0 ≡ id) × (w ≡ v)). let l = r.lays me.0 (subst (λ (a : ℕ). get_elem? s.views a ≡ some me.0) (sym h.0) at) in subst (Laid t S s.words) h.1

@@ -19,7 +19,7 @@ use Rattle.spindle_rounds.specs.Words.{barrier_at, published_at, remainder_at, r
 use Rattle.spindle_rounds.specs.RoundSteps.{loading, learning, list_empty, reading, searching, reading_remainder}
 use Rattle.spindle_rounds.specs.RoundTells.{LoadTells, LearnTells, SearchTells, RemainderReadTells, RecallTells}
 use Rattle.spindle_rounds.specs.RoundRuns.{PlainLoad}
-use Rattle.spindle_rounds.proofs.RoundMoves.{Rule, SeatOf, turns, reads, stays, noted_shows, untrue, shown, knowing}
+use Rattle.spindle_rounds.proofs.RoundMoves.{Rule, SeatOf, turns, reads, stays, noted_shows, untrue, shows_by, knows_by}
 use Rattle.spindle_rounds.proofs.RoundNumbers.{true_or}
 use Rattle.spindle_rounds.proofs.RoundWords.{by_less, by_equal, word_fields}
 
@@ -83,7 +83,7 @@ module _ {X N : Type 0} (D : Discipline X N) (law : Lawful D) (t : ℕ) where
       (λ n. by_equal x 0 (λ b. (if b then None else Some (x % high_half)) ≡ Some n → (S.published ≡ Some n) × ((now S).stoppable ≡ nat_lt most_jobs x))
       (λ _ z. absurd cc) (λ not_zero z. read S.published (now S).stoppable x n r.words.published not_zero (λ m y. let a = h.gate.shown m y in (a.1, a.2)) z)) in
       let shows = (r.seats id me.0 at).0 in stays D law t run s r published_at id me (learning x me.0) at (refl, refl, refl)
-      (shown shows.stands shows.leads shows.claim shows.share (λ q e. let k = shows.inside q e in let st = subst (Stands S id) e shows.stands in knowing
+      (shows_by shows.stands shows.leads shows.claim shows.share (λ q e. let k = shows.inside q e in let st = subst (Stands S id) e shows.stands in knows_by
       number k.unpublished
       (by_less most_jobs x (λ b. (now S).seen id ≡ (if b then me.0.known.seen_stop else false)) (λ _. k.seen)
       (λ le. untrue ((now S).seen id) (λ saw. plain S h st.0 x r.words.published le saw)))
@@ -135,7 +135,7 @@ module _ {X N : Type 0} (D : Discipline X N) (law : Lawful D) (t : ℕ) where
       → get_elem? s.views id ≡ some me.0 → ((n : ℕ) → (state run).published ≡ Some n → empty ≡ true → IsEmptied t n (state run) i)
       → Shows (state run) id (reading word i empty (get_or s.words word 0) me.0)
   reading_shows id me word i empty run s r at teaches = let S : State = state run in let seat = r.seats id me.0 at in let shows = seat.0 in
-      shown shows.stands shows.leads shows.claim shows.share (λ q e. let k = shows.inside q e in knowing k.number k.unpublished k.seen
+      shows_by shows.stands shows.leads shows.claim shows.share (λ q e. let k = shows.inside q e in knows_by k.number k.unpublished k.seen
       (λ n j e' l. listed me.0.known.number n i empty me.0.known.emptied (IsEmptied me.0.threads n S) e'
       (λ z. subst (λ (a : ℕ). IsEmptied a n S i) (sym seat.2) (teaches n (k.number n e').0 z)) (λ j' l'. k.emptied n j' e' l') j l)
       (λ z. unlisted me.0.known.number i empty me.0.known.emptied z (k.unread z)))

@@ -17,7 +17,7 @@ use Rattle.spindle_rounds.specs.RoundSteps.{round_of, sharing}
 use Rattle.spindle_rounds.specs.RoundTells.{ShareTells}
 use Rattle.spindle_rounds.specs.RoundConditions.{MayBegin}
 use Rattle.spindle_rounds.specs.RoundRuns.{Store}
-use Rattle.spindle_rounds.proofs.RoundMoves.{SeatOf, moves_with, still_laid, some_of, shown, knows_on}
+use Rattle.spindle_rounds.proofs.RoundMoves.{SeatOf, moves_with, still_laid, some_of, shows_by, knows_on}
 use Rattle.spindle_rounds.proofs.RoundNumbers.{begins}
 use Rattle.spindle_rounds.proofs.RoundWords.{word_stays, counters_stay, taken_put}
 use Rattle.spindle_rounds.proofs.RoundChanges.{later_words, some_published}
@@ -90,7 +90,7 @@ module _ {X N : Type 0} (D : Discipline X N) (law : Lawful D) (t : ℕ) where
           b.2,
           moves_with D t run s r word_at new id me (w b.0) b.1 (Begin id k ∷ []) at (refl, tt) ((st.0, knows.seen ∙ may.2, shows.claim ∙ may.1, held), r.is_run)
               (words_after S h id k held t word_at new s.words (omega arith) r.words)
-              (shown (subst (Stands S' id) (sym may.0.1) (ap (λ (z : Party). z.status) last ∙ st.0, st.1)) shows.leads (ap (λ (z : Party). z.running) last)
+              (shows_by (subst (Stands S' id) (sym may.0.1) (ap (λ (z : Party). z.status) last ∙ st.0, st.1)) shows.leads (ap (λ (z : Party). z.running) last)
               (subst (λ (f : ℕ → Bool). IsShare f (k + 1) me.0.to) (sym (ap (λ (z : Party). z.taken) last)) (λ j. let old = shows.share j in
               dite (ℕ_discrete j k)
               (λ e. (

@@ -30,7 +30,7 @@ use Rattle.spindle_rounds.specs.SpotPlaces.{spot_else}
 use Rattle.spindle_rounds.proofs.Lists.{in_list, first_set, at_end}
 use Rattle.spindle_rounds.proofs.PieceClients.{numbered_end}
 use Rattle.spindle_rounds.proofs.RoundQuiet.{unchanged}
-use Rattle.spindle_rounds.proofs.RoundMoves.{Rule, SeatOf, moves_with, still_laid, shown}
+use Rattle.spindle_rounds.proofs.RoundMoves.{Rule, SeatOf, moves_with, still_laid, shows_by}
 use Rattle.spindle_rounds.proofs.PlainRounds.{at_rest, was_shown, plain_finished}
 
 module _ {A : Type 0} where
@@ -111,7 +111,7 @@ module _ {X N : Type 0} (D : Discipline X N) (law : Lawful D) where
     loaded run s r id me q at l x none_done b a c = let S : State = state run in let shows = (r.seats id me.0 at).0 in
         let w : View N = noted x (record me.0 { board = b }) in moves_with D t run s r published_at (get_or s.words published_at 0) id me w a [] at tt r.is_run
         (subst (Words t S) (sym (set-get_or s.words published_at 0)) r.words)
-        (shown shows.stands shows.leads shows.claim shows.share shows.inside)
+        (shows_by shows.stands shows.leads shows.claim shows.share shows.inside)
         (ap (λ (d : List _). d ++ deeds_of me.0.trail) none_done ∙ (r.seats id me.0 at).1) refl
         (still_laid D t run s r published_at (get_or s.words published_at 0) id me w [] at (inr refl) refl refl (λ _. refl)
         (inl (omega arith, (λ _. refl), λ _ _. refl)))

@@ -22,7 +22,7 @@ use Rattle.spindle_rounds.specs.RoundSteps.{stopping, seeing, putting_back, roun
 use Rattle.spindle_rounds.specs.RoundTells.{StopTells, SeeTells, PutBackTells}
 use Rattle.spindle_rounds.specs.RoundConditions.{MayStop, MaySee, MayPutBack}
 use Rattle.spindle_rounds.specs.RoundRuns.{Load, Store, Exchange}
-use Rattle.spindle_rounds.proofs.RoundMoves.{Rule, SeatOf, stores, exchanges, moves, stays, untrue, shown, knowing}
+use Rattle.spindle_rounds.proofs.RoundMoves.{Rule, SeatOf, stores, exchanges, moves, stays, untrue, shows_by, knows_by}
 use Rattle.spindle_rounds.proofs.RoundNumbers.{true_or}
 use Rattle.spindle_rounds.proofs.RoundWords.{range_here, range_else, word_stays, counters_stay}
 use Rattle.spindle_rounds.proofs.RoundChanges.{changed_words, later_words, some_published}
@@ -65,8 +65,8 @@ module _ {N : Type 0} (S : State) (stop : Bool) (id q : ℕ) (v : View N) (shows
   pub sees_stop : (trail : List (Trace Kind)) (b : Bool) → b ≡ true → let w : View N = record v { known = record v.known { seen_stop = b }; trail = trail } in
       Shows with_seen id w
   sees_stop trail b on = let round = its_round S stop (put (now S).seen id true) in let st = subst (Stands S id) inside_q shows.stands in
-      let knows = shows.inside q inside_q in shown (subst (Stands with_seen id) (sym inside_q) (st.0, st.1)) shows.leads shows.claim shows.share
-      (λ a e. knowing (λ m e. let old = knows.number m e in (old.0, ap (λ (z : Round). z.stoppable) round ∙ old.1)) knows.unpublished
+      let knows = shows.inside q inside_q in shows_by (subst (Stands with_seen id) (sym inside_q) (st.0, st.1)) shows.leads shows.claim shows.share
+      (λ a e. knows_by (λ m e. let old = knows.number m e in (old.0, ap (λ (z : Round). z.stoppable) round ∙ old.1)) knows.unpublished
       (ap (λ (z : Round). z.seen id) round ∙ (put_here (now S).seen id true ∙ sym on)) (λ m j e l. inr (ap (λ (z : Round). z.stopped) round ∙ is)) knows.unread)
 
 module _ {X N : Type 0} (D : Discipline X N) (law : Lawful D) (t : ℕ) where
@@ -107,7 +107,7 @@ module _ {X N : Type 0} (D : Discipline X N) (law : Lawful D) (t : ℕ) where
           tt,
           subst (λ b. Rule D t ((if b then See id ∷ [] else []) ++ run) (stepped s stopped_at x id me.1 w keeps)) (sym (ap (λ (z : ℕ). z == 1) zero_read))
               (stays D law t run s r stopped_at id me w at (refl, refl, refl)
-              (shown shows.stands shows.leads shows.claim shows.share (λ a e. knowing knows.number knows.unpublished
+              (shows_by shows.stands shows.leads shows.claim shows.share (λ a e. knows_by knows.number knows.unpublished
               (untrue ((now S).seen id) (λ e. let a = h.work.saw id e in cc) ∙ sym (ap (λ (z : ℕ). z == 1) zero_read)) knows.emptied knows.unread))
               refl refl (inr refl) refl),
           (refl, refl, omega arith),
@@ -212,9 +212,9 @@ module _ {X N : Type 0} (D : Discipline X N) (law : Lawful D) (t : ℕ) where
       (word_stays S id y refl S' refl refl)
       (λ n e. given_counters S h id me.0.from me.0.to shows.share t n i old new s.words (r.words.counters n e) stopped low
       (omega arith) hit vacant start_is end_is tidy))
-      (shown (subst (Stands S' id) (sym may.0.1) (ap (λ (z : Party). z.status) look ∙ st.0, st.1)) shows.leads
+      (shows_by (subst (Stands S' id) (sym may.0.1) (ap (λ (z : Party). z.status) look ∙ st.0, st.1)) shows.leads
       (ap (λ (z : Party). z.running) look ∙ shows.claim)
       (subst (λ (f : ℕ → Bool). IsShare f me.0.to me.0.to) (sym (ap (λ (z : Party). z.taken) look))
       (λ j. ((λ e. absurd cc), (λ z. let z₀ = z.0 in let z₁ = z.1 in absurd (omega arith)))))
-      (λ a e. knowing knows.number knows.unpublished knows.seen (λ m j e l. inr stopped) knows.unread))
+      (λ a e. knows_by knows.number knows.unpublished knows.seen (λ m j e l. inr stopped) knows.unread))
       (seat.1 ∙ sym (no_deed id (deeds id run))) refl (inr refl) refl refl (inr is_shown))

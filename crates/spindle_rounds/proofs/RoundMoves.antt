@@ -33,20 +33,20 @@ use Rattle.spindle_rounds.proofs.Lists.{in_list}
 use Rattle.spindle_rounds.proofs.RoundQuiet.{AllQuiet, quiet_run}
 
 -- a seat shows its party by five facts
-pub shown : {N : Type 0} {s : State} {p : ℕ} {v : View N} → Stands s p v.standing → (v.leader ≡ true → p ≡ 0) × (v.leader ≡ false → p ≢ 0)
+pub shows_by : {N : Type 0} {s : State} {p : ℕ} {v : View N} → Stands s p v.standing → (v.leader ≡ true → p ≡ 0) × (v.leader ≡ false → p ≢ 0)
     → (party s p).running ≡ v.claim → IsShare (party s p).taken v.from v.to → ((q : ℕ) → v.standing ≡ Inside q → Knows v.threads s p v.known) → Shows s p v
-shown stands leads claim share inside = record { stands = stands; leads = leads; claim = claim; share = share; inside = inside }
+shows_by stands leads claim share inside = record { stands = stands; leads = leads; claim = claim; share = share; inside = inside }
 
 -- and what it knows is so by five
-pub knowing : {t p : ℕ} {s : State} {k : Known} → ((n : ℕ) → k.number ≡ Some n → (s.published ≡ Some n) × ((now s).stoppable ≡ k.may_stop))
+pub knows_by : {t p : ℕ} {s : State} {k : Known} → ((n : ℕ) → k.number ≡ Some n → (s.published ≡ Some n) × ((now s).stoppable ≡ k.may_stop))
     → (k.unpublished ≡ true → (p ≡ 0) × (s.published ≡ None)) → (now s).seen p ≡ k.seen_stop
     → ((n i : ℕ) → k.number ≡ Some n → IsListed i k.emptied → IsEmptied t n s i) → (k.number ≡ None → k.emptied ≡ []) → Knows t s p k
-knowing number unpublished seen emptied unread = record { number = number; unpublished = unpublished; seen = seen; emptied = emptied; unread = unread }
+knows_by number unpublished seen emptied unread = record { number = number; unpublished = unpublished; seen = seen; emptied = emptied; unread = unread }
 
 -- it goes on being so, where what is free was, and the round's record says the same of stops
 pub knows_on : {t p : ℕ} {s s' : State} {k : Known} {r : Round} → Knows t s p k → s'.published ≡ s.published → now s' ≡ r
     → r.stoppable ≡ (now s).stoppable → r.seen p ≡ (now s).seen p → r.stopped ≡ (now s).stopped → ((j : ℕ) → Free s' j → Free s j) → Knows t s' p k
-knows_on {t = t} {p = p} {s = s} k published round may seen stopped back = knowing
+knows_on {t = t} {p = p} {s = s} k published round may seen stopped back = knows_by
     (λ n e. let old = k.number n e in (published ∙ old.0, ap (λ (z : Round). z.stoppable) round ∙ (may ∙ old.1)))
     (λ e. let old = k.unpublished e in (old.0, published ∙ old.1)) (ap (λ (z : Round). z.seen p) round ∙ (seen ∙ k.seen))
     (λ n i e l. ⊎_elim (λ (none_left : (j : ℕ) → Free s j → home_of t n j ≡ i → ⊥). inl (λ j f. none_left j (back j f)))
@@ -55,12 +55,12 @@ knows_on {t = t} {p = p} {s = s} k published round may seen stopped back = knowi
 -- a party inside a round that it knows nothing of, but whether it has seen a stop
 pub knows_none : {t p : ℕ} {s : State} (leads seen : Bool) → (leads ≡ true → (p ≡ 0) × (s.published ≡ None)) → (now s).seen p ≡ seen
     → Knows t s p (unknown leads seen)
-knows_none leads seen hidden same = knowing (λ n e. absurd cc) hidden same (λ n i e l. absurd l) (λ _. refl)
+knows_none leads seen hidden same = knows_by (λ n e. absurd cc) hidden same (λ n i e l. absurd l) (λ _. refl)
 
 -- the status alone of its party changes, and where the seat stands
 pub reseated : {N : Type 0} {s s' : State} {p : ℕ} {v : View N} {st : Status} (x : Trace Kind) (to : Standing) (k : Known) → Shows s p v
     → party s' p ≡ with_status st (party s p) → Stands s' p to → ((q : ℕ) → to ≡ Inside q → Knows v.threads s' p k) → Shows s' p (noted x (standing to k v))
-reseated {v = v} x to k w look stands inside = shown stands w.leads (ap (λ (z : Party). z.running) look ∙ w.claim)
+reseated {v = v} x to k w look stands inside = shows_by stands w.leads (ap (λ (z : Party). z.running) look ∙ w.claim)
     (subst (λ (f : ℕ → Bool). IsShare f v.from v.to) (sym (ap (λ (z : Party). z.taken) look)) w.share) inside
 
 -- while nothing is published the leader has laid what its words say
@@ -83,14 +83,14 @@ module _ {N : Type 0} (s s' : State) (q : ℕ) (v : View N) (w : Shows s q v) (a
 
   -- what it knows stays, while the round goes on
   still_knows : Steady s s' q → (party s q).status ≡ In → Knows v.threads s q v.known → Knows v.threads s' q v.known
-  still_knows f at_in k = knowing (λ n e. let old = k.number n e in (f.published n at_in old.0, f.may_stop (λ z. cc) ∙ old.1))
+  still_knows f at_in k = knows_by (λ n e. let old = k.number n e in (f.published n at_in old.0, f.may_stop (λ z. cc) ∙ old.1))
       (λ e. let old = k.unpublished e in (old.0, f.hidden (inl old.0) old.1)) (f.seen ∙ k.seen)
       (λ n i e l. ⊎_elim (λ (none_left : (j : ℕ) → Free s j → home_of v.threads n j ≡ i → ⊥). ⊎_elim
       (λ (fr : s.published ≢ None → Frees s s'). inl (λ j g. none_left j (fr (let a = (k.number n e).0 in (λ z. cc)) j g))) inr f.frees)
       (λ st. inr (f.stops st)) (k.emptied n i e l)) k.unread
 
   steady : Steady s s' q → Shows s' q v
-  steady f = shown (go v.standing w.stands) w.leads (ap (λ (x : Party). x.running) f.same ∙ w.claim)
+  steady f = shows_by (go v.standing w.stands) w.leads (ap (λ (x : Party). x.running) f.same ∙ w.claim)
       (subst (λ (x : Party). IsShare x.taken v.from v.to) (sym f.same) w.share) (λ r e. still_knows f (inside_in r e) (w.inside r e))
     where
       go : (st : Standing) → Stands s q st → Stands s' q st
@@ -104,7 +104,7 @@ module _ {N : Type 0} (s s' : State) (q : ℕ) (v : View N) (w : Shows s q v) (a
       go (Closing r member cleared at) h = absurd (alone h.0)
 
   turned : Turned s s' q → Shows s' q v
-  turned f = shown (go v.standing w.stands) w.leads (ap (λ (x : Party). x.running) f.same ∙ w.claim)
+  turned f = shows_by (go v.standing w.stands) w.leads (ap (λ (x : Party). x.running) f.same ∙ w.claim)
       (subst (λ (x : Party). IsShare x.taken v.from v.to) (sym f.same) w.share) (λ r e. absurd (f.out (inside_in r e)))
     where
       woke : (t : Status) → (party s q).status ≡ t → (party s' q).status ≡ waking t
@@ -250,7 +250,7 @@ module _ {X N : Type 0} (D : Discipline X N) (law : Lawful D) (t : ℕ) where
 
 -- one step more in the trail
 pub noted_shows : {N : Type 0} (s : State) (p : ℕ) (v : View N) (x : Trace Kind) → Shows s p v → Shows s p (noted x v)
-noted_shows s p v x w = shown w.stands w.leads w.claim w.share w.inside
+noted_shows s p v x w = shows_by w.stands w.leads w.claim w.share w.inside
 
 -- What a step owes, by the shape of what it tells.
 module _ {X N : Type 0} (D : Discipline X N) (law : Lawful D) (t slots id : ℕ) (me : SeatOf D t) (i : ℕ) where

@@ -15,14 +15,14 @@ use Rattle.spindle_rounds.specs.RoundRule.{Laid}
 use Rattle.spindle_rounds.specs.RoundShown.{Shows, deeds, deeds_of}
 use Rattle.spindle_rounds.specs.Words.{barrier_at, published_at, words_of}
 use Rattle.spindle_rounds.specs.RoundSteps.{outsider}
-use Rattle.spindle_rounds.proofs.RoundMoves.{Rule, shown, laid_hidden}
+use Rattle.spindle_rounds.proofs.RoundMoves.{Rule, shows_by, laid_hidden}
 use Rattle.spindle_rounds.proofs.RoundWords.{hidden_shown}
 
 module _ {N : Type 0} where
   -- who has done nothing shows as an outsider
   blank_shows : (s : State) (t p : ℕ) (leads : Bool) → (leads ≡ true → p ≡ 0) × (leads ≡ false → p ≢ 0) → party s p ≡ absent → s.closer ≢ Some p
       → let v : View N = outsider t leads in Shows s p v
-  blank_shows s t p leads first is c = shown (ap (λ (x : Party). x.status) is, c) first (ap (λ (x : Party). x.running) is)
+  blank_shows s t p leads first is c = shows_by (ap (λ (x : Party). x.status) is, c) first (ap (λ (x : Party). x.running) is)
       (λ k. ((λ e. let a = ap (λ (x : Party). x.taken k) is in absurd cc), (λ z. let z₁ = z.1 in absurd (omega arith)))) (λ q e. absurd cc)
 
   -- and has stored nothing

@@ -20,9 +20,9 @@ by_less a b P hit miss = dite (dec_le b a) (λ le. subst P (sym (le-ltb a b le))
 pub by_equal : (a b : ℕ) (P : Bool → Type 0) → (a ≡ b → P true) → (a ≢ b → P false) → P (a == b)
 by_equal a b P hit miss = dite (ℕ_discrete a b) (λ e. subst P (sym (eq-eqb a b e)) (hit e)) (λ n. subst P (sym (ne_eqb a b n)) (miss n))
 
-pub never : (b : Bool) → (b && false) ≡ false
-never true = refl
-never false = refl
+pub and_false : (b : Bool) → (b && false) ≡ false
+and_false true = refl
+and_false false = refl
 
 -- the fields of the word
 pub record Fields (n a b c : ℕ) : Type 0 where

@@ -5,4 +5,5 @@ use Rattle.spindle_rounds.proofs.KeptEnding.{clears_round}
 use Rattle.spindle_rounds.proofs.barrier.Barrier.clear.Goals as goal
 
 pub store-requires : goal.store-requires
-store-requires g c = let k = c.requires.closer in (search rules, omega arith, kept (clears_round g.D.SlotContents.discipline g.met.D.SlotContents.lawful _ _ _ _ _ _ _ _ k.4))
+store-requires g c = let k = c.requires.closer in
+    (search rules, omega arith, kept (clears_round g.D.SlotContents.discipline g.met.D.SlotContents.lawful _ _ _ _ _ _ _ _ k.4))

@@ -10,8 +10,9 @@ pub load-range-requires : goal.load-range-requires
 load-range-requires g c = (search rules, omega arith, kept (searches g.D.SlotContents.discipline g.met.D.SlotContents.lawful _ _ _ _ _ (omega arith)))
 
 pub compare_exchange-found-requires : goal.compare_exchange-found-requires
-compare_exchange-found-requires g c = let free = subst MayClaim (sym (c.load-range.ensures.2.1 c.args.t refl)) c.requires.free in
-    (search rules, omega arith, kept (claims g.D.SlotContents.discipline g.met.D.SlotContents.lawful _ _ _ _ _ _ (omega arith) free (omega arith) (omega arith)))
+compare_exchange-found-requires g c = let D = g.D.SlotContents.discipline in
+    let free = subst MayClaim (sym (c.load-range.ensures.2.1 c.args.t refl)) c.requires.free in
+    (search rules, omega arith, kept (claims D g.met.D.SlotContents.lawful _ _ _ _ _ _ (omega arith) free (omega arith) (omega arith)))
 
 pub returns-then-range-clause-step : goal.returns-then-range-clause-step
 returns-then-range-clause-step g c = search rules

@@ -64,7 +64,8 @@ pub returns-in-None-next_of_share : goal.returns-in-None-next_of_share
 returns-in-None-next_of_share g c = let i = c.loop.invariant in let e = c.sees_stop.ensures in let step = c.in-None-next_of_share.ensures.step in
     let own = i.own in let same = e.same.0 in let empty = step.2 in
     let idle : IsIdle c.sees_stop.new.seat.me.0 = (e.same.1 ∙ i.idle, (let x = own.0 in let y = own.1 in let p = same.0 in let q = same.1 in omega arith)) in
-    let went = went_still _ _ _ c.sees_stop.new.seat c.next_of_share.new.seat (went_then _ _ _ _ _ i.went e.went) c.next_of_share.ensures.seat step.0 in record {
+    let went = went_still _ _ _ c.sees_stop.new.seat c.next_of_share.new.seat (went_then _ _ _ _ _ i.went e.went) c.next_of_share.ensures.seat step.0 in
+    record {
       went = went;
       idle = subst (λ m. IsIdle m.0) (sym step.0) idle;
       over = λ over. done_over _ _ c.next_of_share.new.seat went.at
