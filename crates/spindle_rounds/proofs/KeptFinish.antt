@@ -1,15 +1,13 @@
 -- The fetch_add with which a number finishes.
 use Rattle.std.proofs.Common.{◌≡◌, ◌≢◌, ◌⊎◌, inl, inr, ⊎_elim, ℕ, zero, suc, ◌+◌, ◌%◌, ◌<◌, ◌≤◌, Bool, true, eq-eqb, List, [], ◌∷◌, ◌++◌, length, length-append}
 use Rattle.std.proofs.Common.{get_or, set, get_or-set_same, get_or-set_other, sym, refl, ap, ◌∙◌, subst, arith, Option, Some, None, if◌then◌else◌}
-use mathlib.Core.Logic.{dite}
 use mathlib.Core.Option.{some}
-use native.Mathlib.Decide.{ℕ_discrete}
 use lib.ListN.{get_elem?}
 use Rattle.spindle_parts.specs.State.{State, Party, Round, now, party, times, Free}
 use Rattle.spindle_parts.specs.Steps.{Finish, after, ended_by}
 use Rattle.spindle_parts.specs.Runs.{state}
-use Rattle.spindle_parts.proofs.Fates.{Fate, Open, Held, Ran, Done, started, over}
-use Rattle.spindle_parts.proofs.Parties.{put_here, put_all, look_here, times_same, times_else, tick, tick_same, tick_else}
+use Rattle.spindle_parts.proofs.Fates.{Fate, Open, Ran, started, over}
+use Rattle.spindle_parts.proofs.Parties.{put_here, put_all, look_here, times_same, times_else, tick_same, tick_else}
 use Rattle.spindle_parts.proofs.Soundness.{Sound, sound}
 use Rattle.spindle_rounds.specs.declared.round_table.view.View.{View}
 use Rattle.spindle_rounds.specs.RoundSlots.{Discipline, Lawful, Finishes}
@@ -19,6 +17,7 @@ use Rattle.spindle_rounds.specs.RoundSteps.{round_of, number_or, list_all, list_
 use Rattle.spindle_rounds.specs.RoundTells.{FinishTells}
 use Rattle.spindle_rounds.specs.RoundConditions.{MayFinish}
 use Rattle.spindle_rounds.specs.RoundRuns.{Addition}
+use Rattle.spindle_rounds.proofs.RoundTrails.{sum, sum_zero, sum_more}
 use Rattle.spindle_rounds.proofs.RoundMoves.{SeatOf, moves_with, still_laid, shows_by, knows_by, knows_on}
 use Rattle.spindle_rounds.proofs.RoundWords.{by_equal, word_stays, counters_stay, taken_put}
 use Rattle.spindle_rounds.proofs.RoundChanges.{changed_words, some_published}
@@ -77,42 +76,23 @@ module _ (S : State) (id k : ℕ) (runs : (party S id).running ≡ Some k) where
       (λ n e. counters_stay t S done ws (set ws finished_at x) n (other remainder_at (λ z. omega arith))
       (λ i lt. other (range_at i) (λ z. omega arith)) free_on free_back (λ on. sym (ap (λ (z : Round). z.stopped) its_round) ∙ on) (w.counters n e))
 
--- how often the numbers below n stand in a list
-abbrev spread : ℕ → List ℕ → ℕ
-spread zero l = 0
-spread (suc n) l = spread n l + times n l
-
-spread_past : (n x : ℕ) (xs : List ℕ) → n ≤ x → spread n (x ∷ xs) ≡ spread n xs
-spread_past zero x xs le = refl
-spread_past (suc n) x xs le = let a = spread_past n x xs (omega arith) in let b = tick_else x n (λ e. omega arith) in omega arith
-
-spread_cons : (n x : ℕ) (xs : List ℕ) → x < n → spread n (x ∷ xs) ≡ suc (spread n xs)
-spread_cons zero x xs lt = absurd (omega arith)
-spread_cons (suc n) x xs lt = dite (ℕ_discrete x n) (λ e. let a = spread_past n x xs (omega arith) in
-    let b : tick x n ≡ 1 = subst (λ (z : ℕ). tick z n ≡ 1) (sym e) (tick_same n) in omega arith)
-    (λ other. let a = spread_cons n x xs (omega arith) in let b = tick_else x n other in omega arith)
-
-spread_none : (n : ℕ) → 0 ≡ spread n []
-spread_none zero = refl
-spread_none (suc n) = let a = spread_none n in omega arith
-
-spread_all : (n : ℕ) (l : List ℕ) → ((k : ℕ) → 0 < times k l → k < n) → length l ≡ spread n l
-spread_all n [] below = spread_none n
+-- a list is as long as the numbers below n stand in it, where there are no others
+spread_all : (n : ℕ) (l : List ℕ) → ((k : ℕ) → 0 < times k l → k < n) → length l ≡ sum n (λ k. times k l)
+spread_all n [] below = sym (sum_zero n)
 spread_all n (x ∷ xs) below = let b = tick_same x in let a = spread_all n xs (λ k lt. below k (omega arith)) in
-    let c = spread_cons n x xs (below x (omega arith)) in omega arith
+    let c = sum_more n x 1 (λ k. times k (x ∷ xs)) (λ k. times k xs) (below x (omega arith)) (omega arith)
+    (λ k other. let d = tick_else x k (λ e. other (sym e)) in omega arith) in omega arith
 
-spread_few : (n : ℕ) (l : List ℕ) → ((k : ℕ) → times k l ≤ 1) → spread n l ≤ n
-spread_few zero l once = omega arith
-spread_few (suc n) l once = let a = spread_few n l once in let b = once n in omega arith
+sum_few : (n : ℕ) (f : ℕ → ℕ) → ((k : ℕ) → f k ≤ 1) → sum n f ≤ n
+sum_few zero f once = omega arith
+sum_few (suc n) f once = let a = sum_few n (λ k. f (suc k)) (λ k. once (suc k)) in let b = once 0 in omega arith
 
 once_finished : (S : State) (h : Sound S) (k : ℕ) → times k (now S).finished ≤ 1
 once_finished S h k = let e = h.work.finished k in let c = over_le (h.fate k) in omega arith
   where
     over_le : (f : Fate) → over f ≤ 1
     over_le Open = omega arith
-    over_le (Held p) = omega arith
-    over_le (Ran p) = omega arith
-    over_le Done = omega arith
+    over_le f = omega arith
 
 below_jobs : (S : State) (h : Sound S) (k : ℕ) → 0 < times k (now S).finished → k < (now S).jobs
 below_jobs S h k lt = h.work.below k (λ e. let a = h.work.finished k in let c = ap over e in omega arith)
@@ -120,7 +100,7 @@ below_jobs S h k lt = h.work.below k (λ e. let a = h.work.finished k in let c =
 -- no more numbers have finished than there are jobs
 few_finished : (S : State) → Sound S → (now S).jobs ≤ most_jobs → length (now S).finished < 18446744073709551615
 few_finished S h few = let l : List ℕ = (now S).finished in let n : ℕ = (now S).jobs in let a = spread_all n l (λ k lt. below_jobs S h k lt) in
-    let b = spread_few n l (λ k. once_finished S h k) in omega arith
+    let b = sum_few n (λ k. times k l) (λ k. once_finished S h k) in omega arith
 
 -- and no round has more jobs than a published one may have
 few_jobs : (S : State) → Sound S → S.published ≢ None → (now S).jobs ≤ most_jobs
@@ -130,23 +110,22 @@ few_jobs S h shown = go S.published shown (λ m e. let g = h.gate.shown m e in l
     go None n f = absurd (n refl)
     go (Some m) n f = f m refl
 
--- where as many numbers stand in a list as there are below n, each once, none is missing
-spread_full : (n : ℕ) (l : List ℕ) → ((k : ℕ) → times k l ≤ 1) → spread n l ≡ n → (k : ℕ) → k < n → times k l ≡ 1
-spread_full zero l once all k lt = absurd (omega arith)
-spread_full (suc n) l once all k lt = let few = spread_few n l once in let last = once n in
-    dite (ℕ_discrete k n) (λ e. subst (λ (z : ℕ). times z l ≡ 1) (sym e) (omega arith)) (λ other. spread_full n l once (omega arith) k (omega arith))
+-- where numbers of at most 1 add up to how many they are, none is 0
+sum_full : (n : ℕ) (f : ℕ → ℕ) → ((k : ℕ) → f k ≤ 1) → sum n f ≡ n → (k : ℕ) → k < n → f k ≡ 1
+sum_full zero f once all k lt = absurd (omega arith)
+sum_full (suc n) f once all zero lt = let a = sum_few n (λ k. f (suc k)) (λ k. once (suc k)) in let b = once 0 in omega arith
+sum_full (suc n) f once all (suc k) lt = let b = once 0 in let few = sum_few n (λ k. f (suc k)) (λ k. once (suc k)) in
+    sum_full n (λ k. f (suc k)) (λ k. once (suc k)) (omega arith) k (omega arith)
 
 -- once as many have finished as there are jobs, no number is free
 none_free : (S : State) → Sound S → length (now S).finished ≡ (now S).jobs → (k : ℕ) → Free S k → ⊥
 none_free S h all k free = let l : List ℕ = (now S).finished in let n : ℕ = (now S).jobs in let a = spread_all n l (λ j lt. below_jobs S h j lt) in
-    let one = spread_full n l (λ j. once_finished S h j) (omega arith) k free.0 in
+    let one = sum_full n (λ j. times j l) (λ j. once_finished S h j) (omega arith) k free.0 in
     begun_first (h.fate k) (sym (h.work.finished k) ∙ one) (sym (h.work.begun k) ∙ free.1)
   where
     begun_first : (f : Fate) → over f ≡ 1 → started f ≡ 0 → ⊥
     begun_first Open a b = absurd cc
-    begun_first (Held p) a b = absurd cc
-    begun_first (Ran p) a b = absurd cc
-    begun_first Done a b = absurd cc
+    begun_first f a b = absurd cc
 
 -- what the list says once so many have finished
 listed_finished : (o : Option ℕ) (n done t : ℕ) (l : List ℕ) (P : ℕ → Type 0) → o ≡ Some n → (n ≡ done → (i : ℕ) → P i) → ((j : ℕ) → IsListed j l → P j)

@@ -11,7 +11,7 @@ use Rattle.spindle_parts.specs.State.{State}
 use Rattle.spindle_parts.specs.Steps.{Event}
 use Rattle.spindle_parts.specs.Runs.{state}
 use Rattle.spindle_rounds.specs.declared.round_table.view.Standing.{Standing}
-use Rattle.spindle_rounds.specs.declared.round_table.view.Standing.TheVariants.{Away, Inside, Waiting, Closing}
+use Rattle.spindle_rounds.specs.declared.round_table.view.Standing.TheVariants.{Inside}
 use Rattle.spindle_rounds.specs.declared.round_table.view.View.{View}
 use Rattle.spindle_rounds.specs.RoundSlots.{Discipline, Lawful}
 use Rattle.spindle_rounds.specs.RoundRule.{Laid, stored_at}
@@ -28,10 +28,8 @@ use Rattle.spindle_rounds.proofs.KeptLoads.{search_shows, remainder_shows}
 
 -- between rounds the leader is inside and has published nothing
 is_inside : (st : Standing) (u : Bool) → is_between st u ≡ true → (q : ℕ) × (st ≡ Inside q) × (u ≡ true)
-is_inside Away u e = absurd cc
 is_inside (Inside q) u e = (q, refl, e)
-is_inside (Waiting q quiet) u e = absurd cc
-is_inside (Closing q member was at) u e = absurd cc
+is_inside st u e = absurd cc
 
 -- one word more is known
 known_more : (b : Bool) (i x : ℕ) (st : List (ℕ × ℕ)) (ws : List ℕ) → finished_at ≤ i → get_or ws i 0 ≡ x

@@ -119,11 +119,10 @@ module _ {X N : Type 0} (D : Discipline X N) (law : Lawful D) where
 
     sure_finished : (run : List Event) (s : table.State X (View N)) → Rule D t run s → (id : ℕ) (me : SeatOf D t) (q : ℕ) → get_elem? s.views id ≡ some me.0
         → AtLoad run s id me q → (k : ℕ) (p : Spot N) → IsSure me.0 k p → HasFinished (state run) k p
-    sure_finished run s r id me q at l k spot.Vacant z = z
-    sure_finished run s r id me q at l k spot.Out z = z
     sure_finished run s r id me q at l k (spot.Filled j x) z =
         let plain = was_shown false id run r.is_run j z.0 (subst (IsDeed (Showed j z.0 false)) (r.seats id me.0 at).1 z.2) in
         plain_finished (state run) (sound run r.is_run) l.hidden l.open_now j z.0 k plain z.1
+    sure_finished run s r id me q at l k p z = z
 
     pub takes_out : (slots id : ℕ) (me : SeatOf D t) → MayTakeOut D slots me.0 → PlainLoad D t slots id me published_at (TakeOutTells D)
     takes_out slots id me may = record {

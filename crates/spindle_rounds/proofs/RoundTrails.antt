@@ -16,11 +16,11 @@ use Rattle.spindle_rounds.specs.RoundTrails.{begun_by, finished_by, told, told_b
 use Rattle.spindle_rounds.proofs.RoundQuiet.{IsQuiet, quiet}
 
 -- the sum of f over the numbers below n
-abbrev sum : ℕ → (ℕ → ℕ) → ℕ
+abbrev pub sum : ℕ → (ℕ → ℕ) → ℕ
 sum zero f = 0
 sum (suc n) f = f 0 + sum n (λ i. f (suc i))
 
-sum_zero : (n : ℕ) → sum n (λ _. 0) ≡ 0
+pub sum_zero : (n : ℕ) → sum n (λ _. 0) ≡ 0
 sum_zero zero = refl
 sum_zero (suc n) = let a = sum_zero n in omega arith
 
@@ -29,7 +29,7 @@ sum_same zero f g e = refl
 sum_same (suc n) f g e = let a = e 0 (omega arith) in let b = sum_same n (λ i. f (suc i)) (λ i. g (suc i)) (λ i lt. e (suc i) (omega arith)) in omega arith
 
 -- where f is c more at a, its sum is
-sum_more : (n a c : ℕ) (f g : ℕ → ℕ) → a < n → f a ≡ c + g a → ((i : ℕ) → i ≢ a → f i ≡ g i) → sum n f ≡ c + sum n g
+pub sum_more : (n a c : ℕ) (f g : ℕ → ℕ) → a < n → f a ≡ c + g a → ((i : ℕ) → i ≢ a → f i ≡ g i) → sum n f ≡ c + sum n g
 sum_more zero a c f g lt here away = absurd (omega arith)
 sum_more (suc n) zero c f g lt here away = let b = sum_same n (λ i. f (suc i)) (λ i. g (suc i)) (λ i _. away (suc i) (λ e. omega arith)) in omega arith
 sum_more (suc n) (suc a) c f g lt here away =
