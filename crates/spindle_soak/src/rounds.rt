@@ -6,7 +6,6 @@ use crate::Machine;
 use crate::stop::Stop;
 use spindle::lock::{Nest, PlaysInPlace, Updates};
 use spindle::prelude::*;
-use spindle::with_slots_in_place;
 use std::io;
 use std::rt::Clock;
 use std::time::{Duration, Instant};
@@ -87,11 +86,12 @@ where
     J::Inner: Send,
     <J::Inner as Nest>::ChildSlots: Send + Sync,
 {
-    with_slots_in_place::<J, NoGate, Result<(), Stop>, _, _, H>(
+    let threads = pool.max_num_threads();
+    LockOf::<J>::with_slots_in_place(
         rt,
         rt.alloc(),
         pool,
-        pool.max_num_threads(),
+        threads,
         SLOTS,
         |leader| -> Result<(), Stop>
             requires { IsSync H.row }
