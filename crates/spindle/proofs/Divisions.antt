@@ -1,5 +1,5 @@
 -- Divide and conquer: what answers parts answers their problem.
-use Rattle.std.proofs.Common.{◌≡◌, ◌∙◌, ℕ, ◌+◌, ◌/◌, Option, Some, None, List, [], ◌∷◌, ◌++◌, length, take, drop, map, refl, sym, subst, ap, arith}
+use Rattle.std.proofs.Common.{◌≡◌, ◌∙◌, ◌+◌, ◌/◌, Option, Some, None, List, [], ◌∷◌, ◌++◌, length, take, drop, map, refl, sym, subst, arith}
 use Rattle.std.proofs.lemmas.List.{length-map}
 use Rattle.std.specs.Prelude.{All}
 use Rattle.std.specs.List.{AllZip, zip}
@@ -8,7 +8,7 @@ use Rattle.spindle.specs.Kernels.{IsOfKernel}
 use Rattle.spindle.specs.declared.kernels.tasks.Task.{Task}
 use Rattle.spindle.specs.declared.kernels.dividing.Branch.{Branch}
 use Rattle.spindle.specs.declared.kernels.dividing.Branch.TheVariants.{Whole, Parts, Answers, Answered, Nothing}
-use Rattle.spindle.specs.Divisions.{IsJoined, Allows, LeadsTo, first_of, second_of, joined_at}
+use Rattle.spindle.specs.Divisions.{Allows, LeadsTo, first_of, second_of, joined_at}
 
 -- what became of parts that stand beside this kernel
 pub parts_changed : {K X Y : Type 0} (R : K → X → Y → Type 0) (kernel : K) (old : List (Task K X)) (new : List (Task K Y)) → All (IsOfKernel kernel) old

@@ -1,5 +1,5 @@
 -- What came of a round in place that may stop.
-use Rattle.std.specs.Prelude.{◌≡◌, ◌⊎◌, ℕ, Bool, true, false, List, [], Vec, map, None, vec_len}
+use Rattle.std.specs.Prelude.{◌≡◌, ◌⊎◌, ℕ, true, false, List, [], Vec, map, None, vec_len}
 use Rattle.std.specs.List.{All, AllZip, Any}
 use Rattle.std.specs.declared.alloc.Global.{Global}
 use Rattle.spindle_parts.specs.Pieces.{cut_lengths, joined}

@@ -1,5 +1,5 @@
 -- The two halves of the answers were walked in step.
-use Rattle.std.proofs.Common.{◌≡◌, ◌∙◌, ◌/◌, length, take, drop, map, ap, sym, rules}
+use Rattle.std.proofs.Common.{◌∙◌, ◌/◌, length, take, drop, map, ap, sym, rules}
 use Rattle.std.proofs.lemmas.Iterator.{YieldsList-from_zip, items_from_drains}
 use Rattle.std.proofs.lemmas.Iterator.Adapters.{YieldsList-from_vec}
 use Rattle.std.proofs.lemmas.List.{map-id}

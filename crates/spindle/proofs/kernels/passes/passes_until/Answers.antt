@@ -1,7 +1,5 @@
 -- An empty list has settled.
-use Rattle.std.proofs.Common.{◌≡◌, List, [], rules, ap, subst, sym, ◌∙◌}
-use Rattle.spindle_parts.specs.Pieces.{joined}
-use Rattle.spindle_parts.specs.Strips.{items_of}
+use Rattle.std.proofs.Common.{◌≡◌, [], subst, sym}
 use Rattle.spindle.specs.Passes.{HavePassed}
 use Rattle.spindle.proofs.PassLists.{empty_list, none_passed}
 use Rattle.spindle.proofs.kernels.passes.passes_until.Goals as goal
