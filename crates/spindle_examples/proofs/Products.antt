@@ -1,6 +1,5 @@
 -- A product place by place, and row by row.
-use Rattle.std.proofs.Common.{◌≡◌, ℕ, zero, suc, ◌+◌, ◌*◌, ◌<◌, ◌≤◌, List, [], ◌∷◌, ◌++◌, length, map, min, take, get_or, refl, ap, sym, ◌∙◌, arith, append_assoc, append-nil}
-use Rattle.spindle.specs.Pieces.{joined}
+use Rattle.std.proofs.Common.{◌≡◌, ℕ, zero, suc, ◌+◌, ◌*◌, ◌<◌, ◌≤◌, List, [], ◌∷◌, ◌++◌, length, min, take, get_or, refl, ap, sym, ◌∙◌, arith, append_assoc, append-nil}
 use Rattle.spindle_examples.specs.Product.{dot, row_of, product}
 
 -- one place more
