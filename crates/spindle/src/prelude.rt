@@ -2,8 +2,8 @@
 
 pub use crate::kernels::{
     Change, Division, Failed, Kernel, MapsOf, PairMapsOf, PairRun, PairTotalsOf, Passes, PassesOf,
-    Shared, Split, Stencil, TotalsOf, TriesOf, UpdatesOf, divide, map, map_pairs, passes_until,
-    reduce_pairs, try_map, update,
+    Shared, Split, Stencil, TotalsOf, TriesOf, UpdatesOf, divide, map, map_pairs, map_pieces,
+    passes_until, reduce_pairs, try_map, update,
 };
 pub use crate::lock::{
     Attempt, AttemptsOf, ChunkRounds, End, Gate, InPlace, Job, JobCx, Leader, Limits, LockOf,

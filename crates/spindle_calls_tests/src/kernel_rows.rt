@@ -9,8 +9,8 @@ use crate::chunks::LastOdd;
 use crate::jobs::{Calls, Counting};
 use spindle::lock::{Combine, Limits, LockOf, NoGate, Pool};
 use spindle::{
-    Change, Fault, Kernel, Shared, SharedList, TotalsOf, UpdatesOf, map, map_pairs, reduce,
-    reduce_pairs, update,
+    Change, Fault, Kernel, Shared, SharedList, TotalsOf, UpdatesOf, map, map_pairs, map_pieces,
+    reduce, reduce_pairs, update,
 };
 use std::alloc::Global;
 
@@ -62,6 +62,30 @@ fn refused_map_has_run_no_job(rt: HostRuntime) -> Result<(), Fault> {
     is(&rt, calls.in_all(), (11, 11));
     let none = map(&rt, alloc, &pool, &kernel, Vec::new(alloc))?;
     is(&rt, (none.capacity(), calls.in_all()), (0, (11, 11)));
+    Ok(())
+}
+
+#[test]
+fn refused_map_in_pieces_has_run_no_job(rt: HostRuntime) -> Result<(), Fault> {
+    let alloc = rt.alloc();
+    let calls = Calls::new();
+    let pool = Pool::new(1, Limits::new(), Counting { calls: &calls });
+    let kernel = AtMost { most: &7 };
+    let pieces = match map_pieces(&rt, alloc, &pool, &kernel, eleven_numbers(alloc)?) {
+        Ok(pieces) => pieces,
+        Err(fault) => {
+            holds(&rt, matches!(fault, Fault::Memory));
+            is(&rt, calls.in_all(), (0, 0));
+            map_pieces(&rt, alloc, &pool, &kernel, eleven_numbers(alloc)?)?
+        }
+    };
+    is(&rt, (pieces.len(), calls.in_all()), (4, (4, 4)));
+    let all = pieces.iter().flatten();
+    is(
+        &rt,
+        all.zip(&LEAST).filter(|pair| pair.0 == pair.1).count(),
+        11,
+    );
     Ok(())
 }
 

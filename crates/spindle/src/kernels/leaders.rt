@@ -1,18 +1,19 @@
 //! Calls over whole lists in a lock that stays open: round after round by one leader, whose kernel its lists share.
-ghost use Rattle.std.specs.Prelude.{◌≡◌, ◌<◌, ◌≤◌, IfOk, OnErr, IsErrOf};
+ghost use Rattle.std.specs.Prelude.{◌≡◌, ◌<◌, ◌≤◌, IfOk, OnErr, IsErrOf, map};
 ghost use Rattle.spindle.specs.Folds.{total_of};
 ghost use Rattle.spindle.specs.Passes.{HavePassed};
 ghost use Rattle.spindle.specs.Tries.{IsTried};
 ghost use Rattle.std.specs.List.{AllZip};
+ghost use Rattle.spindle_parts.specs.Pieces.{joined};
 ghost use Rattle.spindle.specs.SlotLeaders.{threads_of, lock_slots};
 
 use crate::kernels::held::{Again, Shared};
-use crate::kernels::maps::{Mapping, append_outputs, map_tasks};
+use crate::kernels::maps::{Mapping, Run, append_outputs, map_tasks, take_outputs};
 use crate::kernels::pairs::PairRun;
 use crate::kernels::passes::Passes;
 use crate::kernels::passing::{Passing, append_strips, play_passes, strips_of};
 use crate::kernels::source::{Source, parts_of};
-use crate::kernels::tasks::tasks_of;
+use crate::kernels::tasks::{Task, tasks_of};
 use crate::kernels::tries::{Failed, Trying, gathered_trials, trials_of};
 use crate::kernels::updates::{Updating, append_items};
 use crate::kernels::{Change, Kernel, Stencil};
@@ -139,13 +140,50 @@ where
         ensures lock { threads_of self.new ≡ threads_of self.old }
         ensures slots { lock_slots self.new ≡ lock_slots self.old }
     {
-        let jobs = self.piece_count();
-        let parts = parts_of(alloc, source, jobs)?;
-        let mut tasks = map_tasks(alloc, kernel, parts, source.count())?;
-        self.update_all(rt, alloc, jobs, &mut tasks)?;
-        let mut outputs = Vec::new(alloc);
+        let mut outputs = Vec::with_capacity(alloc, source.count())?;
+        let tasks = self.compute_all(rt, alloc, kernel, source)?;
         append_outputs(tasks, &mut outputs)?;
         Ok(outputs)
+    }
+
+    /// What `map` answers, left in the pieces that were computed apart, as `spindle::map_pieces` leaves it.
+    pub fn map_pieces<H: Threads + Wait + Sync>(
+        &mut self,
+        rt: &H,
+        alloc: Global,
+        kernel: &K,
+        source: &S,
+    ) -> Result<Vec<Vec<K::Out>>, Fault>
+        ensures answer { IfOk result (λ pieces. AllZip (K.computes kernel.now)
+            (S.items source.now) (joined (map (λ piece. piece.items) pieces.items))) }
+        ensures memory { OnErr result (IsErrOf result Fault.Memory) }
+        ensures lock { threads_of self.new ≡ threads_of self.old }
+        ensures slots { lock_slots self.new ≡ lock_slots self.old }
+    {
+        let mut pieces = Vec::with_capacity(alloc, self.piece_count())?;
+        let tasks = self.compute_all(rt, alloc, kernel, source)?;
+        take_outputs(tasks, &mut pieces)?;
+        Ok(pieces)
+    }
+
+    // The source in pieces, with what the kernel computes of each: a round of this lock.
+    fn compute_all<H: Threads + Wait + Sync>(
+        &mut self,
+        rt: &H,
+        alloc: Global,
+        kernel: &K,
+        source: &S,
+    ) -> Result<Vec<Task<K, Run<S, K::Out>>>, Fault>
+        ensures answer { IfOk result (λ tasks. AllZip (K.computes kernel.now)
+            (S.items source.now) (joined (map (λ task. task.part.outputs.items) tasks.items))) }
+        ensures memory { OnErr result (IsErrOf result Fault.Memory) }
+        ensures lock { threads_of self.new ≡ threads_of self.old }
+        ensures slots { lock_slots self.new ≡ lock_slots self.old }
+    {
+        let jobs = self.piece_count();
+        let mut tasks = map_tasks(alloc, kernel, parts_of(alloc, source, jobs)?)?;
+        self.update_all(rt, alloc, jobs, &mut tasks)?;
+        Ok(tasks)
     }
 }
 
@@ -174,9 +212,10 @@ where
         ensures slots { lock_slots self.new ≡ lock_slots self.old }
     {
         let jobs = self.piece_count();
-        let mut tasks = trials_of(alloc, kernel, parts_of(alloc, run, jobs)?, run.len())?;
+        let values = Vec::with_capacity(alloc, run.len())?;
+        let mut tasks = trials_of(alloc, kernel, parts_of(alloc, run, jobs)?)?;
         self.update_all(rt, alloc, jobs, &mut tasks)?;
-        let tried = gathered_trials(kernel, tasks, Vec::new(alloc))?;
+        let tried = gathered_trials(kernel, tasks, values)?;
         Ok(tried)
     }
 }

@@ -1,22 +1,10 @@
--- The parts are the list, and each has what the kernel computes of it.
-use Rattle.std.proofs.Common.{◌≡◌, rules, map, ap, subst, sym, ◌∙◌}
+-- The outputs are those of the pieces.
+use Rattle.std.proofs.Common.{◌≡◌, rules, map, subst, sym}
 use Rattle.std.specs.List.{AllZip}
-use Rattle.std.proofs.lemmas.Simd.{map-map}
 use Rattle.spindle_parts.specs.Pieces.{joined}
-use Rattle.spindle.proofs.KernelLists.{joined_tasks}
 use Rattle.spindle.proofs.kernels.maps.map_once.Goals as goal
 
 pub returns-clause-answer : goal.returns-clause-answer
 returns-clause-answer g c =
-    let R = g.K.Kernel.computes in
-    let old = c.in_ok-tasks.tasks.items in
-    let new = c.in_ok-tasks-2.tasks.items in
-    let items = g.S.Source.items in
-    let whole : joined (map (λ task. items task.part.source) old) ≡ items c.args.source.now =
-    ap joined (sym (map-map items (λ task. task.part.source) old) ∙ ap (map items) c.in_ok-tasks.ensures.parts) ∙ c.in_ok-parts.ensures.joined in
-    let mapped : AllZip (R c.args.kernel.now) (joined (map (λ task. items task.part.source) old)) (joined (map (λ task. task.part.outputs.items) new)) =
-    joined_tasks (λ kernel. R kernel.now) c.args.kernel (λ task. task.kernel) (λ task. items task.part.source)
-    (λ task. task.part.outputs.items) old new c.in_ok-tasks.ensures.kernel c.in_ok-tasks-2.ensures.updated in
-    let outputs : c.append_outputs.new.all.items ≡ joined (map (λ task. task.part.outputs.items) new) = search rules in
-    subst (λ t. AllZip (R c.args.kernel.now) (items c.args.source.now) t) (sym outputs)
-    (subst (λ t. AllZip (R c.args.kernel.now) t (joined (map (λ task. task.part.outputs.items) new))) whole mapped)
+    let outputs : c.append_outputs.new.all.items ≡ joined (map (λ task. task.part.outputs.items) c.in_ok-tasks.tasks.items) = search rules in
+    subst (λ t. AllZip (g.K.Kernel.computes c.args.kernel.now) (g.S.Source.items c.args.source.now) t) (sym outputs) c.in_ok-tasks.ensures.answer

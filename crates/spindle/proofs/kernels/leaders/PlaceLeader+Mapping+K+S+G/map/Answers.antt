@@ -1,23 +1,10 @@
--- The parts are the source, and each has what the kernel computes of it.
-use Rattle.std.proofs.Common.{◌≡◌, rules, map, ap, subst, sym, ◌∙◌}
+-- The outputs are those of the pieces.
+use Rattle.std.proofs.Common.{◌≡◌, rules, map, subst, sym}
 use Rattle.std.specs.List.{AllZip}
-use Rattle.std.proofs.lemmas.Simd.{map-map}
 use Rattle.spindle_parts.specs.Pieces.{joined}
-use Rattle.spindle.proofs.KernelLists.{joined_tasks}
 use Rattle.spindle.proofs.kernels.leaders.PlaceLeader+Mapping+K+S+G.map.Goals as goal
 
 pub returns-clause-answer : goal.returns-clause-answer
 returns-clause-answer g c =
-    let R = g.K.Kernel.computes in
-    let kernel = c.args.kernel.now in
-    let old = c.in_ok-tasks.tasks.items in
-    let new = c.update_all.new.items.items in
-    let items = g.S.Source.items in
-    let whole : joined (map (λ task. items task.part.source) old) ≡ items c.args.source.now =
-    ap joined (sym (map-map items (λ task. task.part.source) old) ∙ ap (map items) c.in_ok-tasks.ensures.parts) ∙ c.in_ok-parts.ensures.joined in
-    let mapped : AllZip (R kernel) (joined (map (λ task. items task.part.source) old)) (joined (map (λ task. task.part.outputs.items) new)) =
-    joined_tasks R kernel (λ task. task.kernel) (λ task. items task.part.source)
-    (λ task. task.part.outputs.items) old new c.in_ok-tasks.ensures.kernel c.in_ok-update_all.ensures.updated in
-    let outputs : c.append_outputs.new.all.items ≡ joined (map (λ task. task.part.outputs.items) new) = search rules in
-    subst (λ t. AllZip (R kernel) (items c.args.source.now) t) (sym outputs)
-    (subst (λ t. AllZip (R kernel) t (joined (map (λ task. task.part.outputs.items) new))) whole mapped)
+    let outputs : c.append_outputs.new.all.items ≡ joined (map (λ task. task.part.outputs.items) c.in_ok-tasks.tasks.items) = search rules in
+    subst (λ t. AllZip (g.K.Kernel.computes c.args.kernel.now) (g.S.Source.items c.args.source.now) t) (sym outputs) c.in_ok-tasks.ensures.answer
