@@ -23,6 +23,8 @@ mod kernel_rows;
 #[cfg(test)]
 mod laws;
 #[cfg(test)]
+mod leader_rows;
+#[cfg(test)]
 mod pass_rows;
 #[cfg(test)]
 mod refused_calls;

@@ -1,15 +1,17 @@
-//! Times calls over whole lists of 1048576 numbers, in a lock of their own and by the kit's `rayon`: the map that adds one to each, and
-//! the dot product of two.
+//! Times calls over whole lists of 1048576 numbers, by the leader of an open lock and by the kit's `rayon`: the map that adds one to
+//! each, which the leader leaves in pieces, and the dot product of two.
 //!
 //! A line a call: its name, what it runs on, the threads of the lock, and the best and the middle of 100 calls in nanoseconds, after
 //! three that warm up. `rayon` has threads by its own rule.
 ghost use Rattle.std.specs.Prelude.{◌≡◌};
+ghost use denote.Param.Send.{IsSync};
 
 use crate::stop::Stop;
-use crate::vectors;
+use crate::vectors::Products;
 use rayon::prelude::*;
+use spindle::kernels::{Again, Mapping, Source};
+use spindle::lock::{Combine, Folds};
 use spindle::prelude::*;
-use std::mem;
 use std::rt::Clock;
 use std::time::Instant;
 
@@ -20,6 +22,9 @@ impl<H: Threads + Wait + Sync + Clock + Print + Alloc<A = Global>> Machine for H
 
 /// The numbers of each list.
 const NUMBERS: u32 = 1048576;
+
+/// The calls, with those that warm up.
+const CALLS: usize = 103;
 
 /// Adds one to a number.
 #[derive(Drop)]
@@ -37,101 +42,168 @@ impl Kernel for OneMore {
     }
 }
 
+/// What calls took in nanoseconds, and what the last of them answered.
+type Timed<T> = Result<(Vec<u64>, T), Stop>;
+
 /// Times all calls.
 pub fn time<H: Machine>(rt: &H, pool: &Pool<NoGate>) -> Result<(), Stop> {
-    maps(rt, pool, true)?;
-    maps(rt, pool, false)?;
-    dots(rt, pool, true)?;
-    dots(rt, pool, false)
+    maps(rt, pool)?;
+    dots(rt, pool)
 }
 
-// The map, by a lock or by `rayon`.
-fn maps<'a, H: Machine>(rt: &'a H, pool: &'a Pool<NoGate>, is_lock: bool) -> Result<(), Stop> {
+fn maps<H: Machine>(rt: &H, pool: &Pool<NoGate>) -> Result<(), Stop> {
     let alloc = rt.alloc();
-    let mut numbers = vec![in alloc; 0u64; NUMBERS as usize]?;
-    let times = times(rt, alloc, || -> Result<(), Stop> {
-        let list = mem::replace(&mut numbers, Vec::new(alloc));
-        numbers = if is_lock {
-            map(rt, alloc, pool, &OneMore, list)?
-        } else {
-            list.par_iter()
-                .map(|x: &u64| x.wrapping_add(1))
-                .collect(rt, alloc)?
-        };
-        Ok(())
-    })?;
-    let is_right = numbers.len() == NUMBERS as usize && numbers.iter().all(|x| *x == 103);
-    print(rt, pool, "map1m", is_lock, is_right, &times)
+    let list = SharedList::from_vec(alloc, vec![in alloc; 102u64; NUMBERS as usize]?)?;
+    let run = list.run(0, list.len())?;
+    let (times, pieces) = map_in_lock(rt, alloc, pool, &Shared::new(alloc, OneMore)?, &run)?;
+    let is_right = pieces.iter().flatten().all(|x| *x == 103);
+    print(rt, pool, "map1m lock", is_right, times)?;
+    let mut times = Vec::with_capacity(alloc, CALLS)?;
+    for _ in 0..CALLS {
+        let begin = Instant::now(rt)?;
+        let more = list
+            .as_slice()
+            .par_iter()
+            .map(|x: &u64| x.wrapping_add(1));
+        let _list: Vec<u64> = more.collect(rt, alloc)?;
+        times.push(since(rt, begin)?)?;
+    }
+    print(rt, pool, "map1m rayon", true, times)
 }
 
-// The dot product, by a lock or by `rayon`.
-fn dots<'a, H: Machine>(rt: &'a H, pool: &'a Pool<NoGate>, is_lock: bool) -> Result<(), Stop> {
+// Maps in a lock that stays open.
+fn map_in_lock<K: Kernel + Again + Send + Sync, S: Source<Item = K::In> + Send, H: Machine>(
+    rt: &H,
+    alloc: Global,
+    pool: &Pool<NoGate>,
+    kernel: &K,
+    source: &S,
+) -> Timed<Vec<Vec<K::Out>>>
+where
+    K::In: Send + Sync,
+    K::Out: Send,
+{
+    let threads = pool.max_num_threads();
+    LockOf::<InPlace<Mapping<K, S>>>::with_slots_in_place(
+        rt,
+        alloc,
+        pool,
+        threads,
+        threads.min(1024) * 4,
+        |leader| -> Timed<Vec<Vec<K::Out>>>
+            requires { IsSync H.row }
+        { map_by(rt, alloc, leader, kernel, source) },
+    )?
+}
+
+fn map_by<K: Kernel + Again, S: Source<Item = K::In>, H: Machine>(
+    rt: &H,
+    alloc: Global,
+    leader: &mut PlaceLeader<'_, Mapping<K, S>, NoGate>,
+    kernel: &K,
+    source: &S,
+) -> Timed<Vec<Vec<K::Out>>>
+    requires { IsSync H.row }
+{
+    let mut times = Vec::with_capacity(alloc, CALLS)?;
+    let mut pieces = Vec::new(alloc);
+    for _ in 0..CALLS {
+        let begin = Instant::now(rt)?;
+        pieces.clear();
+        pieces = leader.map_pieces(rt, alloc, kernel, source)?;
+        times.push(since(rt, begin)?)?;
+    }
+    Ok((times, pieces))
+}
+
+fn dots<H: Machine>(rt: &H, pool: &Pool<NoGate>) -> Result<(), Stop> {
     let alloc = rt.alloc();
     let first = SharedList::from_vec(alloc, (0..NUMBERS).collect(alloc)?)?;
     let second = SharedList::from_vec(alloc, (0..NUMBERS).rev().collect(alloc)?)?;
-    let mut total = 0u64;
-    let times = times(rt, alloc, || -> Result<(), Stop> {
-        total = if is_lock {
-            vectors::dot(rt, alloc, pool, &first, &second)?
-        } else {
-            by_rayon(rt, first.as_slice(), second.as_slice())
-        };
-        Ok(())
-    })?;
+    let pairs = PairRun::new(&first, &second)?;
+    let (times, total) = total_in_lock::<Products, _, _>(rt, alloc, pool, &pairs)?;
+    let (first, second) = (first.as_slice(), second.as_slice());
     let mut wanted = 0u64;
-    for pair in first.as_slice().iter().zip(second.as_slice()) {
+    for pair in first.iter().zip(second) {
         wanted = wanted.wrapping_add(u64::from(*pair.0).wrapping_mul(u64::from(*pair.1)));
     }
-    print(rt, pool, "dot1m", is_lock, total == wanted, &times)
+    print(rt, pool, "dot1m lock", total == wanted, times)?;
+    let (mut times, mut total) = (Vec::with_capacity(alloc, CALLS)?, 0);
+    for _ in 0..CALLS {
+        let begin = Instant::now(rt)?;
+        total = first
+            .par_iter()
+            .zip(second)
+            .map(|pair: (&u32, &u32)| u64::from(*pair.0) * u64::from(*pair.1))
+            .reduce(rt, || 0, |x: u64, y: u64| x.wrapping_add(y));
+        times.push(since(rt, begin)?)?;
+    }
+    print(rt, pool, "dot1m rayon", total == wanted, times)
 }
 
-fn by_rayon<H: Machine>(rt: &H, first: &[u32], second: &[u32]) -> u64 {
-    first
-        .par_iter()
-        .zip(second)
-        .map(|pair: (&u32, &u32)| u64::from(*pair.0) * u64::from(*pair.1))
-        .reduce(rt, || 0, |x: u64, y: u64| x.wrapping_add(y))
-}
-
-// The nanoseconds of 100 calls, in order of size.
-fn times<H: Clock, F: FnMut() -> Result<(), Stop>>(
+// Totals in a lock that stays open.
+fn total_in_lock<C: Combine + Send, S: Source<Item = C::Item> + Send, H: Machine>(
     rt: &H,
     alloc: Global,
-    mut call: F,
-) -> Result<Vec<u64>, Stop>
-    requires callable { F.IsAlwaysCallable call }
+    pool: &Pool<NoGate>,
+    source: &S,
+) -> Timed<C::Total>
+where
+    C::Item: Send + Sync,
+    C::Total: Send,
 {
-    let mut times = Vec::with_capacity(alloc, 100)?;
-    for number in 0..103 {
+    let threads = pool.max_num_threads();
+    LockOf::<InPlace<Folds<C, S>>>::with_slots_in_place(
+        rt,
+        alloc,
+        pool,
+        threads,
+        threads.min(1024) * 4,
+        |leader| -> Timed<C::Total>
+            requires { IsSync H.row }
+        { total_by::<C, S, H>(rt, alloc, leader, source) },
+    )?
+}
+
+fn total_by<C: Combine, S: Source<Item = C::Item>, H: Machine>(
+    rt: &H,
+    alloc: Global,
+    leader: &mut PlaceLeader<'_, Folds<C, S>, NoGate>,
+    source: &S,
+) -> Timed<C::Total>
+    requires { IsSync H.row }
+{
+    let mut times = Vec::with_capacity(alloc, CALLS)?;
+    let mut total = C::neutral();
+    for _ in 0..CALLS {
         let begin = Instant::now(rt)?;
-        call()?;
-        let time = begin.elapsed(rt)?;
-        if number >= 3 {
-            times.push(u64::from(time.subsec_nanos()))?;
-        }
+        total = leader.reduce(rt, alloc, source)?;
+        times.push(since(rt, begin)?)?;
     }
-    times.sort_unstable();
-    Ok(times)
+    Ok((times, total))
+}
+
+// The nanoseconds since then.
+fn since<H: Clock>(rt: &H, begin: Instant) -> Result<u64, Stop> {
+    Ok(u64::from(begin.elapsed(rt)?.subsec_nanos()))
 }
 
 fn print<H: Machine>(
     rt: &H,
     pool: &Pool<NoGate>,
     name: &'static str,
-    is_lock: bool,
     is_right: bool,
-    times: &Vec<u64>,
+    mut times: Vec<u64>,
 ) -> Result<(), Stop> {
     if !is_right {
         return Err(Stop::Wrong);
     }
-    let (runs_on, threads) = (
-        if is_lock { "lock" } else { "rayon" },
-        pool.max_num_threads(),
-    );
+    let mut times = times.split_off(3.min(times.len()))?;
+    times.sort_unstable();
     let (best, median) = (times.first().copied(), times.get(50).copied());
     println!(rt;
-        "{name} {runs_on} {threads} {} {}",
+        "{name} {} {} {}",
+        pool.max_num_threads(),
         best.unwrap_or(0),
         median.unwrap_or(0)
     )?;

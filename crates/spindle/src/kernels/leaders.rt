@@ -140,8 +140,8 @@ where
         ensures lock { threads_of self.new ≡ threads_of self.old }
         ensures slots { lock_slots self.new ≡ lock_slots self.old }
     {
-        let mut outputs = Vec::with_capacity(alloc, source.count())?;
-        let tasks = self.compute_all(rt, alloc, kernel, source)?;
+        let tasks = self.compute_all(rt, alloc, kernel, source, source.count())?;
+        let mut outputs = Vec::new(alloc);
         append_outputs(tasks, &mut outputs)?;
         Ok(outputs)
     }
@@ -161,18 +161,20 @@ where
         ensures slots { lock_slots self.new ≡ lock_slots self.old }
     {
         let mut pieces = Vec::with_capacity(alloc, self.piece_count())?;
-        let tasks = self.compute_all(rt, alloc, kernel, source)?;
+        let tasks = self.compute_all(rt, alloc, kernel, source, 0)?;
         take_outputs(tasks, &mut pieces)?;
         Ok(pieces)
     }
 
-    // The source in pieces, with what the kernel computes of each: a round of this lock.
+    // The source in pieces, with what the kernel computes of each: a round of this lock. The first has
+    // room for so many outputs at least.
     fn compute_all<H: Threads + Wait + Sync>(
         &mut self,
         rt: &H,
         alloc: Global,
         kernel: &K,
         source: &S,
+        room: usize,
     ) -> Result<Vec<Task<K, Run<S, K::Out>>>, Fault>
         ensures answer { IfOk result (λ tasks. AllZip (K.computes kernel.now)
             (S.items source.now) (joined (map (λ task. task.part.outputs.items) tasks.items))) }
@@ -181,7 +183,7 @@ where
         ensures slots { lock_slots self.new ≡ lock_slots self.old }
     {
         let jobs = self.piece_count();
-        let mut tasks = map_tasks(alloc, kernel, parts_of(alloc, source, jobs)?)?;
+        let mut tasks = map_tasks(alloc, kernel, parts_of(alloc, source, jobs)?, room)?;
         self.update_all(rt, alloc, jobs, &mut tasks)?;
         Ok(tasks)
     }
@@ -212,10 +214,9 @@ where
         ensures slots { lock_slots self.new ≡ lock_slots self.old }
     {
         let jobs = self.piece_count();
-        let values = Vec::with_capacity(alloc, run.len())?;
-        let mut tasks = trials_of(alloc, kernel, parts_of(alloc, run, jobs)?)?;
+        let mut tasks = trials_of(alloc, kernel, parts_of(alloc, run, jobs)?, run.len())?;
         self.update_all(rt, alloc, jobs, &mut tasks)?;
-        let tried = gathered_trials(kernel, tasks, values)?;
+        let tried = gathered_trials(kernel, tasks, Vec::new(alloc))?;
         Ok(tried)
     }
 }

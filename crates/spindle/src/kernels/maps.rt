@@ -7,7 +7,7 @@ ghost use Rattle.spindle.specs.Kernels.{IsOfKernel};
 use crate::kernels::Kernel;
 use crate::kernels::held::Again;
 use crate::kernels::source::{Source, parts_of};
-use crate::kernels::tasks::{PIECES, Task};
+use crate::kernels::tasks::{PIECES, Task, append_list};
 use crate::lock::update_one;
 use spindle_parts::fault::Fault;
 use spindle_parts::lists::SharedList;
@@ -30,11 +30,11 @@ pub struct Run<S: Source, U> {
 }
 
 impl<S: Source, U: Drop> Run<S, U> {
-    // The piece, with room for what is computed of it.
-    fn new(alloc: Global, source: S) -> Result<Run<S, U>, AllocError>
+    // The piece, with room for what is computed of it, and for so many outputs at least.
+    fn new(alloc: Global, source: S, room: usize) -> Result<Run<S, U>, AllocError>
         ensures { IfOk result (λ run. run.source ≡ source) }
     {
-        let outputs = Vec::with_capacity(alloc, source.count())?;
+        let outputs = Vec::with_capacity(alloc, source.count().max(room))?;
         Ok(Run { source, outputs })
     }
 
@@ -127,7 +127,7 @@ where
     let whole = SharedList::from_vec(alloc, list)?.run(0, len)?;
     let jobs = pool.max_num_threads().saturating_mul(PIECES);
     pieces.reserve(jobs.min(len))?;
-    let tasks = compute_all(rt, alloc, pool, jobs, kernel, &whole)?;
+    let tasks = compute_all(rt, alloc, pool, jobs, kernel, &whole, 0)?;
     take_outputs(tasks, &mut pieces)?;
     Ok(pieces)
 }
@@ -147,13 +147,14 @@ where
     ensures memory { OnErr result (IsErrOf result Fault.Memory) }
 {
     let jobs = pool.max_num_threads().saturating_mul(PIECES);
-    let mut outputs = Vec::with_capacity(alloc, source.count())?;
-    let tasks = compute_all(rt, alloc, pool, jobs, kernel, source)?;
+    let tasks = compute_all(rt, alloc, pool, jobs, kernel, source, source.count())?;
+    let mut outputs = Vec::new(alloc);
     append_outputs(tasks, &mut outputs)?;
     Ok(outputs)
 }
 
-// The source in so many pieces, with what the kernel computes of each: a round in a lock that is opened for it.
+// The source in so many pieces, with what the kernel computes of each: a round in a lock that is opened for it. The first has room for
+// so many outputs at least.
 fn compute_all<
     'k,
     K: Kernel + Send + Sync,
@@ -167,6 +168,7 @@ fn compute_all<
     jobs: usize,
     kernel: &'k K,
     source: &S,
+    room: usize,
 ) -> Result<Vec<Task<&'k K, Run<S, K::Out>>>, Fault>
 where
     K::In: Send + Sync,
@@ -176,16 +178,18 @@ where
         (S.items source.now) (joined (map (λ task. task.part.outputs.items) tasks.items))) }
     ensures memory { OnErr result (IsErrOf result Fault.Memory) }
 {
-    let tasks = map_tasks(alloc, &kernel, parts_of(alloc, source, jobs)?)?;
+    let tasks = map_tasks(alloc, &kernel, parts_of(alloc, source, jobs)?, room)?;
     let tasks = update_one::<InPlace<Mapping<&'k K, S>>, G, H>(rt, alloc, pool, jobs, tasks)?;
     Ok(tasks)
 }
 
-// The parts, each with the kernel and with room for what is computed of it.
+// The parts, each with the kernel and with room for what is computed of it. The first has room for
+// `all` outputs, so that its list can take those of the others.
 pub(crate) fn map_tasks<K: Again, S: Source, U: Drop>(
     alloc: Global,
     kernel: &K,
     parts: Vec<S>,
+    all: usize,
 ) -> Result<Vec<Task<K, Run<S, U>>>, AllocError>
     ensures parts { IfOk result (λ tasks.
         map (λ task. task.part.source) tasks.items ≡ parts.items) }
@@ -194,7 +198,8 @@ pub(crate) fn map_tasks<K: Again, S: Source, U: Drop>(
     let mut tasks = Vec::with_capacity(alloc, parts.len())?;
     for part in parts {
         let kernel = kernel.again()?;
-        let part = Run::new(alloc, part)?;
+        let room = if tasks.is_empty() { all } else { 0 };
+        let part = Run::new(alloc, part, room)?;
         tasks.push_reserved(Task { kernel, part });
     }
     Ok(tasks)
@@ -210,13 +215,13 @@ pub(crate) fn append_outputs<K: Drop, S: Source, U: Drop>(
 {
     for task in tasks {
         let Task { part, .. } = task;
-        let Run { mut outputs, .. } = part;
-        all.append(&mut outputs)?;
+        let Run { outputs, .. } = part;
+        append_list(outputs, all)?;
     }
     Ok(())
 }
 
-// Puts what was computed of each piece at the end of a list of pieces.
+// Puts what was computed of each piece at the end of a list of pieces, which has room for them, else takes it.
 pub(crate) fn take_outputs<K: Drop, S: Source, U: Drop>(
     tasks: Vec<Task<K, Run<S, U>>>,
     pieces: &mut Vec<Vec<U>>,
@@ -224,9 +229,10 @@ pub(crate) fn take_outputs<K: Drop, S: Source, U: Drop>(
     ensures { let outputs = map (λ task. task.part.outputs) tasks.items in
         OnOk result (pieces.new.items ≡ pieces.old.items ++ outputs) }
 {
+    pieces.reserve(tasks.len())?;
     for task in tasks {
         let Task { part, .. } = task;
-        pieces.push(part.outputs)?;
+        pieces.push_reserved(part.outputs);
     }
     Ok(())
 }

@@ -1,5 +1,5 @@
 //! What a job of a call over a list is given: the kernel, and a part of the list.
-ghost use Rattle.std.specs.Prelude.{◌≡◌, IfOk, All, map};
+ghost use Rattle.std.specs.Prelude.{◌≡◌, ◌++◌, IfOk, OnOk, All, map};
 ghost use Rattle.spindle.specs.Kernels.{IsOfKernel};
 
 use crate::kernels::held::Again;
@@ -30,6 +30,17 @@ pub(crate) fn tasks_of<K: Again, P: Drop>(
         tasks.push_reserved(Task { kernel, part });
     }
     Ok(tasks)
+}
+
+// Moves a list to the end of another. In place of an empty one the list itself stands, with its room.
+pub(crate) fn append_list<T: Drop>(mut list: Vec<T>, all: &mut Vec<T>) -> Result<(), AllocError>
+    ensures { OnOk result (all.new.items ≡ all.old.items ++ list.items) }
+{
+    if all.is_empty() {
+        *all = list;
+        return Ok(());
+    }
+    all.append(&mut list)
 }
 
 // The parts, without the kernel.

@@ -8,7 +8,7 @@ ghost use Rattle.spindle.specs.Tries.{AreUpTo, IsTried};
 use crate::kernels::Kernel;
 use crate::kernels::held::Again;
 use crate::kernels::source::parts_of;
-use crate::kernels::tasks::{PIECES, Task};
+use crate::kernels::tasks::{PIECES, Task, append_list};
 use crate::lock::update_one;
 use spindle_parts::fault::Fault;
 use spindle_parts::lists::{ListRun, SharedList};
@@ -43,11 +43,11 @@ pub struct Trial<T: Drop, V, E> {
 }
 
 impl<T: Drop, V: Drop, E: Drop> Trial<T, V, E> {
-    // The piece, with room for its values.
-    fn new(alloc: Global, run: ListRun<T>) -> Result<Trial<T, V, E>, AllocError>
+    // The piece, with room for its values, and for so many at least.
+    fn new(alloc: Global, run: ListRun<T>, room: usize) -> Result<Trial<T, V, E>, AllocError>
         ensures { IfOk result (λ trial. trial.run ≡ run) }
     {
-        let values = Vec::with_capacity(alloc, run.len())?;
+        let values = Vec::with_capacity(alloc, run.len().max(room))?;
         Ok(Trial {
             run,
             values,
@@ -175,18 +175,19 @@ where
     ensures memory { OnErr result (IsErrOf result Fault.Memory) }
 {
     let jobs = pool.max_num_threads().saturating_mul(PIECES);
-    let values = Vec::with_capacity(alloc, run.len())?;
-    let tasks = trials_of(alloc, &kernel, parts_of(alloc, run, jobs)?)?;
+    let tasks = trials_of(alloc, &kernel, parts_of(alloc, run, jobs)?, run.len())?;
     let tasks = update_one::<InPlace<Trying<&'k K, V, E>>, G, H>(rt, alloc, pool, jobs, tasks)?;
-    let tried = gathered_trials(&kernel, tasks, values)?;
+    let tried = gathered_trials(&kernel, tasks, Vec::new(alloc))?;
     Ok(tried)
 }
 
-// The runs, each with the kernel and with room for its values.
+// The runs, each with the kernel and with room for its values. The first has room for `all` values,
+// so that its list can take those of the others.
 pub(crate) fn trials_of<K: Again, T: Drop, V: Drop, E: Drop>(
     alloc: Global,
     kernel: &K,
     runs: Vec<ListRun<T>>,
+    all: usize,
 ) -> Result<Vec<Task<K, Trial<T, V, E>>>, AllocError>
     ensures runs { IfOk result (λ tasks. map (λ task. task.part.run) tasks.items ≡ runs.items) }
     ensures kernel { IfOk result (λ tasks. All (IsOfKernel kernel.now) tasks.items) }
@@ -194,7 +195,8 @@ pub(crate) fn trials_of<K: Again, T: Drop, V: Drop, E: Drop>(
     let mut tasks = Vec::with_capacity(alloc, runs.len())?;
     for run in runs {
         let kernel = kernel.again()?;
-        let part = Trial::new(alloc, run)?;
+        let room = if tasks.is_empty() { all } else { 0 };
+        let part = Trial::new(alloc, run, room)?;
         tasks.push_reserved(Task { kernel, part });
     }
     Ok(tasks)
@@ -215,11 +217,11 @@ pub(crate) fn gathered_trials<V: Drop, E: Drop, K: Kernel<Out = Result<V, E>> + 
     for task in tasks {
         let Task { part, .. } = task;
         let Trial {
-            values: mut own,
+            values: own,
             failure,
             ..
         } = part;
-        values.append(&mut own)?;
+        append_list(own, &mut values)?;
         match failure {
             None => {}
             Some(failure) => {

@@ -27,7 +27,7 @@ loop-task-preserved g c =
     let here = next_trial R run values failure before later task
     (subst (All (λ task. AreUpTo R (run task) (values task) (failure task))) whole c.requires.tried) in
     let none : failure task ≡ None = search rules in
-    let more : c.append.new.self.items ≡ c.loop-task.values.items ++ values task = search rules in
+    let more : c.append_list.new.all.items ≡ c.loop-task.values.items ++ values task = search rules in
     rw more (one_trial_more R run values failure before task c.loop-task.values.items c.loop-task.invariant here none)
 
 pub returns-in-Some-failure : goal.returns-in-Some-failure
@@ -47,10 +47,10 @@ returns-in-Some-failure g c =
     let here = next_trial R run values failure before later task
     (subst (All (λ task. AreUpTo R (run task) (values task) (failure task))) whole c.requires.tried) in
     let failed : failure task ≡ Some e = search rules in
-    let more : c.append.new.self.items ≡ c.loop-task.values.items ++ values task = search rules in
+    let more : c.append_list.new.all.items ≡ c.loop-task.values.items ++ values task = search rules in
     let all = first_trial_failed R run values failure before later task e c.loop-task.values.items c.loop-task.invariant here failed in (
       search rules,
-      subst (λ items. AreUpTo R (joined (map run items)) c.append.new.self.items (Some e)) (sym whole)
+      subst (λ items. AreUpTo R (joined (map run items)) c.append_list.new.all.items (Some e)) (sym whole)
           (subst (λ l. AreUpTo R (joined (map run (before ++ task ∷ later))) l (Some e)) (sym more) all),
     )
 
