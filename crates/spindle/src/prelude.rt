@@ -2,7 +2,7 @@
 
 pub use crate::kernels::{
     Change, Division, Failed, Kernel, MapsOf, PairMapsOf, PairRun, PairTotalsOf, Passes, PassesOf,
-    Shared, Split, Stencil, TotalsOf, TriesOf, UpdatesOf, divide, map, map_pairs, map_pieces,
+    Shared, Split, Stencil, TotalsOf, TriesOf, UpdatesOf, divide, map, map_into, map_pairs,
     passes_until, reduce_pairs, try_map, update,
 };
 pub use crate::lock::{

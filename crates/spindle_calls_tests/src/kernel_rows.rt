@@ -9,7 +9,7 @@ use crate::chunks::LastOdd;
 use crate::jobs::{Calls, Counting};
 use spindle::lock::{Combine, Limits, LockOf, NoGate, Pool};
 use spindle::{
-    Change, Fault, Kernel, Shared, SharedList, TotalsOf, UpdatesOf, map, map_pairs, map_pieces,
+    Change, Fault, Kernel, Shared, SharedList, TotalsOf, UpdatesOf, map, map_into, map_pairs,
     reduce, reduce_pairs, update,
 };
 use std::alloc::Global;
@@ -66,19 +66,31 @@ fn refused_map_has_run_no_job(rt: HostRuntime) -> Result<(), Fault> {
 }
 
 #[test]
-fn refused_map_in_pieces_has_run_no_job(rt: HostRuntime) -> Result<(), Fault> {
+fn refused_map_into_pieces_has_run_no_job(rt: HostRuntime) -> Result<(), Fault> {
     let alloc = rt.alloc();
     let calls = Calls::new();
     let pool = Pool::new(1, Limits::new(), Counting { calls: &calls });
     let kernel = AtMost { most: &7 };
-    let pieces = match map_pieces(&rt, alloc, &pool, &kernel, eleven_numbers(alloc)?) {
-        Ok(pieces) => pieces,
-        Err(fault) => {
-            holds(&rt, matches!(fault, Fault::Memory));
-            is(&rt, calls.in_all(), (0, 0));
-            map_pieces(&rt, alloc, &pool, &kernel, eleven_numbers(alloc)?)?
-        }
-    };
+    let mut pieces = Vec::new(alloc);
+    if let Err(fault) = map_into(
+        &rt,
+        alloc,
+        &pool,
+        &kernel,
+        eleven_numbers(alloc)?,
+        &mut pieces,
+    ) {
+        holds(&rt, matches!(fault, Fault::Memory));
+        is(&rt, (pieces.len(), calls.in_all()), (0, (0, 0)));
+        map_into(
+            &rt,
+            alloc,
+            &pool,
+            &kernel,
+            eleven_numbers(alloc)?,
+            &mut pieces,
+        )?;
+    }
     is(&rt, (pieces.len(), calls.in_all()), (4, (4, 4)));
     let all = pieces.iter().flatten();
     is(

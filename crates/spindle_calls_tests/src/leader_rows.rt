@@ -10,17 +10,12 @@ use spindle::kernels::{Again, Mapping, Source};
 use spindle::lock::{Combine, Folds};
 use spindle::prelude::*;
 
-// Computes a source twice by one leader: into one list, and into pieces.
+// Computes a source thrice by one leader: into one list, and into pieces, for which a list is there.
 fn compute_twice<
     K: Kernel + Again + Send + Sync,
     S: Source<Item = K::In> + Send,
     H: Threads + Wait + Sync,
->(
-    rt: &H,
-    alloc: Global,
-    kernel: &K,
-    source: &S,
-) -> Result<(Vec<K::Out>, Vec<Vec<K::Out>>), Fault>
+>(rt: &H, alloc: Global, kernel: &K, source: &S) -> Result<(Vec<K::Out>, Vec<Vec<K::Out>>), Fault>
 where
     K::In: Send + Sync,
     K::Out: Send,
@@ -48,16 +43,14 @@ fn computed_twice<K: Kernel + Again, S: Source<Item = K::In>, G: Gate, H: Thread
     requires { IsSync H.row }
 {
     let all = leader.map(rt, alloc, kernel, source)?;
-    let pieces = leader.map_pieces(rt, alloc, kernel, source)?;
+    let mut pieces = Vec::new(alloc);
+    pieces.push(leader.map(rt, alloc, kernel, source)?)?;
+    leader.map_into(rt, alloc, kernel, source, &mut pieces)?;
     Ok((all, pieces))
 }
 
 // The total of a source, twice by one leader.
-fn total_twice<
-    C: Combine + Send,
-    S: Source<Item = C::Item> + Send,
-    H: Threads + Wait + Sync,
->(
+fn total_twice<C: Combine + Send, S: Source<Item = C::Item> + Send, H: Threads + Wait + Sync>(
     rt: &H,
     alloc: Global,
     source: &S,
@@ -100,8 +93,21 @@ fn a_leader_goes_over_pairs_again(rt: HostRuntime) -> Result<(), Fault> {
     let (sums, pieces) = compute_twice(&rt, alloc, &Shared::new(alloc, Sum)?, &pairs)?;
     let wanted = [103, 201, 304, 401, 505];
     are(&rt, &sums, &wanted);
-    is(&rt, pieces.iter().flatten().zip(&wanted).filter(|pair| pair.0 == pair.1).count(), 5);
+    is(
+        &rt,
+        pieces
+            .iter()
+            .flatten()
+            .zip(&wanted)
+            .filter(|pair| pair.0 == pair.1)
+            .count(),
+        5,
+    );
     is(&rt, pieces.iter().map(|piece| piece.len()).max(), Some(2));
-    is(&rt, total_twice::<LastSecond, _, _>(&rt, alloc, &pairs)?, (500, 500));
+    is(
+        &rt,
+        total_twice::<LastSecond, _, _>(&rt, alloc, &pairs)?,
+        (500, 500),
+    );
     Ok(())
 }

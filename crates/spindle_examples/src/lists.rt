@@ -61,10 +61,7 @@ fn maps<H: Machine>(rt: &H, pool: &Pool<NoGate>) -> Result<(), Stop> {
     let mut times = Vec::with_capacity(alloc, CALLS)?;
     for _ in 0..CALLS {
         let begin = Instant::now(rt)?;
-        let more = list
-            .as_slice()
-            .par_iter()
-            .map(|x: &u64| x.wrapping_add(1));
+        let more = list.as_slice().par_iter().map(|x: &u64| x.wrapping_add(1));
         let _list: Vec<u64> = more.collect(rt, alloc)?;
         times.push(since(rt, begin)?)?;
     }
@@ -109,8 +106,7 @@ fn map_by<K: Kernel + Again, S: Source<Item = K::In>, H: Machine>(
     let mut pieces = Vec::new(alloc);
     for _ in 0..CALLS {
         let begin = Instant::now(rt)?;
-        pieces.clear();
-        pieces = leader.map_pieces(rt, alloc, kernel, source)?;
+        leader.map_into(rt, alloc, kernel, source, &mut pieces)?;
         times.push(since(rt, begin)?)?;
     }
     Ok((times, pieces))

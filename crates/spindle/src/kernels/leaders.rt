@@ -1,5 +1,5 @@
 //! Calls over whole lists in a lock that stays open: round after round by one leader, whose kernel its lists share.
-ghost use Rattle.std.specs.Prelude.{◌≡◌, ◌<◌, ◌≤◌, IfOk, OnErr, IsErrOf, map};
+ghost use Rattle.std.specs.Prelude.{◌≡◌, ◌<◌, ◌≤◌, [], IfOk, OnOk, OnErr, IsErrOf, map};
 ghost use Rattle.spindle.specs.Folds.{total_of};
 ghost use Rattle.spindle.specs.Passes.{HavePassed};
 ghost use Rattle.spindle.specs.Tries.{IsTried};
@@ -25,6 +25,7 @@ use spindle_parts::lists::ListRun;
 use spindle_slots::job::update::InPlace;
 use spindle_trays::job::gate::Gate;
 use std::alloc::Global;
+use std::mem;
 use std::sync::Wait;
 use std::thread::Threads;
 
@@ -140,50 +141,58 @@ where
         ensures lock { threads_of self.new ≡ threads_of self.old }
         ensures slots { lock_slots self.new ≡ lock_slots self.old }
     {
-        let tasks = self.compute_all(rt, alloc, kernel, source, source.count())?;
         let mut outputs = Vec::new(alloc);
+        let len = source.count();
+        let tasks = self.compute_all(rt, alloc, kernel, source, &mut Vec::new(alloc), len)?;
         append_outputs(tasks, &mut outputs)?;
         Ok(outputs)
     }
 
-    /// What `map` answers, left in the pieces that were computed apart, as `spindle::map_pieces` leaves it.
-    pub fn map_pieces<H: Threads + Wait + Sync>(
+    /// What `map` answers, left in the pieces that were computed apart, as `spindle::map_into` leaves it. Round after round the same
+    /// lists serve.
+    pub fn map_into<H: Threads + Wait + Sync>(
         &mut self,
         rt: &H,
         alloc: Global,
         kernel: &K,
         source: &S,
-    ) -> Result<Vec<Vec<K::Out>>, Fault>
-        ensures answer { IfOk result (λ pieces. AllZip (K.computes kernel.now)
-            (S.items source.now) (joined (map (λ piece. piece.items) pieces.items))) }
+        pieces: &mut Vec<Vec<K::Out>>,
+    ) -> Result<(), Fault>
+        ensures answer { OnOk result (AllZip (K.computes kernel.now)
+            (S.items source.now) (joined (map (λ piece. piece.items) pieces.new.items))) }
+        ensures given_up { OnErr result (pieces.new.items ≡ []) }
         ensures memory { OnErr result (IsErrOf result Fault.Memory) }
         ensures lock { threads_of self.new ≡ threads_of self.old }
         ensures slots { lock_slots self.new ≡ lock_slots self.old }
     {
-        let mut pieces = Vec::with_capacity(alloc, self.piece_count())?;
-        let tasks = self.compute_all(rt, alloc, kernel, source, 0)?;
-        take_outputs(tasks, &mut pieces)?;
-        Ok(pieces)
+        let mut lists = mem::replace(pieces, Vec::new(alloc));
+        let tasks = self.compute_all(rt, alloc, kernel, source, &mut lists, 0)?;
+        take_outputs(tasks, &mut lists)?;
+        *pieces = lists;
+        Ok(())
     }
 
     // The source in pieces, with what the kernel computes of each: a round of this lock. The first has
-    // room for so many outputs at least.
+    // room for so many outputs at least. The lists are used up.
     fn compute_all<H: Threads + Wait + Sync>(
         &mut self,
         rt: &H,
         alloc: Global,
         kernel: &K,
         source: &S,
+        lists: &mut Vec<Vec<K::Out>>,
         room: usize,
     ) -> Result<Vec<Task<K, Run<S, K::Out>>>, Fault>
         ensures answer { IfOk result (λ tasks. AllZip (K.computes kernel.now)
             (S.items source.now) (joined (map (λ task. task.part.outputs.items) tasks.items))) }
+        ensures used { OnOk result (lists.new.items ≡ []) }
         ensures memory { OnErr result (IsErrOf result Fault.Memory) }
         ensures lock { threads_of self.new ≡ threads_of self.old }
         ensures slots { lock_slots self.new ≡ lock_slots self.old }
     {
         let jobs = self.piece_count();
-        let mut tasks = map_tasks(alloc, kernel, parts_of(alloc, source, jobs)?, room)?;
+        let parts = parts_of(alloc, source, jobs)?;
+        let mut tasks = map_tasks(alloc, kernel, parts, lists, room)?;
         self.update_all(rt, alloc, jobs, &mut tasks)?;
         Ok(tasks)
     }

@@ -1,5 +1,5 @@
 //! What a kernel computes of each item of a list. A job has a run of the list, and room for what it computes: it takes no memory.
-ghost use Rattle.std.specs.Prelude.{◌≡◌, ◌<◌, ◌≤◌, ◌++◌, IfOk, IsOk, OnOk, OnErr, IsErrOf, All, map, length, vec_len, vec_capacity};
+ghost use Rattle.std.specs.Prelude.{◌≡◌, ◌<◌, ◌≤◌, ◌++◌, [], IfOk, IsOk, OnOk, OnErr, IsErrOf, All, map, length, vec_len, vec_capacity};
 ghost use Rattle.std.specs.List.{AllZip};
 ghost use Rattle.spindle_parts.specs.Pieces.{joined};
 ghost use Rattle.spindle.specs.Kernels.{IsOfKernel};
@@ -18,6 +18,7 @@ use spindle_trays::job::nest::End;
 use spindle_trays::lock::pool::Pool;
 use std::alloc::{AllocError, Global};
 use std::marker::PhantomData;
+use std::mem;
 use std::sync::Wait;
 use std::thread::Threads;
 
@@ -30,11 +31,12 @@ pub struct Run<S: Source, U> {
 }
 
 impl<S: Source, U: Drop> Run<S, U> {
-    // The piece, with room for what is computed of it, and for so many outputs at least.
-    fn new(alloc: Global, source: S, room: usize) -> Result<Run<S, U>, AllocError>
+    // The piece, with a list that has room for what is computed of it, and for so many outputs at least.
+    fn new(source: S, mut outputs: Vec<U>, room: usize) -> Result<Run<S, U>, AllocError>
         ensures { IfOk result (λ run. run.source ≡ source) }
     {
-        let outputs = Vec::with_capacity(alloc, source.count().max(room))?;
+        outputs.clear();
+        outputs.reserve(source.count().max(room))?;
         Ok(Run { source, outputs })
     }
 
@@ -102,34 +104,36 @@ where
     map_once(rt, alloc, pool, kernel, &list)
 }
 
-/// What `map` answers, left in the pieces that were computed apart: one behind the other they are its list. No output is moved,
-/// which takes a fraction of the time of `map` where the list is long. Memory is the only refusal. An empty list takes none.
-pub fn map_pieces<K: Kernel + Send + Sync, G: Gate + Sync, H: Threads + Wait + Sync>(
+/// What `map` answers, left in the pieces that were computed apart, which one behind the other are its list. No output is moved, and
+/// the lists that `pieces` holds serve again, so long lists take a fraction of the time of `map`. Memory is the only refusal, and
+/// gives these lists up. An empty list takes none.
+pub fn map_into<K: Kernel + Send + Sync, G: Gate + Sync, H: Threads + Wait + Sync>(
     rt: &H,
     alloc: Global,
     pool: &Pool<G>,
     kernel: &K,
     list: Vec<K::In>,
-) -> Result<Vec<Vec<K::Out>>, Fault>
+    pieces: &mut Vec<Vec<K::Out>>,
+) -> Result<(), Fault>
 where
     K::In: Send + Sync,
     K::Out: Send,
-    ensures answer { IfOk result (λ pieces. AllZip (K.computes kernel.now)
-        list.items (joined (map (λ piece. piece.items) pieces.items))) }
+    ensures answer { OnOk result (AllZip (K.computes kernel.now)
+        list.items (joined (map (λ piece. piece.items) pieces.new.items))) }
+    ensures given_up { OnErr result (pieces.new.items ≡ []) }
     ensures memory { OnErr result (IsErrOf result Fault.Memory) }
     ensures empty { vec_len list ≡ 0 → IsOk result }
 {
-    let mut pieces = Vec::new(alloc);
+    let mut lists = mem::replace(pieces, Vec::new(alloc));
     if list.is_empty() {
-        return Ok(pieces);
+        return Ok(());
     }
     let len = list.len();
     let whole = SharedList::from_vec(alloc, list)?.run(0, len)?;
-    let jobs = pool.max_num_threads().saturating_mul(PIECES);
-    pieces.reserve(jobs.min(len))?;
-    let tasks = compute_all(rt, alloc, pool, jobs, kernel, &whole, 0)?;
-    take_outputs(tasks, &mut pieces)?;
-    Ok(pieces)
+    let tasks = compute_all(rt, alloc, pool, kernel, &whole, &mut lists, 0)?;
+    take_outputs(tasks, &mut lists)?;
+    *pieces = lists;
+    Ok(())
 }
 
 /// What `map` answers, over any source.
@@ -146,15 +150,15 @@ where
         AllZip (K.computes kernel.now) (S.items source.now) outputs.items) }
     ensures memory { OnErr result (IsErrOf result Fault.Memory) }
 {
-    let jobs = pool.max_num_threads().saturating_mul(PIECES);
-    let tasks = compute_all(rt, alloc, pool, jobs, kernel, source, source.count())?;
     let mut outputs = Vec::new(alloc);
+    let len = source.count();
+    let tasks = compute_all(rt, alloc, pool, kernel, source, &mut Vec::new(alloc), len)?;
     append_outputs(tasks, &mut outputs)?;
     Ok(outputs)
 }
 
-// The source in so many pieces, with what the kernel computes of each: a round in a lock that is opened for it. The first has room for
-// so many outputs at least.
+// The source in pieces, with what the kernel computes of each: a round in a lock that is opened for it. The first has room for so many
+// outputs at least. The lists are used up.
 fn compute_all<
     'k,
     K: Kernel + Send + Sync,
@@ -165,43 +169,51 @@ fn compute_all<
     rt: &H,
     alloc: Global,
     pool: &Pool<G>,
-    jobs: usize,
     kernel: &'k K,
     source: &S,
+    lists: &mut Vec<Vec<K::Out>>,
     room: usize,
 ) -> Result<Vec<Task<&'k K, Run<S, K::Out>>>, Fault>
 where
     K::In: Send + Sync,
     K::Out: Send,
-    requires { 0 < jobs }
     ensures answer { IfOk result (λ tasks. AllZip (K.computes kernel.now)
         (S.items source.now) (joined (map (λ task. task.part.outputs.items) tasks.items))) }
+    ensures used { OnOk result (lists.new.items ≡ []) }
     ensures memory { OnErr result (IsErrOf result Fault.Memory) }
 {
-    let tasks = map_tasks(alloc, &kernel, parts_of(alloc, source, jobs)?, room)?;
+    let jobs = pool.max_num_threads().saturating_mul(PIECES);
+    let parts = parts_of(alloc, source, jobs)?;
+    let tasks = map_tasks(alloc, &kernel, parts, lists, room)?;
     let tasks = update_one::<InPlace<Mapping<&'k K, S>>, G, H>(rt, alloc, pool, jobs, tasks)?;
     Ok(tasks)
 }
 
-// The parts, each with the kernel and with room for what is computed of it. The first has room for
-// `all` outputs, so that its list can take those of the others.
+// The parts, each with the kernel and with room for what is computed of it, in one of the lists where there are any: a part has the same
+// list round after round, so that its thread may have it at hand. The first has room for so many outputs at least, so that its list can
+// take those of the others. The list of lists stays, with room for as many.
 pub(crate) fn map_tasks<K: Again, S: Source, U: Drop>(
     alloc: Global,
     kernel: &K,
     parts: Vec<S>,
-    all: usize,
+    lists: &mut Vec<Vec<U>>,
+    room: usize,
 ) -> Result<Vec<Task<K, Run<S, U>>>, AllocError>
     ensures parts { IfOk result (λ tasks.
         map (λ task. task.part.source) tasks.items ≡ parts.items) }
     ensures kernel { IfOk result (λ tasks. All (IsOfKernel kernel.now) tasks.items) }
+    ensures used { OnOk result (lists.new.items ≡ []) }
 {
     let mut tasks = Vec::with_capacity(alloc, parts.len())?;
+    lists.reverse();
     for part in parts {
         let kernel = kernel.again()?;
-        let room = if tasks.is_empty() { all } else { 0 };
-        let part = Run::new(alloc, part, room)?;
+        let list = lists.pop().unwrap_or(Vec::new(alloc));
+        let part = Run::new(part, list, if tasks.is_empty() { room } else { 0 })?;
         tasks.push_reserved(Task { kernel, part });
     }
+    lists.clear();
+    lists.reserve(tasks.len())?;
     Ok(tasks)
 }
 

@@ -13,7 +13,7 @@ returns-clause-answer g c =
     let new = c.in_ok-tasks-2.tasks.items in
     let items = g.S.Source.items in
     let whole : joined (map (λ task. items task.part.source) old) ≡ items c.args.source.now =
-    ap joined (sym (map-map items (λ task. task.part.source) old) ∙ ap (map items) c.in_ok-tasks.ensures.parts) ∙ c.in_ok-parts_of.ensures.joined in
+    ap joined (sym (map-map items (λ task. task.part.source) old) ∙ ap (map items) c.in_ok-tasks.ensures.parts) ∙ c.in_ok-parts.ensures.joined in
     let mapped : AllZip (R c.args.kernel.now) (joined (map (λ task. items task.part.source) old)) (joined (map (λ task. task.part.outputs.items) new)) =
     joined_tasks (λ kernel. R kernel.now) c.args.kernel (λ task. task.kernel) (λ task. items task.part.source)
     (λ task. task.part.outputs.items) old new c.in_ok-tasks.ensures.kernel c.in_ok-tasks-2.ensures.updated in

@@ -14,7 +14,7 @@ returns-clause-answer g c =
     let new = c.update_all.new.items.items in
     let items = g.S.Source.items in
     let whole : joined (map (λ task. items task.part.source) old) ≡ items c.args.source.now =
-    ap joined (sym (map-map items (λ task. task.part.source) old) ∙ ap (map items) c.in_ok-tasks.ensures.parts) ∙ c.in_ok-parts_of.ensures.joined in
+    ap joined (sym (map-map items (λ task. task.part.source) old) ∙ ap (map items) c.in_ok-tasks.ensures.parts) ∙ c.in_ok-parts.ensures.joined in
     let mapped : AllZip (R kernel) (joined (map (λ task. items task.part.source) old)) (joined (map (λ task. task.part.outputs.items) new)) =
     joined_tasks R kernel (λ task. task.kernel) (λ task. items task.part.source)
     (λ task. task.part.outputs.items) old new c.in_ok-tasks.ensures.kernel c.in_ok-update_all.ensures.updated in
