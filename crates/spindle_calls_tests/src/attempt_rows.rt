@@ -4,7 +4,7 @@ ghost use Rattle.std.specs.Prelude.{◌≡◌, min};
 
 use crate::checks::{are, holds, is};
 use crate::jobs::{Calls, Counting};
-use spindle::lock::NoGate;
+use crate::leaders::{Led, LedBy, Runs, in_place};
 use spindle::prelude::*;
 
 // The less of a number and seven; seven is a failure.
@@ -60,33 +60,25 @@ fn is_pair(attempts: &[Attempt<u32, u32>], at: usize, items: &[u32], outputs: &[
     }
 }
 
+impl Led for AttemptsOf<BelowSeven> {
+    fn lead<H: Runs>(rt: &H, alloc: Global, leader: &mut LedBy<Self>) -> Result<(), Fault> {
+        for _ in 0..100 {
+            let stopped = leader.try_each(rt, alloc, 8, numbers(alloc, 8)?)?;
+            is(rt, stopped.len(), 8);
+            let mut outputs = Vec::new(alloc);
+            for attempt in leader.try_each(rt, alloc, 8, numbers(alloc, 2)?)? {
+                let (_, mut own) = attempt.into_lists();
+                outputs.append(&mut own)?;
+            }
+            are(rt, &outputs, &[1, 2]);
+        }
+        Ok(())
+    }
+}
+
 #[test]
 fn a_lock_goes_on_after_a_round_that_stopped(rt: HostRuntime) -> Result<(), Fault> {
-    let alloc = rt.alloc();
-    let pool = Pool::new(4, Limits::new(), NoGate);
-    LockOf::<AttemptsOf<BelowSeven>>::with_slots_in_place(
-        &rt,
-        alloc,
-        &pool,
-        4,
-        8,
-        |leader| -> Result<(), Fault> {
-            for _ in 0..100 {
-                is(
-                    &rt,
-                    leader.try_each(&rt, alloc, 8, numbers(alloc, 8)?)?.len(),
-                    8,
-                );
-                let mut outputs = Vec::new(alloc);
-                for attempt in leader.try_each(&rt, alloc, 8, numbers(alloc, 2)?)? {
-                    let (_, mut own) = attempt.into_lists();
-                    outputs.append(&mut own)?;
-                }
-                are(&rt, &outputs, &[1, 2]);
-            }
-            Ok(())
-        },
-    )?
+    in_place::<AttemptsOf<BelowSeven>, _>(&rt, rt.alloc(), 8)
 }
 
 // A leader alone runs no piece behind a failure.

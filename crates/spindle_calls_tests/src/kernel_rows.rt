@@ -7,12 +7,9 @@ ghost use Rattle.std.specs.Prelude.{◌≡◌, ◌+◌, min};
 use crate::checks::{are, holds, is};
 use crate::chunks::LastOdd;
 use crate::jobs::{Calls, Counting};
-use spindle::lock::{Combine, Limits, LockOf, NoGate, Pool};
-use spindle::{
-    Change, Fault, Kernel, Shared, SharedList, TotalsOf, UpdatesOf, map, map_into, map_pairs,
-    reduce, reduce_pairs, update,
-};
-use std::alloc::Global;
+use crate::leaders::{Led, LedBy, Runs, in_place};
+use spindle::lock::Combine;
+use spindle::prelude::*;
 
 // A number, but no more than one that is borrowed.
 #[derive(Drop)]
@@ -226,44 +223,32 @@ fn a_fold_has_four_jobs_a_thread(rt: HostRuntime) -> Result<(), Fault> {
     Ok(())
 }
 
+impl Led for UpdatesOf<Bound> {
+    fn lead<H: Runs>(rt: &H, alloc: Global, leader: &mut LedBy<Self>) -> Result<(), Fault> {
+        let kernel = Shared::new(alloc, Bound { most: 5 })?;
+        let once = leader.update(rt, alloc, &kernel, eleven_numbers(alloc)?)?;
+        are(rt, &leader.update(rt, alloc, &kernel, once)?, &BOUNDED);
+        Ok(())
+    }
+}
+
 #[test]
 fn a_leader_updates_a_list_again(rt: HostRuntime) -> Result<(), Fault> {
-    let alloc = rt.alloc();
-    let pool = Pool::new(4, Limits::new(), NoGate);
-    let kernel = Shared::new(alloc, Bound { most: 5 })?;
-    let numbers = eleven_numbers(alloc)?;
-    let list = LockOf::<UpdatesOf<Bound>>::with_slots_in_place(
-        &rt,
-        alloc,
-        &pool,
-        4,
-        5,
-        |leader| -> Result<Vec<u32>, Fault> {
-            let once = leader.update(&rt, alloc, &kernel, numbers)?;
-            leader.update(&rt, alloc, &kernel, once)
-        },
-    )??;
-    are(&rt, &list, &BOUNDED);
-    Ok(())
+    in_place::<UpdatesOf<Bound>, _>(&rt, rt.alloc(), 5)
+}
+
+impl Led for TotalsOf<LastOdd> {
+    fn lead<H: Runs>(rt: &H, alloc: Global, leader: &mut LedBy<Self>) -> Result<(), Fault> {
+        let list = SharedList::from_vec(alloc, eleven_numbers(alloc)?)?;
+        let list = list.run(0, list.len())?;
+        for _ in 0..2 {
+            is(rt, leader.reduce(rt, alloc, &list)?, u32::MAX);
+        }
+        Ok(())
+    }
 }
 
 #[test]
 fn a_leader_makes_totals_again(rt: HostRuntime) -> Result<(), Fault> {
-    let alloc = rt.alloc();
-    let pool = Pool::new(4, Limits::new(), NoGate);
-    let list = SharedList::from_vec(alloc, eleven_numbers(alloc)?)?;
-    let list = list.run(0, list.len())?;
-    let (one, other) = LockOf::<TotalsOf<LastOdd>>::with_slots_in_place(
-        &rt,
-        alloc,
-        &pool,
-        4,
-        5,
-        |leader| -> Result<(u32, u32), Fault> {
-            let one = leader.reduce(&rt, alloc, &list)?;
-            Ok((one, leader.reduce(&rt, alloc, &list)?))
-        },
-    )??;
-    is(&rt, (one, other), (u32::MAX, u32::MAX));
-    Ok(())
+    in_place::<TotalsOf<LastOdd>, _>(&rt, rt.alloc(), 5)
 }

@@ -25,6 +25,8 @@ mod laws;
 #[cfg(test)]
 mod leader_rows;
 #[cfg(test)]
+mod leaders;
+#[cfg(test)]
 mod pass_rows;
 #[cfg(test)]
 mod refused_calls;

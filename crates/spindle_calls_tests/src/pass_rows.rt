@@ -4,11 +4,8 @@ ghost use Rattle.std.specs.Prelude.{◌≡◌, ◌==◌, min};
 
 use crate::checks::{are, is};
 use crate::jobs::{Calls, Counting};
-use spindle::lock::{End, InPlace, JobCx, Limits, LockOf, NoGate, Pool, Update};
-use spindle::{Fault, Passes, PassesOf, Shared, SharedList, Stencil, Strip, passes_until};
-use std::alloc::Global;
-use std::sync::Wait;
-use std::thread::Threads;
+use crate::leaders::{Led, LedBy, Runs, in_place};
+use spindle::prelude::*;
 
 // Each value becomes the least of itself and its neighbours, until none changes.
 #[derive(Drop)]
@@ -68,26 +65,20 @@ fn refused_passes_have_run_no_job(rt: HostRuntime) -> Result<(), Fault> {
     Ok(())
 }
 
+impl Led for PassesOf<Least> {
+    fn lead<H: Runs>(rt: &H, alloc: Global, leader: &mut LedBy<Self>) -> Result<(), Fault> {
+        let kernel = Shared::new(alloc, Least)?;
+        let once = leader.passes_until(rt, alloc, &kernel, eight_numbers(alloc)?, 9, 1)?;
+        let passes = leader.passes_until(rt, alloc, &kernel, once.values, 0, 9)?;
+        are(rt, &passes.values, &[0; 8]);
+        is(rt, (passes.count, passes.settled), (5, true));
+        Ok(())
+    }
+}
+
 #[test]
 fn a_leader_passes_over_a_list_again(rt: HostRuntime) -> Result<(), Fault> {
-    let alloc = rt.alloc();
-    let pool = Pool::new(4, Limits::new(), NoGate);
-    let kernel = Shared::new(alloc, Least)?;
-    let numbers = eight_numbers(alloc)?;
-    let passes = LockOf::<PassesOf<Least>>::with_slots_in_place(
-        &rt,
-        alloc,
-        &pool,
-        4,
-        5,
-        |leader| -> Result<Passes<u32>, Fault> {
-            let once = leader.passes_until(&rt, alloc, &kernel, numbers, 9, 1)?;
-            leader.passes_until(&rt, alloc, &kernel, once.values, 0, 9)
-        },
-    )??;
-    are(&rt, &passes.values, &[0; 8]);
-    is(&rt, (passes.count, passes.settled), (5, true));
-    Ok(())
+    in_place::<PassesOf<Least>, _>(&rt, rt.alloc(), 5)
 }
 
 // Lowers the first value of a strip to the one before it, and notes what the strip's first value was.
@@ -115,32 +106,26 @@ impl Update for LowerFirst {
     }
 }
 
+impl Led for InPlace<LowerFirst> {
+    fn lead<H: Runs>(rt: &H, alloc: Global, leader: &mut LedBy<Self>) -> Result<(), Fault> {
+        let list = SharedList::from_vec(alloc, eight_numbers(alloc)?)?;
+        let mut strips = list.strips(alloc, 3, 7, 0)?;
+        leader.pass(rt, alloc, &mut strips, 2)?;
+        let mut found = Vec::new(alloc);
+        for strip in &strips {
+            found.push((strip.before, strip.note, strip.behind))?;
+        }
+        are(rt, &found, &[(2, 3, 1), (4, 1, 2), (9, 2, 2)]);
+        are(
+            rt,
+            &joined_strips(alloc, strips)?,
+            &[2, 1, 4, 1, 5, 9, 2, 6],
+        );
+        Ok(())
+    }
+}
+
 #[test]
 fn a_pass_tells_each_strip_its_neighbours_first(rt: HostRuntime) -> Result<(), Fault> {
-    let alloc = rt.alloc();
-    let pool = Pool::new(4, Limits::new(), NoGate);
-    let list = SharedList::from_vec(alloc, eight_numbers(alloc)?)?;
-    let mut strips = list.strips(alloc, 3, 7, 0)?;
-    let strips = LockOf::<InPlace<LowerFirst>>::with_slots_in_place(
-        &rt,
-        alloc,
-        &pool,
-        4,
-        3,
-        |leader| -> Result<Vec<Strip<u32, u32>>, Fault> {
-            leader.pass(&rt, alloc, &mut strips, 2)?;
-            Ok(strips)
-        },
-    )??;
-    let mut found = Vec::new(alloc);
-    for strip in &strips {
-        found.push((strip.before, strip.note, strip.behind))?;
-    }
-    are(&rt, &found, &[(2, 3, 1), (4, 1, 2), (9, 2, 2)]);
-    are(
-        &rt,
-        &spindle::joined_strips(alloc, strips)?,
-        &[2, 1, 4, 1, 5, 9, 2, 6],
-    );
-    Ok(())
+    in_place::<InPlace<LowerFirst>, _>(&rt, rt.alloc(), 3)
 }

@@ -3,9 +3,8 @@ ghost use Rattle.spindle_calls_tests.specs.Halves.{IsHalf};
 
 use crate::checks::{are, holds, is};
 use crate::jobs::{Calls, Counting};
-use spindle::lock::{Limits, LockOf, NoGate, Pool};
-use spindle::{Failed, Fault, Kernel, Shared, SharedList, TriesOf, try_map};
-use std::alloc::Global;
+use crate::leaders::{Led, LedBy, Runs, in_place};
+use spindle::prelude::*;
 use std::process::Abort;
 
 // Halves an even number, or fails with an odd one.
@@ -60,28 +59,21 @@ fn failed_at(rt: &impl Abort, tried: Tried, place: usize, failure: u32) {
     }
 }
 
+impl Led for TriesOf<Halve, u32, u32> {
+    fn lead<H: Runs>(rt: &H, alloc: Global, leader: &mut LedBy<Self>) -> Result<(), Fault> {
+        let kernel = Shared::new(alloc, Halve)?;
+        for (first, second, place, failure) in [(5, 6, 5, 31), (11, 3, 3, 33)] {
+            let list = SharedList::from_vec(alloc, numbers_but(alloc, first, second)?)?;
+            let tried = leader.try_map(rt, alloc, &kernel, &list.run(0, list.len())?)?;
+            failed_at(rt, tried, place, failure);
+        }
+        Ok(())
+    }
+}
+
 #[test]
 fn a_leader_tries_a_list_again(rt: HostRuntime) -> Result<(), Fault> {
-    let alloc = rt.alloc();
-    let pool = Pool::new(4, Limits::new(), NoGate);
-    let kernel = Shared::new(alloc, Halve)?;
-    let one = SharedList::from_vec(alloc, numbers_but(alloc, 5, 6)?)?;
-    let other = SharedList::from_vec(alloc, numbers_but(alloc, 11, 3)?)?;
-    let (one, other) = (one.run(0, one.len())?, other.run(0, other.len())?);
-    let (one, other) = LockOf::<TriesOf<Halve, u32, u32>>::with_slots_in_place(
-        &rt,
-        alloc,
-        &pool,
-        4,
-        5,
-        |leader| -> Result<(Tried, Tried), Fault> {
-            let one = leader.try_map(&rt, alloc, &kernel, &one)?;
-            Ok((one, leader.try_map(&rt, alloc, &kernel, &other)?))
-        },
-    )??;
-    failed_at(&rt, one, 5, 31);
-    failed_at(&rt, other, 3, 33);
-    Ok(())
+    in_place::<TriesOf<Halve, u32, u32>, _>(&rt, rt.alloc(), 5)
 }
 
 #[test]
