@@ -5,15 +5,12 @@ ghost use denote.Param.Send.{IsSync};
 use crate::callers;
 use crate::checks::{are, is};
 use crate::jobs::Square;
-use spindle::lock::{Limits, NoGate, Pool, RunsRounds};
-use spindle::{Fault, with_lock};
-use std::alloc::Global;
-use std::process::Abort;
-use std::sync::Wait;
-use std::thread::Threads;
+use crate::leaders::Runs;
+use spindle::prelude::*;
+use spindle::with_lock;
 
 // Rounds into one list, whose memory serves again.
-fn square_into<R: RunsRounds<Square>, H: Threads + Wait + Abort + Sync>(
+fn square_into<R: RunsRounds<Square>, H: Runs>(
     rt: &H,
     alloc: Global,
     leader: &mut R,

@@ -3,11 +3,8 @@
 ghost use Rattle.std.specs.Prelude.{◌≡◌, ◌+◌, ◌/◌, IfOk, map};
 ghost use Rattle.std.proofs.Common.{rules};
 
-use spindle::ListRun;
-use spindle::lock::{Combine, End, Job, JobCx};
-use std::alloc::{AllocError, Global};
-use std::sync::Wait;
-use std::thread::Threads;
+use spindle::lock::Combine;
+use spindle::prelude::*;
 
 /// Adds one to each element of a chunk.
 pub struct AddOne;

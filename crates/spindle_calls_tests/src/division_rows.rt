@@ -2,8 +2,7 @@
 ghost use Rattle.std.specs.Prelude.{◌≡◌};
 
 use crate::checks::{holds, is};
-use spindle::lock::{Limits, NoGate, Pool};
-use spindle::{Division, Fault, Split, divide};
+use spindle::prelude::*;
 
 // Walks from one number to another, by halves where it is longer than this.
 #[derive(Drop)]

@@ -3,11 +3,7 @@ ghost use Rattle.std.specs.Prelude.{◌≡◌, length};
 ghost use Rattle.std.proofs.Common.{rules};
 ghost use Rattle.spindle.specs.Same.{law_of_lists};
 
-use spindle::ListRun;
-use spindle::lock::{End, Job, JobCx};
-use std::alloc::Global;
-use std::sync::Wait;
-use std::thread::Threads;
+use spindle::prelude::*;
 
 /// Counts the pairs of a run.
 pub struct CountPairs;

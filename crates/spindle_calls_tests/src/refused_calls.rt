@@ -9,9 +9,8 @@ use crate::checks::{are, holds, is};
 use crate::chunks::{Halve, LastOdd};
 use crate::jobs::{Calls, Counting, Square};
 use crate::sevens::{are_seven_squares, seven_items};
-use spindle::lock::{ChunkRounds, Limits, Pool, RunsRounds};
-use spindle::{Fault, SharedList, reduce, run_one, with_lock, with_slots};
-use std::alloc::Global;
+use spindle::prelude::*;
+use spindle::{with_lock, with_slots};
 
 #[test]
 fn refused_call_of_one_round_has_run_no_job(rt: HostRuntime) -> Result<(), Fault> {
