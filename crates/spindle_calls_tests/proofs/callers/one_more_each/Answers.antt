@@ -1,5 +1,5 @@
 -- The chunks are the list, and each chunk's answer is one more of each of its elements.
-use Rattle.std.proofs.Common.{ℕ, ◌+◌, ◌∙◌, Ok, map, ap, subst, rules}
+use Rattle.std.proofs.Common.{ℕ, ◌+◌, ◌∙◌, map, ap, subst, rules}
 use Rattle.std.specs.declared.alloc.AllocError.{AllocError}
 use Rattle.spindle_parts.specs.Gathered.{IsGathered}
 use Rattle.spindle_parts.proofs.GatheredLists.{gathered_map}
