@@ -61,7 +61,11 @@ fn is_pair(attempts: &[Attempt<u32, u32>], at: usize, items: &[u32], outputs: &[
 }
 
 impl Led for AttemptsOf<BelowSeven> {
-    fn lead<H: Runs>(rt: &H, alloc: Global, leader: &mut LedBy<Self>) -> Result<(), Fault> {
+    type Task = ();
+
+    type Answer = ();
+
+    fn lead<H: Runs>(rt: &H, alloc: Global, leader: &mut LedBy<Self>, _: &()) -> Result<(), Fault> {
         for _ in 0..100 {
             let stopped = leader.try_each(rt, alloc, 8, numbers(alloc, 8)?)?;
             is(rt, stopped.len(), 8);
@@ -78,7 +82,7 @@ impl Led for AttemptsOf<BelowSeven> {
 
 #[test]
 fn a_lock_goes_on_after_a_round_that_stopped(rt: HostRuntime) -> Result<(), Fault> {
-    in_place::<AttemptsOf<BelowSeven>, _>(&rt, rt.alloc(), 8)
+    in_place::<AttemptsOf<BelowSeven>, _>(&rt, rt.alloc(), 8, &())
 }
 
 // A leader alone runs no piece behind a failure.

@@ -224,7 +224,11 @@ fn a_fold_has_four_jobs_a_thread(rt: HostRuntime) -> Result<(), Fault> {
 }
 
 impl Led for UpdatesOf<Bound> {
-    fn lead<H: Runs>(rt: &H, alloc: Global, leader: &mut LedBy<Self>) -> Result<(), Fault> {
+    type Task = ();
+
+    type Answer = ();
+
+    fn lead<H: Runs>(rt: &H, alloc: Global, leader: &mut LedBy<Self>, _: &()) -> Result<(), Fault> {
         let kernel = Shared::new(alloc, Bound { most: 5 })?;
         let once = leader.update(rt, alloc, &kernel, eleven_numbers(alloc)?)?;
         are(rt, &leader.update(rt, alloc, &kernel, once)?, &BOUNDED);
@@ -234,11 +238,15 @@ impl Led for UpdatesOf<Bound> {
 
 #[test]
 fn a_leader_updates_a_list_again(rt: HostRuntime) -> Result<(), Fault> {
-    in_place::<UpdatesOf<Bound>, _>(&rt, rt.alloc(), 5)
+    in_place::<UpdatesOf<Bound>, _>(&rt, rt.alloc(), 5, &())
 }
 
 impl Led for TotalsOf<LastOdd> {
-    fn lead<H: Runs>(rt: &H, alloc: Global, leader: &mut LedBy<Self>) -> Result<(), Fault> {
+    type Task = ();
+
+    type Answer = ();
+
+    fn lead<H: Runs>(rt: &H, alloc: Global, leader: &mut LedBy<Self>, _: &()) -> Result<(), Fault> {
         let list = SharedList::from_vec(alloc, eleven_numbers(alloc)?)?;
         let list = list.run(0, list.len())?;
         for _ in 0..2 {
@@ -250,5 +258,5 @@ impl Led for TotalsOf<LastOdd> {
 
 #[test]
 fn a_leader_makes_totals_again(rt: HostRuntime) -> Result<(), Fault> {
-    in_place::<TotalsOf<LastOdd>, _>(&rt, rt.alloc(), 5)
+    in_place::<TotalsOf<LastOdd>, _>(&rt, rt.alloc(), 5, &())
 }

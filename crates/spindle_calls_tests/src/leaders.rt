@@ -17,13 +17,29 @@ pub type LedBy<'a, J> = SlotLeader<'a, J, NoGate, PlaceLeaderState<J>>;
 
 /// A kind of job in place, and what the leader of its lock plays.
 pub trait Led: Updates<In = (), Out = (), Inner = End> {
-    /// Plays rounds, and compares what comes of them.
-    fn lead<H: Runs>(rt: &H, alloc: Global, leader: &mut LedBy<Self>) -> Result<(), Fault>
+    /// What the leader is given.
+    type Task: Drop;
+
+    /// What it answers.
+    type Answer: Drop;
+
+    /// Plays rounds, and compares what comes of them, or answers it.
+    fn lead<H: Runs>(
+        rt: &H,
+        alloc: Global,
+        leader: &mut LedBy<Self>,
+        task: &Self::Task,
+    ) -> Result<Self::Answer, Fault>
         requires { IsSync H.row };
 }
 
 /// Opens a lock of four threads and so many slots, for its leader to play.
-pub fn in_place<J: Led + Send, H: Runs>(rt: &H, alloc: Global, slots: usize) -> Result<(), Fault>
+pub fn in_place<J: Led + Send, H: Runs>(
+    rt: &H,
+    alloc: Global,
+    slots: usize,
+    task: &J::Task,
+) -> Result<J::Answer, Fault>
 where
     J::Item: Send,
     requires { (1 ≤ slots) × (slots ≤ 4294967295) }
@@ -35,8 +51,8 @@ where
         &pool,
         4,
         slots,
-        |leader| -> Result<(), Fault>
+        |leader| -> Result<J::Answer, Fault>
             requires { IsSync H.row }
-        { J::lead(rt, alloc, leader) },
+        { J::lead(rt, alloc, leader, task) },
     )?
 }

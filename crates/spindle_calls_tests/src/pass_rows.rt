@@ -66,7 +66,11 @@ fn refused_passes_have_run_no_job(rt: HostRuntime) -> Result<(), Fault> {
 }
 
 impl Led for PassesOf<Least> {
-    fn lead<H: Runs>(rt: &H, alloc: Global, leader: &mut LedBy<Self>) -> Result<(), Fault> {
+    type Task = ();
+
+    type Answer = ();
+
+    fn lead<H: Runs>(rt: &H, alloc: Global, leader: &mut LedBy<Self>, _: &()) -> Result<(), Fault> {
         let kernel = Shared::new(alloc, Least)?;
         let once = leader.passes_until(rt, alloc, &kernel, eight_numbers(alloc)?, 9, 1)?;
         let passes = leader.passes_until(rt, alloc, &kernel, once.values, 0, 9)?;
@@ -78,7 +82,7 @@ impl Led for PassesOf<Least> {
 
 #[test]
 fn a_leader_passes_over_a_list_again(rt: HostRuntime) -> Result<(), Fault> {
-    in_place::<PassesOf<Least>, _>(&rt, rt.alloc(), 5)
+    in_place::<PassesOf<Least>, _>(&rt, rt.alloc(), 5, &())
 }
 
 // Lowers the first value of a strip to the one before it, and notes what the strip's first value was.
@@ -107,7 +111,11 @@ impl Update for LowerFirst {
 }
 
 impl Led for InPlace<LowerFirst> {
-    fn lead<H: Runs>(rt: &H, alloc: Global, leader: &mut LedBy<Self>) -> Result<(), Fault> {
+    type Task = ();
+
+    type Answer = ();
+
+    fn lead<H: Runs>(rt: &H, alloc: Global, leader: &mut LedBy<Self>, _: &()) -> Result<(), Fault> {
         let list = SharedList::from_vec(alloc, eight_numbers(alloc)?)?;
         let mut strips = list.strips(alloc, 3, 7, 0)?;
         leader.pass(rt, alloc, &mut strips, 2)?;
@@ -127,5 +135,5 @@ impl Led for InPlace<LowerFirst> {
 
 #[test]
 fn a_pass_tells_each_strip_its_neighbours_first(rt: HostRuntime) -> Result<(), Fault> {
-    in_place::<InPlace<LowerFirst>, _>(&rt, rt.alloc(), 3)
+    in_place::<InPlace<LowerFirst>, _>(&rt, rt.alloc(), 3, &())
 }

@@ -60,7 +60,11 @@ fn failed_at(rt: &impl Abort, tried: Tried, place: usize, failure: u32) {
 }
 
 impl Led for TriesOf<Halve, u32, u32> {
-    fn lead<H: Runs>(rt: &H, alloc: Global, leader: &mut LedBy<Self>) -> Result<(), Fault> {
+    type Task = ();
+
+    type Answer = ();
+
+    fn lead<H: Runs>(rt: &H, alloc: Global, leader: &mut LedBy<Self>, _: &()) -> Result<(), Fault> {
         let kernel = Shared::new(alloc, Halve)?;
         for (first, second, place, failure) in [(5, 6, 5, 31), (11, 3, 3, 33)] {
             let list = SharedList::from_vec(alloc, numbers_but(alloc, first, second)?)?;
@@ -73,7 +77,7 @@ impl Led for TriesOf<Halve, u32, u32> {
 
 #[test]
 fn a_leader_tries_a_list_again(rt: HostRuntime) -> Result<(), Fault> {
-    in_place::<TriesOf<Halve, u32, u32>, _>(&rt, rt.alloc(), 5)
+    in_place::<TriesOf<Halve, u32, u32>, _>(&rt, rt.alloc(), 5, &())
 }
 
 #[test]

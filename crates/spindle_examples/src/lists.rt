@@ -10,7 +10,7 @@ use crate::stop::Stop;
 use crate::vectors::Products;
 use rayon::prelude::*;
 use spindle::kernels::{Again, Mapping, Source};
-use spindle::lock::{Combine, Folds};
+use spindle::lock::{Combine, Folds, PlaceLeaderState, Updates};
 use spindle::prelude::*;
 use std::rt::Clock;
 use std::time::Instant;
@@ -55,7 +55,8 @@ fn maps<H: Machine>(rt: &H, pool: &Pool<NoGate>) -> Result<(), Stop> {
     let alloc = rt.alloc();
     let list = SharedList::from_vec(alloc, vec![in alloc; 102u64; NUMBERS as usize]?)?;
     let run = list.run(0, list.len())?;
-    let (times, pieces) = map_in_lock(rt, alloc, pool, &Shared::new(alloc, OneMore)?, &run)?;
+    let task = (Shared::new(alloc, OneMore)?, run);
+    let (times, pieces) = in_lock::<MapsOf<OneMore>, _>(rt, alloc, pool, &task)?;
     let is_right = pieces.iter().flatten().all(|x| *x == 103);
     print(rt, pool, "map1m lock", is_right, times)?;
     let mut times = Vec::with_capacity(alloc, CALLS)?;
@@ -68,48 +69,89 @@ fn maps<H: Machine>(rt: &H, pool: &Pool<NoGate>) -> Result<(), Stop> {
     print(rt, pool, "map1m rayon", true, times)
 }
 
-// Maps in a lock that stays open.
-fn map_in_lock<K: Kernel + Again + Send + Sync, S: Source<Item = K::In> + Send, H: Machine>(
+/// A kind of job in place, and the calls of its leader that are timed. A lock is opened by no kind's name, for the checker's sake.
+trait Led: Updates<In = (), Out = (), Inner = End> {
+    /// What the calls are given.
+    type Task: Drop;
+
+    /// What each answers.
+    type Answer: Drop;
+
+    /// Times all calls.
+    fn lead<H: Machine>(
+        rt: &H,
+        alloc: Global,
+        leader: &mut SlotLeader<Self, NoGate, PlaceLeaderState<Self>>,
+        task: &Self::Task,
+    ) -> Timed<Self::Answer>
+        requires { IsSync H.row };
+}
+
+// Times the calls of a leader whose lock stays open.
+fn in_lock<J: Led + Send, H: Machine>(
     rt: &H,
     alloc: Global,
     pool: &Pool<NoGate>,
-    kernel: &K,
-    source: &S,
-) -> Timed<Vec<Vec<K::Out>>>
+    task: &J::Task,
+) -> Timed<J::Answer>
 where
-    K::In: Send + Sync,
-    K::Out: Send,
+    J::Item: Send,
 {
     let threads = pool.max_num_threads();
-    LockOf::<InPlace<Mapping<K, S>>>::with_slots_in_place(
+    LockOf::<J>::with_slots_in_place(
         rt,
         alloc,
         pool,
         threads,
         threads.min(1024) * 4,
-        |leader| -> Timed<Vec<Vec<K::Out>>>
+        |leader| -> Timed<J::Answer>
             requires { IsSync H.row }
-        { map_by(rt, alloc, leader, kernel, source) },
+        { J::lead(rt, alloc, leader, task) },
     )?
 }
 
-fn map_by<K: Kernel + Again, S: Source<Item = K::In>, H: Machine>(
-    rt: &H,
-    alloc: Global,
-    leader: &mut PlaceLeader<'_, Mapping<K, S>, NoGate>,
-    kernel: &K,
-    source: &S,
-) -> Timed<Vec<Vec<K::Out>>>
-    requires { IsSync H.row }
-{
-    let mut times = Vec::with_capacity(alloc, CALLS)?;
-    let mut pieces = Vec::new(alloc);
-    for _ in 0..CALLS {
-        let begin = Instant::now(rt)?;
-        leader.map_into(rt, alloc, kernel, source, &mut pieces)?;
-        times.push(since(rt, begin)?)?;
+impl<K: Kernel + Again, S: Source<Item = K::In>> Led for InPlace<Mapping<K, S>> {
+    type Task = (K, S);
+
+    type Answer = Vec<Vec<K::Out>>;
+
+    fn lead<H: Machine>(
+        rt: &H,
+        alloc: Global,
+        leader: &mut SlotLeader<Self, NoGate, PlaceLeaderState<Self>>,
+        task: &(K, S),
+    ) -> Timed<Vec<Vec<K::Out>>> {
+        let mut times = Vec::with_capacity(alloc, CALLS)?;
+        let mut pieces = Vec::new(alloc);
+        for _ in 0..CALLS {
+            let begin = Instant::now(rt)?;
+            leader.map_into(rt, alloc, &task.0, &task.1, &mut pieces)?;
+            times.push(since(rt, begin)?)?;
+        }
+        Ok((times, pieces))
     }
-    Ok((times, pieces))
+}
+
+impl<C: Combine, S: Source<Item = C::Item>> Led for InPlace<Folds<C, S>> {
+    type Task = S;
+
+    type Answer = C::Total;
+
+    fn lead<H: Machine>(
+        rt: &H,
+        alloc: Global,
+        leader: &mut SlotLeader<Self, NoGate, PlaceLeaderState<Self>>,
+        source: &S,
+    ) -> Timed<C::Total> {
+        let mut times = Vec::with_capacity(alloc, CALLS)?;
+        let mut total = C::neutral();
+        for _ in 0..CALLS {
+            let begin = Instant::now(rt)?;
+            total = leader.reduce(rt, alloc, source)?;
+            times.push(since(rt, begin)?)?;
+        }
+        Ok((times, total))
+    }
 }
 
 fn dots<H: Machine>(rt: &H, pool: &Pool<NoGate>) -> Result<(), Stop> {
@@ -117,7 +159,7 @@ fn dots<H: Machine>(rt: &H, pool: &Pool<NoGate>) -> Result<(), Stop> {
     let first = SharedList::from_vec(alloc, (0..NUMBERS).collect(alloc)?)?;
     let second = SharedList::from_vec(alloc, (0..NUMBERS).rev().collect(alloc)?)?;
     let pairs = PairRun::new(&first, &second)?;
-    let (times, total) = total_in_lock::<Products, _, _>(rt, alloc, pool, &pairs)?;
+    let (times, total) = in_lock::<PairTotalsOf<u32, u32, Products>, _>(rt, alloc, pool, &pairs)?;
     let (first, second) = (first.as_slice(), second.as_slice());
     let mut wanted = 0u64;
     for pair in first.iter().zip(second) {
@@ -135,48 +177,6 @@ fn dots<H: Machine>(rt: &H, pool: &Pool<NoGate>) -> Result<(), Stop> {
         times.push(since(rt, begin)?)?;
     }
     print(rt, pool, "dot1m rayon", total == wanted, times)
-}
-
-// Totals in a lock that stays open.
-fn total_in_lock<C: Combine + Send, S: Source<Item = C::Item> + Send, H: Machine>(
-    rt: &H,
-    alloc: Global,
-    pool: &Pool<NoGate>,
-    source: &S,
-) -> Timed<C::Total>
-where
-    C::Item: Send + Sync,
-    C::Total: Send,
-{
-    let threads = pool.max_num_threads();
-    LockOf::<InPlace<Folds<C, S>>>::with_slots_in_place(
-        rt,
-        alloc,
-        pool,
-        threads,
-        threads.min(1024) * 4,
-        |leader| -> Timed<C::Total>
-            requires { IsSync H.row }
-        { total_by::<C, S, H>(rt, alloc, leader, source) },
-    )?
-}
-
-fn total_by<C: Combine, S: Source<Item = C::Item>, H: Machine>(
-    rt: &H,
-    alloc: Global,
-    leader: &mut PlaceLeader<'_, Folds<C, S>, NoGate>,
-    source: &S,
-) -> Timed<C::Total>
-    requires { IsSync H.row }
-{
-    let mut times = Vec::with_capacity(alloc, CALLS)?;
-    let mut total = C::neutral();
-    for _ in 0..CALLS {
-        let begin = Instant::now(rt)?;
-        total = leader.reduce(rt, alloc, source)?;
-        times.push(since(rt, begin)?)?;
-    }
-    Ok((times, total))
 }
 
 // The nanoseconds since then.
