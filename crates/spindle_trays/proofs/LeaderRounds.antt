@@ -1,6 +1,6 @@
 -- Rounds of a leader: their jobs, where it stands between them, refusals that are passed on, and what a lost piece tells.
 use Rattle.std.proofs.Common.{◌≡◌, ◌≢◌, ℕ, ◌<◌, ◌≤◌, ◌↔◌, Bool, true, false, if◌then◌else◌, List, Option, None, Some, ⊎_elim, inl, inr, Result, Ok, Err, refl, ap, ◌∙◌, replicate, zero, suc, sym}
-use Rattle.std.proofs.Common.{arith, length, min, ◌==◌, Vec, Global, vec_len, IsErrOf, IsErrAnd, IfErr, OnErr, OnOk, subst}
+use Rattle.std.proofs.Common.{arith, min, ◌==◌, IsErrOf, IsErrAnd, IfErr, OnErr, OnOk, subst}
 use Rattle.std.proofs.lemmas.Bool.{cases_lt, false≢true}
 use Rattle.spindle_parts.specs.declared.fault.Fault.{Fault}
 use Rattle.spindle_parts.specs.declared.fault.Fault.TheVariants.{Memory, Lost}
@@ -29,18 +29,9 @@ pub only_memory : {T E : Type 0} (r : Result T E) (y : E) (P : Type 0) (Q : E �
 only_memory (Ok t) y P Q f h = tt
 only_memory (Err x) y P Q f h = let same : y ≡ x = cc in subst Q same (f h.1)
 
--- the jobs of a round, and as many pieces
+-- the jobs of a round
 pub jobs_are : (len capped jobs items n_jobs : ℕ) → len ≡ items → capped ≡ min n_jobs most_jobs → jobs ≡ min len capped → jobs ≡ job_count items n_jobs
 jobs_are len capped jobs items n_jobs l m j = rw (j, l, m)
-
-pub pieces_are : {A : Type 0} (count jobs n_jobs : ℕ) (list : List A) (items : Vec A Global) → count ≡ min (length list) jobs → list ≡ items.items
-    → jobs ≡ job_count (vec_len items) n_jobs → count ≡ job_count (vec_len items) n_jobs
-pieces_are count jobs n_jobs list items c e j = rw (c, e, j) (omega arith)
-
--- where there are items for all jobs, there are as many pieces
-pub all_jobs : {A : Type 0} (count jobs : ℕ) (list : List A) (items : Vec A Global) → count ≡ min (length list) jobs → list ≡ items.items → jobs ≤ vec_len items
-    → count ≡ jobs
-all_jobs count jobs list items c e enough = rw (c, e) (omega arith)
 
 -- a round of some items has some jobs
 pub some_jobs : (items n_jobs : ℕ) (empty : Bool) → empty ≡ (items == 0) → empty ≡ false → (0 < items → 0 < n_jobs) → 0 < job_count items n_jobs

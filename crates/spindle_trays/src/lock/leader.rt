@@ -17,7 +17,6 @@ use crate::pieces::place::SpareLists;
 use crate::running::in_trays::{play_ahead, play_alone};
 use crate::running::runner::Runner;
 use spindle_parts::fault::Fault;
-use spindle_parts::lists::shared::SharedList;
 use spindle_rounds::round_table::slots::Bare;
 use spindle_threads::leader_member::LeaderMember;
 use spindle_threads::tables::MemberCount;
@@ -131,10 +130,10 @@ impl<'a, J: Opens<L>, G: Gate, L> Leader<'a, J, G, L> {
             let inputs = items.as_slice();
             self.runner.run(rt, alloc, None, inputs, outputs);
         } else {
-            let pieces = ListRuns::new(SharedList::from_vec(alloc, items)?, jobs);
-            let (leader_member, runner) = (&mut self.leader_member, &mut self.runner);
+            let pieces = ListRuns::cut(alloc, items, jobs)?;
             let trays = J::trays(self.workspace);
-            play_alone(rt, alloc, leader_member, trays, runner, &pieces, outputs);
+            let member = &mut self.leader_member;
+            play_alone(rt, alloc, member, trays, &mut self.runner, &pieces, outputs);
         }
         Ok(())
     }
@@ -158,11 +157,11 @@ impl<'a, J: Opens<L>, G: Gate, L> Leader<'a, J, G, L> {
         ensures trail { PlayedAs jobs self.old self.new result }
         ensures lock { IsSameLock self.old self.new }
     {
-        let pieces = ListRuns::new(SharedList::from_vec(alloc, items)?, jobs);
+        let pieces = ListRuns::cut(alloc, items, jobs)?;
         let trays = J::trays(self.workspace);
         trays.hand_out(rt, alloc, &pieces, &mut SpareLists::none(alloc))?;
-        let (leader_member, runner) = (&mut self.leader_member, &mut self.runner);
-        let first = play_ahead(rt, alloc, leader_member, trays, runner, &pieces, outputs);
+        let member = &mut self.leader_member;
+        let first = play_ahead(rt, alloc, member, trays, &mut self.runner, &pieces, outputs);
         match trays.gather_rest(rt, &pieces, first, outputs) {
             Ok(()) => Ok(()),
             Err(number) => {

@@ -15,7 +15,6 @@ use crate::pieces::tally::Tally;
 use crate::running::in_trays::play_in_trays;
 use crate::running::sequential::{make_buffers, play_sequential};
 use spindle_parts::fault::Fault;
-use spindle_parts::lists::shared::SharedList;
 use std::alloc::Global;
 use std::mem;
 use std::sync::Wait;
@@ -81,7 +80,7 @@ impl<'a, J: Opens<L>, G: Gate, L> Leader<'a, J, G, L> {
             return Ok(());
         }
         let jobs = items.len().min(n_jobs.min(MOST_JOBS));
-        let pieces = ListRuns::new(SharedList::from_vec(alloc, items)?, jobs);
+        let pieces = ListRuns::cut(alloc, items, jobs)?;
         *report = self.try_pieces(rt, alloc, &pieces, SpareLists::new(ran), skipped)?;
         Ok(())
     }
@@ -175,8 +174,8 @@ impl<'a, J: Opens<L>, G: Gate, L> Leader<'a, J, G, L> {
                 .tally_buffers(rt, alloc, pieces, buffers, none, left.as_slice(), tally);
             return Ok(());
         }
-        let (leader_member, runner) = (&mut self.leader_member, &mut self.runner);
-        let failed = play_sequential(rt, alloc, leader_member, runner, pieces, &mut buffers);
+        let member = &mut self.leader_member;
+        let failed = play_sequential(rt, alloc, member, &mut self.runner, pieces, &mut buffers);
         self.leader_member.mark_left(left);
         self.runner
             .tally_buffers(rt, alloc, pieces, buffers, failed, left.as_slice(), tally);

@@ -1,12 +1,12 @@
 //! The pieces of a round's items, as `cut` cuts them: runs of one list, which no piece moves or clones. An address tells where `deal`
 //! deals a number to.
-ghost use Rattle.std.specs.Prelude.{◌≡◌, ◌+◌, ◌/◌, ◌%◌, ◌^◌, ◌<◌, ◌≤◌, IfOk, get_or, length, min, Some, slice_get};
+ghost use Rattle.std.specs.Prelude.{◌≡◌, ◌+◌, ◌/◌, ◌%◌, ◌^◌, ◌<◌, ◌≤◌, IfOk, get_or, length, min, Some, slice_get, vec_len};
 ghost use Rattle.spindle_parts.specs.Pieces.{cut_lengths, counted, dealt};
 ghost use Rattle.spindle_trays.specs.PieceRuns.{piece_start, piece_at};
 
 use spindle_parts::lists::shared::{ListRun, SharedList};
 use spindle_rounds::round::publishing::PublishedRound;
-use std::alloc::AllocError;
+use std::alloc::{AllocError, Global};
 
 /// A list of items, and how many pieces it is cut into.
 #[derive(Drop)]
@@ -97,6 +97,15 @@ impl<T> ListRuns<T> {
 }
 
 impl<T: Drop> ListRuns<T> {
+    /// The items of a vector, which aren't moved, in as many pieces as jobs.
+    pub fn cut(alloc: Global, items: Vec<T>, jobs: usize) -> Result<ListRuns<T>, AllocError>
+        requires { (0 < jobs) × (jobs ≤ vec_len items) }
+        ensures items { IfOk result (λ pieces. pieces.items ≡ items.items) }
+        ensures count { IfOk result (λ pieces. pieces.count ≡ jobs) }
+    {
+        Ok(ListRuns::new(SharedList::from_vec(alloc, items)?, jobs))
+    }
+
     /// The piece of a number, as a run of the items.
     pub fn run(&self, number: usize) -> Result<ListRun<T>, AllocError>
         requires { number < self.now.count }

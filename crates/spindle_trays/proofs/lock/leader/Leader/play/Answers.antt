@@ -1,11 +1,11 @@
 -- A round that is refused leaves no outputs.
-use Rattle.std.proofs.Common.{◌<◌, ap, arith, refl, ◌∙◌}
+use Rattle.std.proofs.Common.{◌<◌, ap, arith, refl}
 use Rattle.std.proofs.lemmas.Result.{err_from_is_err_and}
-use Rattle.spindle_trays.proofs.LeaderRounds.{all_jobs, passed_on, played_two}
+use Rattle.spindle_trays.proofs.LeaderRounds.{passed_on, played_two}
 use Rattle.spindle_trays.proofs.lock.leader.Leader.play.Goals as goal
 
-pub returns-in_err-from_vec : goal.returns-in_err-from_vec
-returns-in_err-from_vec g c = let p = err_from_is_err_and c.from_residual.result c.from_residual.ensures.1 in
+pub returns-in_err-pieces : goal.returns-in_err-pieces
+returns-in_err-pieces g c = let p = err_from_is_err_and c.from_residual.result c.from_residual.ensures.1 in
     let some : 0 < c.args.jobs = omega (arith, c.requires.jobs.0) in
     rw (p.1, p.2) (record { answer = tt; given_up = c.requires.empty; refused = some; trail = refl; lock = (refl, refl) })
 
@@ -14,23 +14,21 @@ returns-in_err-hand_out g c = rw (passed_on c.from_residual-in_err-hand_out.resu
     (record { answer = tt; given_up = c.requires.empty; refused = omega (arith, c.requires.jobs.0); trail = refl; lock = (refl, refl) })
 
 pub returns-in-Ok : goal.returns-in-Ok
-returns-in-Ok g c = let p = c.new-pieces.ensures in let own = c.in_ok-from_vec.ensures.items in let a = c.play_ahead-first.ensures in
-    let same = all_jobs c.new-pieces.result.count c.args.jobs _ c.args.items p.count own c.requires.jobs.2 in
+returns-in-Ok g c = let p = c.in_ok-pieces.ensures in let a = c.play_ahead-first.ensures in
     record {
-      answer = rw (p.items ∙ own) at c.in-Ok.ensures.answers;
+      answer = rw p.items at c.in-Ok.ensures.answers;
       given_up = tt;
       refused = tt;
-      trail = played_two c.args.jobs c.requires.jobs.0 (rw same at a.played);
+      trail = played_two c.args.jobs c.requires.jobs.0 (rw p.count at a.played);
       lock = (ap (λ t. t.now.counts.most) a.tables, ap (λ t. t.now.counts.threads) a.tables);
     }
 
 pub returns : goal.returns
-returns g c = let p = c.new-pieces.ensures in let own = c.in_ok-from_vec.ensures.items in let a = c.play_ahead-first.ensures in
-    let same = all_jobs c.new-pieces.result.count c.args.jobs _ c.args.items p.count own c.requires.jobs.2 in
+returns g c = let p = c.in_ok-pieces.ensures in let a = c.play_ahead-first.ensures in
     record {
       answer = tt;
       given_up = c.clear.ensures.items;
-      refused = (rw same at c.in-Err.ensures.lost, c.requires.jobs.0, c.requires.threads);
-      trail = rw same at a.played;
+      refused = (rw p.count at c.in-Err.ensures.lost, c.requires.jobs.0, c.requires.threads);
+      trail = rw p.count at a.played;
       lock = (ap (λ t. t.now.counts.most) a.tables, ap (λ t. t.now.counts.threads) a.tables);
     }
