@@ -167,12 +167,13 @@ pub(crate) fn gather<J: Job>(
     ensures within { IfErr result (λ k. k < pieces.now.count) }
 {
     for at in 0..count {
-        let items = pieces.piece(number + at);
-        if from + at >= tray.len() {
-            return Err(number + at);
+        let next = number + at;
+        let place = from + at;
+        if place >= tray.len() {
+            return Err(next);
         }
-        if !tray[from + at].hand_over(number + at, items, outputs) {
-            return Err(number + at);
+        if !tray[place].hand_over(next, pieces.piece(next), outputs) {
+            return Err(next);
         }
     }
     Ok(())
