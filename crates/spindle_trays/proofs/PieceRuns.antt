@@ -1,5 +1,5 @@
 -- The pieces of a list as runs of it, one behind the other.
-use Rattle.std.proofs.Common.{◌≡◌, ℕ, ◌+◌, ◌-◌, ◌<◌, ◌≤◌, List, [], ◌++◌, length, take, ap, ◌∙◌, arith, length-append, Vec, vec_len, vec_capacity}
+use Rattle.std.proofs.Common.{◌≡◌, ℕ, ◌+◌, ◌-◌, ◌<◌, ◌≤◌, List, [], ◌++◌, length, take, ap, ◌∙◌, subst, arith, length-append, Vec, vec_len, vec_capacity}
 use Rattle.std.proofs.lemmas.List.{length-take, take_all}
 use Rattle.std.proofs.lemmas.Nat.{div-add-mod'}
 use Rattle.std.proofs.Math.Nat.{mod-lt}
@@ -60,3 +60,10 @@ pub answered_next : {A B Z : Type 0} (R : A → B → Type 0) (items run : List 
 answered_next R items run pieces number old new h is answered adds room =
     let more = AllZip-AddsAnswers R (items_before items pieces number) run old.items new.items answered.1 adds in
     (omega (arith, h), rw (items_more items pieces number, ← is) more, omega (arith, room, answered.2))
+
+-- and where all pieces are answered, all items are
+pub answered_all : {A B Z : Type 0} (R : A → B → Type 0) (items : List A) (pieces next : ℕ) (outputs : Vec B Z) → 0 < pieces → pieces ≤ next
+    → HasAnswered R items pieces next outputs → AllZip R items outputs.items
+answered_all R items pieces next outputs some end answered =
+    let last : next ≡ pieces = omega (arith, end, answered.0) in
+    subst (λ xs. AllZip R xs outputs.items) (ap (λ n. items_before items pieces n) last ∙ before_end items pieces some) answered.1

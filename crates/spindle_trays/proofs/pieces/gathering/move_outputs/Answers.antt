@@ -1,5 +1,8 @@
 -- One more place's outputs stand in the list, and it is empty.
-use Rattle.std.proofs.Common.{◌≡◌, ◌<◌, ◌++◌, length, None, ◌∙◌, rules, arith}
+use Rattle.std.proofs.Common.{◌≡◌, ◌<◌, ◌++◌, length, None, ◌∙◌, subst, rules, arith}
+use Rattle.std.specs.List.{AllZip}
+use Rattle.std.proofs.lemmas.List.{take_all}
+use Rattle.spindle_trays.specs.Outputs.{all_inputs_in}
 use Rattle.spindle_trays.proofs.Places.{outputs_more, nothing_more, outputs_fit, found_there, set-emptied}
 use Rattle.spindle_trays.proofs.pieces.gathering.move_outputs.Goals as goal
 use Rattle.spindle_trays.proofs.pieces.gathering.move_outputs.Goals.{in-Some, in_default}
@@ -11,7 +14,7 @@ unwrap-requires g c =
     let k = c.loop-k.k in
     let d = c.index_mut.result.now in
     let room = c.loop-k.outputs.items in
-    let h : k < length places = search rules in
+    let h : k < length places = omega arith in
     let here = found_there places c.loop-k.places.items k d c.take.result c.loop-k.invariant.emptied h c.index_mut.ensures.value c.take.ensures.value in
     let more = outputs_more R places k d c.in-Some.finished room c.into_outputs.result.items h
     (here ∙ c.in-Some.is) c.loop-k.invariant.answers c.into_outputs.ensures.answers in
@@ -25,7 +28,7 @@ loop-k-preserved g c =
     let k = c.loop-k.k in
     let d = c.index_mut.result.now in
     let room = c.loop-k.outputs.items in
-    let h : k < length places = search rules in
+    let h : k < length places = omega arith in
     let here = found_there places c.loop-k.places.items k d c.take.result c.loop-k.invariant.emptied h c.index_mut.ensures.value c.take.ensures.value in
     record {
       answers = elim c.match-take.branch [
@@ -41,3 +44,7 @@ loop-k-preserved g c =
         | in_default w ↦ rw w.outputs-is c.loop-k.invariant.space
       ];
     }
+
+pub returns-clause-answers : goal.returns-clause-answers
+returns-clause-answers g c = let i = c.loop-k.invariant in
+    subst (λ places. AllZip g.J.Job.meets (all_inputs_in places) c.loop-k.outputs.items) (take_all c.loop-k.k c.args.places.now.items (omega arith)) i.answers

@@ -16,3 +16,6 @@ loop-number-preserved g c = let p = c.args.pieces.now in let i = c.loop-number i
           IsBufferFor g.J.Job.meets (piece_at p.items p.count k) (slice_index_or xs k d)) (sym e.items)
           (buffers_more g.J.Job.meets p.items p.count i.buffers.items i.number buffer long (inl (empty, omega (arith, run, large))) i.invariant.fit k d lt);
     }
+
+pub returns-clause-fit : goal.returns-clause-fit
+returns-clause-fit g c = let i = c.loop-number.invariant in let long = c.loop-number.buffers.ok.0 in (omega arith, λ k d le lt. i.fit k d (omega (arith, lt)))

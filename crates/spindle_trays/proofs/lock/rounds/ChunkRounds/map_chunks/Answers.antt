@@ -1,6 +1,8 @@
 -- An empty list is no chunk, and a round over chunks has the jobs of one over the list.
 use Rattle.std.proofs.Common.{ℕ, ◌<◌, IfErr, arith, length, subst, refl, rules}
-use Rattle.std.proofs.lemmas.Result.{IfOk-from_err}
+use Rattle.std.proofs.lemmas.Result.{IfOk-from_err, IfOk-weaker}
+use Rattle.spindle_parts.specs.Gathered.{IsGathered}
+use Rattle.spindle_trays.specs.ChunkRounds.{IsMapped}
 use Rattle.spindle_trays.specs.Rounds.{job_count}
 use Rattle.spindle_trays.proofs.ChunkRounds.{some_items, mapped_nothing, jobs_of_chunks}
 use Rattle.spindle_trays.proofs.LeaderRounds.{passed_on}
@@ -27,3 +29,8 @@ returns-in_err-chunks g c = let some = some_items c.args.list.now c.is_empty.res
 
 pub returns-in_err-for_each_into-clause-answer : goal.returns-in_err-for_each_into-clause-answer
 returns-in_err-for_each_into-clause-answer g c = IfOk-from_err _ _ c.from_residual-in_err-for_each_into.ensures.0
+
+pub returns-clause-answer : goal.returns-clause-answer
+returns-clause-answer g c = let cut = c.in_ok-chunks.ensures in let answers = c.for_each_into.new.outputs.items in
+    IfOk-weaker c.gathered.result (IsGathered answers) (IsMapped g.J.Job.meets c.args.n_jobs c.args.list.now)
+    (λ all is. (c.in_ok-chunks.chunks.items, answers, cut.joined, cut.lengths, c.in_ok-for_each_into.ensures.answer, is)) c.gathered.ensures.answers

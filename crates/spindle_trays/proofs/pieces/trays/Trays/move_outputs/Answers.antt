@@ -1,7 +1,8 @@
-use Rattle.std.proofs.lemmas.Grind.{common_steps}
 -- The rest of a tray's run ends where the next one begins.
-use Rattle.std.proofs.Common.{◌≡◌, ℕ, ◌+◌, ◌-◌, ◌/◌, ◌<◌, arith, subst}
+use Rattle.std.proofs.Common.{◌≡◌, ℕ, ◌+◌, ◌-◌, ◌/◌, ◌<◌, ◌≤◌, arith, subst, sym, ◌∙◌}
+use Rattle.std.proofs.lemmas.Nat.{div-add-mod'}
 use Rattle.spindle_trays.proofs.Addresses.{run_ends}
+use Rattle.spindle_trays.proofs.PieceRuns.{answered_all}
 use Rattle.spindle_trays.specs.PieceRuns.{HasAnswered}
 use Rattle.spindle_trays.proofs.pieces.trays.Trays.move_outputs.Goals as goal
 use Rattle.spindle_trays.proofs.pieces.trays.Trays.move_outputs.Goals.{then-done-each+in_ok-gather, else-done-each}
@@ -25,4 +26,7 @@ loop-thread-preserved g c =
     ]
 
 pub returns-clause-answers : goal.returns-clause-answers
-returns-clause-answers g c = grind (arith, common_steps)
+returns-clause-answers g c = let p = c.args.pieces.now in let i = c.loop-thread-2.invariant in let e = c.count.ensures.number in
+    let past = rw (c.count-2.ensures.number ∙ sym e) at c.loop-thread-2-test.false in
+    let end : p.count ≤ c.loop-thread-2.next = omega (arith, i.0, past, e, div-add-mod' c.count.result c.len-threads.result) in
+    answered_all g.J.Job.meets p.items p.count c.loop-thread-2.next c.loop-thread-2.outputs p.some end i.1

@@ -1,5 +1,5 @@
 -- The run of a tray ends where the next one begins, and the left-over pieces end where all do.
-use Rattle.std.proofs.Common.{◌<◌, ◌∙◌, arith}
+use Rattle.std.proofs.Common.{◌∙◌, arith}
 use Rattle.spindle_trays.proofs.Addresses.{run_ends, next_run, all_runs, all_numbers, rest_within}
 use Rattle.spindle_trays.proofs.Reports.{noted_at}
 use Rattle.spindle_trays.proofs.pieces.trays.Trays.tally.Goals as goal
@@ -22,11 +22,20 @@ loop-thread-2-init g c = noted_at _ _ _ _ _ _ (all_runs _ _ _ c.loop-thread-test
 pub loop-thread-2-preserved : goal.loop-thread-2-preserved
 loop-thread-2-preserved g c = noted_at _ _ _ _ _ _ (omega arith) c.note-in-loop-thread-2.ensures.noted
 
+pub overflow_mul-number : goal.overflow_mul-number
+overflow_mul-number g c = omega (arith, run_ends c.count-count.result c.len-threads.result c.loop-thread.thread (omega arith) c.loop-thread-test.true)
+
+pub overflow_add-number : goal.overflow_add-number
+overflow_add-number g c = omega (arith, run_ends c.count-count.result c.len-threads.result c.loop-thread.thread (omega arith) c.loop-thread-test.true)
+
 pub note-requires-clause-next : goal.note-requires-clause-next
-note-requires-clause-next g c =
-    let there : c.loop-thread.thread < c.len-threads.result = c.loop-thread-test.true in
-    let ends = run_ends c.count-count.result c.len-threads.result c.loop-thread.thread (omega (arith, there)) there in
-    omega (arith, ends, c.loop-place-test.true, c.count-count.ensures.number)
+note-requires-clause-next g c = omega (arith, run_ends c.count-count.result c.len-threads.result c.loop-thread.thread (omega arith) c.loop-thread-test.true)
+
+pub overflow_mul-number-in-loop-thread-2 : goal.overflow_mul-number-in-loop-thread-2
+overflow_mul-number-in-loop-thread-2 g c = omega (arith, rest_within c.count-count.result c.len-threads.result c.loop-thread-2.thread c.loop-thread-2-test.true)
+
+pub overflow_add-number-in-loop-thread-2 : goal.overflow_add-number-in-loop-thread-2
+overflow_add-number-in-loop-thread-2 g c = omega (arith, rest_within c.count-count.result c.len-threads.result c.loop-thread-2.thread c.loop-thread-2-test.true)
 
 pub note-requires-in-loop-thread-2-clause-next : goal.note-requires-in-loop-thread-2-clause-next
 note-requires-in-loop-thread-2-clause-next g c =
