@@ -169,14 +169,18 @@ fn dots<H: Machine>(rt: &H, pool: &Pool<NoGate>) -> Result<(), Stop> {
     let (mut times, mut total) = (Vec::with_capacity(alloc, CALLS)?, 0);
     for _ in 0..CALLS {
         let begin = Instant::now(rt)?;
-        total = first
-            .par_iter()
-            .zip(second)
-            .map(|pair: (&u32, &u32)| u64::from(*pair.0) * u64::from(*pair.1))
-            .reduce(rt, || 0, |x: u64, y: u64| x.wrapping_add(y));
+        total = by_rayon(rt, first, second);
         times.push(since(rt, begin)?)?;
     }
     print(rt, pool, "dot1m rayon", total == wanted, times)
+}
+
+fn by_rayon<H: Machine>(rt: &H, first: &[u32], second: &[u32]) -> u64 {
+    first
+        .par_iter()
+        .zip(second)
+        .map(|pair: (&u32, &u32)| u64::from(*pair.0) * u64::from(*pair.1))
+        .reduce(rt, || 0, |x: u64, y: u64| x.wrapping_add(y))
 }
 
 // The nanoseconds since then.
