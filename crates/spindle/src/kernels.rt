@@ -22,7 +22,9 @@ mod updates;
 pub use self::dividing::{Branch, Dividing};
 pub use self::divisions::divide;
 pub use self::held::{Again, Shared};
-pub use self::leaders::{MapsOf, PairMapsOf, PairTotalsOf, PassesOf, TotalsOf, TriesOf, UpdatesOf};
+pub use self::leaders::{
+    DivisionsOf, MapsOf, PairMapsOf, PairTotalsOf, PassesOf, TotalsOf, TriesOf, UpdatesOf,
+};
 pub use self::maps::{Mapping, Run, map, map_into};
 pub use self::pairs::{PairRun, map_pairs, reduce_pairs};
 pub use self::passes::{Passes, passes_until};

@@ -12,9 +12,9 @@ pub mod prelude;
 
 pub use free::{for_each, for_each_raw};
 pub use kernels::{
-    Change, Division, Failed, Kernel, MapsOf, PairMapsOf, PairRun, PairTotalsOf, Passes, PassesOf,
-    Shared, Split, Stencil, TotalsOf, TriesOf, UpdatesOf, divide, map, map_into, map_pairs,
-    passes_until, reduce_pairs, try_map, update,
+    Change, Division, DivisionsOf, Failed, Kernel, MapsOf, PairMapsOf, PairRun, PairTotalsOf,
+    Passes, PassesOf, Shared, Split, Stencil, TotalsOf, TriesOf, UpdatesOf, divide, map, map_into,
+    map_pairs, passes_until, reduce_pairs, try_map, update,
 };
 pub use lock::{reduce, run_one, try_one, update_one, with_lock, with_slots, with_slots_in_place};
 pub use spindle_parts::fault::Fault;

@@ -1,9 +1,9 @@
 //! What nearly every caller imports: `use spindle::prelude::*;`.
 
 pub use crate::kernels::{
-    Change, Division, Failed, Kernel, MapsOf, PairMapsOf, PairRun, PairTotalsOf, Passes, PassesOf,
-    Shared, Split, Stencil, TotalsOf, TriesOf, UpdatesOf, divide, map, map_into, map_pairs,
-    passes_until, reduce_pairs, try_map, update,
+    Change, Division, DivisionsOf, Failed, Kernel, MapsOf, PairMapsOf, PairRun, PairTotalsOf,
+    Passes, PassesOf, Shared, Split, Stencil, TotalsOf, TriesOf, UpdatesOf, divide, map, map_into,
+    map_pairs, passes_until, reduce_pairs, try_map, update,
 };
 pub use crate::lock::{
     Attempt, AttemptsOf, ChunkRounds, End, Gate, InPlace, Job, JobCx, Leader, Limits, LockOf,

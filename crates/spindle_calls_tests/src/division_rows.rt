@@ -1,7 +1,9 @@
-//! A row of a problem that is divided, and what a refused allocation leaves of it: the same call with memory answers in full.
+//! Rows of a problem that is divided, by a leader too, and what a refused allocation leaves of it: the same call with memory answers in
+//! full.
 ghost use Rattle.std.specs.Prelude.{◌≡◌};
 
 use crate::checks::{holds, is};
+use crate::leaders::{Led, LedBy, Runs, in_place};
 use spindle::prelude::*;
 
 // Walks from one number to another, by halves where it is longer than this.
@@ -62,4 +64,27 @@ fn refused_division_is_answered_when_asked_again(rt: HostRuntime) -> Result<(), 
         (0, 10, true),
     );
     Ok(())
+}
+
+impl Led for DivisionsOf<Walk> {
+    type Task = ();
+
+    type Answer = ();
+
+    fn lead<H: Runs>(rt: &H, alloc: Global, leader: &mut LedBy<Self>, _: &()) -> Result<(), Fault> {
+        let walk = Shared::new(alloc, Walk { longest: 10 })?;
+        for end in [1000, 10] {
+            is(
+                rt,
+                leader.divide(rt, alloc, &walk, (0, end))?,
+                (0, end, true),
+            );
+        }
+        Ok(())
+    }
+}
+
+#[test]
+fn a_leader_divides_again(rt: HostRuntime) -> Result<(), Fault> {
+    in_place::<DivisionsOf<Walk>, _>(&rt, rt.alloc(), 5, &())
 }

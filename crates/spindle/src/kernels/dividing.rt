@@ -4,6 +4,7 @@ ghost use Rattle.std.specs.Prelude.{◌≡◌, ◌<◌, ◌++◌, ◌/◌, IfOk,
 ghost use Rattle.std.specs.List.{AllZip, zip};
 ghost use denote.Param.Send.{IsSync};
 ghost use Rattle.spindle.specs.Divisions.{first_of, second_of, joined_at, Allows, LeadsTo};
+ghost use Rattle.spindle.specs.SlotLeaders.{threads_of, lock_slots};
 
 use crate::kernels::held::Again;
 use crate::kernels::tasks::{Task, parts_in, tasks_of};
@@ -179,6 +180,8 @@ fn advance_all<K: Division + Again, G: Gate, H: Threads + Wait + Sync>(
     ensures advanced { IfOk result (λ new. AllZip
         (LeadsTo (K.solves kernel.now) (K.splits kernel.now)) branches.items new.items) }
     ensures memory { OnErr result (IsErrOf result Fault.Memory) }
+    ensures lock { threads_of leader.new ≡ threads_of leader.old }
+    ensures slots { lock_slots leader.new ≡ lock_slots leader.old }
 {
     let mut tasks = tasks_of(alloc, kernel, branches)?;
     let jobs = tasks.len();
@@ -198,6 +201,8 @@ fn answered<K: Division + Again, G: Gate, H: Threads + Wait + Sync>(
     ensures answers { IfOk result (λ answers. AllZip
         (Allows (K.solves kernel.now) (K.splits kernel.now)) branches.items answers.items) }
     ensures memory { OnErr result (IsErrOf result Fault.Memory) }
+    ensures lock { threads_of leader.new ≡ threads_of leader.old }
+    ensures slots { lock_slots leader.new ≡ lock_slots leader.old }
 {
     let branches = advance_all::<K, G, H>(rt, alloc, leader, kernel, branches)?;
     Ok(answers_of(alloc, kernel, branches)?)
@@ -216,6 +221,8 @@ pub(crate) fn answers_to<K: Division + Again, G: Gate, H: Threads + Wait + Sync>
     ensures answers { IfOk result (λ answers. AllZip
         (Allows (K.solves kernel.now) (K.splits kernel.now)) branches.items answers.items) }
     ensures memory { OnErr result (IsErrOf result Fault.Memory) }
+    ensures lock { threads_of leader.new ≡ threads_of leader.old }
+    ensures slots { lock_slots leader.new ≡ lock_slots leader.old }
 {
     if levels == 0 {
         return answered::<K, G, H>(rt, alloc, leader, kernel, branches);

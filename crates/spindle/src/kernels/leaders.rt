@@ -7,6 +7,7 @@ ghost use Rattle.std.specs.List.{AllZip};
 ghost use Rattle.spindle_parts.specs.Pieces.{joined};
 ghost use Rattle.spindle.specs.SlotLeaders.{threads_of, lock_slots};
 
+use crate::kernels::dividing::{Branch, Dividing, answers_to};
 use crate::kernels::held::{Again, Shared};
 use crate::kernels::maps::{Mapping, Run, append_outputs, map_tasks, take_outputs};
 use crate::kernels::pairs::PairRun;
@@ -16,7 +17,7 @@ use crate::kernels::source::{Source, parts_of};
 use crate::kernels::tasks::{Task, tasks_of};
 use crate::kernels::tries::{Failed, Trying, gathered_trials, trials_of};
 use crate::kernels::updates::{Updating, append_items};
-use crate::kernels::{Change, Kernel, Stencil};
+use crate::kernels::{Change, Division, Kernel, Split, Stencil};
 use crate::lock::folds::{combined, fold_parts};
 use crate::lock::{Combine, Folds, PlaceLeader};
 use spindle_parts::cut::cut;
@@ -227,5 +228,39 @@ where
         self.update_all(rt, alloc, jobs, &mut tasks)?;
         let tried = gathered_trials(kernel, tasks, Vec::new(alloc))?;
         Ok(tried)
+    }
+}
+
+/// The kind of job of a lock whose leader divides problems by the kernel K, opened by
+/// `LockOf::<DivisionsOf<K>>::with_slots_in_place`.
+pub type DivisionsOf<K> = InPlace<Dividing<Shared<K>>>;
+
+impl<'a, K: Division + Again, G: Gate> PlaceLeader<'a, Dividing<K>, G> {
+    /// The answer to a problem, as `spindle::divide` makes it, by rounds of this lock. A problem that the kernel doesn't split takes no
+    /// memory.
+    pub fn divide<H: Threads + Wait + Sync>(
+        &mut self,
+        rt: &H,
+        alloc: Global,
+        kernel: &K,
+        problem: K::Problem,
+    ) -> Result<K::Answer, Fault>
+        ensures answer { IfOk result (K.solves kernel.now problem) }
+        ensures memory { OnErr result (IsErrOf result Fault.Memory) }
+        ensures lock { threads_of self.new ≡ threads_of self.old }
+        ensures slots { lock_slots self.new ≡ lock_slots self.old }
+    {
+        let root = match kernel.split(problem) {
+            Split::Whole(problem) => return Ok(kernel.solve(problem)),
+            Split::Parts(first, second) => Branch::Parts(first, second),
+        };
+        let levels = self.piece_count().ilog2();
+        let mut branches = Vec::new(alloc);
+        branches.push(root)?;
+        let mut answers = answers_to::<K, G, H>(rt, alloc, self, kernel, levels, branches)?;
+        match answers.pop() {
+            Some(Some(answer)) => Ok(answer),
+            _ => unreachable!(),
+        }
     }
 }
