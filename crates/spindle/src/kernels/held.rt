@@ -154,3 +154,25 @@ impl<K: Stencil> Stencil for Shared<K> {
         (*self.kernel).has_settled(old, new)
     }
 }
+
+impl<K: Division> Division for Shared<K> {
+    type Problem = K::Problem;
+
+    type Answer = K::Answer;
+
+    ghost solves = { K.solves };
+
+    ghost splits = { K.splits };
+
+    fn split(&self, problem: K::Problem) -> Split<K::Problem> {
+        (*self.kernel).split(problem)
+    }
+
+    fn solve(&self, problem: K::Problem) -> K::Answer {
+        (*self.kernel).solve(problem)
+    }
+
+    fn join(&self, first: K::Answer, second: K::Answer) -> K::Answer {
+        (*self.kernel).join(first, second)
+    }
+}
