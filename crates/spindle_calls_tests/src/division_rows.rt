@@ -4,6 +4,7 @@ ghost use Rattle.std.specs.Prelude.{◌≡◌};
 
 use crate::checks::{holds, is};
 use crate::leaders::{Led, LedBy, Runs, in_place};
+use spindle::kernels::{Again, Dividing};
 use spindle::prelude::*;
 
 // Walks from one number to another, by halves where it is longer than this.
@@ -66,25 +67,30 @@ fn refused_division_is_answered_when_asked_again(rt: HostRuntime) -> Result<(), 
     Ok(())
 }
 
-impl Led for DivisionsOf<Walk> {
-    type Task = ();
+// The checker takes no name of a kernel here.
+impl<K: Division + Again> Led for InPlace<Dividing<K>>
+where
+    K::Problem: Copy,
+{
+    type Task = (K, K::Problem);
 
-    type Answer = ();
+    type Answer = K::Answer;
 
-    fn lead<H: Runs>(rt: &H, alloc: Global, leader: &mut LedBy<Self>, _: &()) -> Result<(), Fault> {
-        let walk = Shared::new(alloc, Walk { longest: 10 })?;
-        for end in [1000, 10] {
-            is(
-                rt,
-                leader.divide(rt, alloc, &walk, (0, end))?,
-                (0, end, true),
-            );
-        }
-        Ok(())
+    fn lead<H: Runs>(
+        rt: &H,
+        alloc: Global,
+        leader: &mut LedBy<Self>,
+        task: &(K, K::Problem),
+    ) -> Result<K::Answer, Fault> {
+        leader.divide(rt, alloc, &task.0, task.1)
     }
 }
 
 #[test]
-fn a_leader_divides_again(rt: HostRuntime) -> Result<(), Fault> {
-    in_place::<DivisionsOf<Walk>, _>(&rt, rt.alloc(), 5, &())
+fn a_leader_divides(rt: HostRuntime) -> Result<(), Fault> {
+    let alloc = rt.alloc();
+    let task = (Shared::new(alloc, Walk { longest: 10 })?, (0, 1000));
+    let walked = in_place::<DivisionsOf<Walk>, _>(&rt, alloc, 5, &task)?;
+    is(&rt, walked, (0, 1000, true));
+    Ok(())
 }
