@@ -167,6 +167,7 @@ where
         ensures slots { lock_slots self.new ≡ lock_slots self.old }
     {
         let mut lists = mem::replace(pieces, Vec::new(alloc));
+        lists.reserve(self.piece_count())?;
         let tasks = self.compute_all(rt, alloc, kernel, source, &mut lists, 0)?;
         take_outputs(tasks, &mut lists)?;
         *pieces = lists;

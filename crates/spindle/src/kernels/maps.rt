@@ -129,6 +129,7 @@ where
         return Ok(());
     }
     let len = list.len();
+    lists.reserve(pool.max_num_threads().saturating_mul(PIECES).min(len))?;
     let whole = SharedList::from_vec(alloc, list)?.run(0, len)?;
     let tasks = compute_all(rt, alloc, pool, kernel, &whole, &mut lists, 0)?;
     take_outputs(tasks, &mut lists)?;
@@ -191,7 +192,7 @@ where
 
 // The parts, each with the kernel and with room for what is computed of it, in one of the lists where there are any: a part has the same
 // list round after round, so that its thread may have it at hand. The first has room for so many outputs at least, so that its list can
-// take those of the others. The list of lists stays, with room for as many.
+// take those of the others. The list of lists keeps its room.
 pub(crate) fn map_tasks<K: Again, S: Source, U: Drop>(
     alloc: Global,
     kernel: &K,
@@ -213,7 +214,6 @@ pub(crate) fn map_tasks<K: Again, S: Source, U: Drop>(
         tasks.push_reserved(Task { kernel, part });
     }
     lists.clear();
-    lists.reserve(tasks.len())?;
     Ok(tasks)
 }
 
@@ -238,8 +238,9 @@ pub(crate) fn take_outputs<K: Drop, S: Source, U: Drop>(
     tasks: Vec<Task<K, Run<S, U>>>,
     pieces: &mut Vec<Vec<U>>,
 ) -> Result<(), AllocError>
-    ensures { let outputs = map (λ task. task.part.outputs) tasks.items in
-        OnOk result (pieces.new.items ≡ pieces.old.items ++ outputs) }
+    requires none { pieces.old.items ≡ [] }
+    ensures { OnOk result (map (λ piece. piece.items) pieces.new.items
+        ≡ map (λ task. task.part.outputs.items) tasks.items) }
 {
     pieces.reserve(tasks.len())?;
     for task in tasks {

@@ -1,17 +1,14 @@
 -- The pieces are what was computed of each.
-use Rattle.std.proofs.Common.{◌≡◌, rules, map, ap, subst, sym, ◌∙◌}
+use Rattle.std.proofs.Common.{◌≡◌, rules, map, subst, sym}
 use Rattle.std.specs.List.{AllZip}
 use Rattle.std.proofs.lemmas.List.{take_all}
-use Rattle.std.proofs.lemmas.Simd.{map-map}
 use Rattle.spindle_parts.specs.Pieces.{joined}
 use Rattle.spindle.proofs.kernels.maps.map_into.Goals as goal
 
 pub returns-clause-answer : goal.returns-clause-answer
 returns-clause-answer g c =
-    let tasks = c.in_ok-tasks.tasks.items in
-    let pieces : c.take_outputs.new.pieces.items ≡ map (λ task. task.part.outputs) tasks = search rules in
-    let same : joined (map (λ task. task.part.outputs.items) tasks) ≡ joined (map (λ piece. piece.items) c.take_outputs.new.pieces.items) =
-    ap joined (sym (map-map (λ piece. piece.items) (λ task. task.part.outputs) tasks) ∙ ap (map (λ piece. piece.items)) (sym pieces)) in
+    let R = g.K.Kernel.computes c.args.kernel.now in
     let whole : c.in_ok-whole.whole ≡ c.args.list.items = search (rules, take_all) in
-    subst (λ t. AllZip (g.K.Kernel.computes c.args.kernel.now) c.args.list.items t) same
-    (subst (λ t. AllZip (g.K.Kernel.computes c.args.kernel.now) t (joined (map (λ task. task.part.outputs.items) tasks))) whole c.in_ok-tasks.ensures.answer)
+    let same : map (λ piece. piece.items) c.take_outputs.new.pieces.items ≡ map (λ task. task.part.outputs.items) c.in_ok-tasks.tasks.items = search rules in
+    subst (λ t. AllZip R c.args.list.items (joined t)) (sym same)
+    (subst (λ t. AllZip R t (joined (map (λ task. task.part.outputs.items) c.in_ok-tasks.tasks.items))) whole c.in_ok-tasks.ensures.answer)
