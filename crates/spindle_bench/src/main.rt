@@ -44,29 +44,40 @@ mod series;
 mod settings;
 mod timing;
 
-use crate::kinds::{AddOne, Does, Nothing, Square, Stir};
+use crate::kinds::{AddOne, Does, Nothing, Square, Stir, Task};
 use crate::nested::{AddOneToPart, InRounds};
-use crate::settings::{Bench, Ended, shaped};
-use crate::timing::{in_each, in_place, in_trays};
+use crate::settings::{Bench, Ended, Line, Shape, shaped};
+use crate::timing::{Machine, in_place, in_slots, in_trays};
 use spindle::lock::InPlace;
 
-/// The kind of job that does this in place.
-type Place<T> = InPlace<Does<T>>;
+/// Runs a shape in each kind of lock. What its jobs do is a parameter: where a lock's kind is named, the proof takes much more.
+fn in_each<T: Task + Send, H: Machine>(bench: &Bench<H>, shape: Shape) -> Ended
+where
+    T::In: Send + Sync,
+    T::Out: Send,
+    T::Item: Send,
+{
+    in_slots::<Does<T>, H>(bench, shape)?;
+    in_trays::<Does<T>, H>(bench, shape)?;
+    in_place::<InPlace<Does<T>>, H>(bench, ("place", "zuflanto-place"), shape)
+}
 
-/// That of `nested`, in place all through.
-type Nested = InPlace<InRounds<InPlace<AddOneToPart>>>;
+/// Runs `nested`, in place all through.
+fn in_nested<H: Machine>(bench: &Bench<H>, line: Line) -> Ended {
+    let nested = shaped("nested", 2, 0, 20);
+    in_place::<InPlace<InRounds<InPlace<AddOneToPart>>>, H>(bench, line, nested)
+}
 
 fn main(rt: HostRuntime) -> Ended {
     let bench = Bench::read(&rt, 0)?;
     let patient = Bench::read(&rt, 512)?;
     let threads = bench.threads;
-    in_each::<Does<Nothing>, Place<Nothing>, _>(&bench, shaped("empty", threads, 0, 100))?;
-    in_each::<Does<Stir>, Place<Stir>, _>(&bench, shaped("tiny8", 8 * threads, 0, 100))?;
+    in_each::<Nothing, _>(&bench, shaped("empty", threads, 0, 100))?;
+    in_each::<Stir, _>(&bench, shaped("tiny8", 8 * threads, 0, 100))?;
     in_trays::<Does<Stir>, _>(&bench, shaped("try8", 8 * threads, 0, 100))?;
-    let nested = shaped("nested", 2, 0, 20);
-    in_place::<Nested, _>(&bench, ("place", "zuflanto-place"), nested)?;
-    in_place::<Nested, _>(&patient, ("patient", "zuflanto-patient"), nested)?;
-    in_each::<Does<AddOne>, Place<AddOne>, _>(&bench, shaped("stencil4k", threads, 4096, 100))?;
-    in_each::<Does<AddOne>, Place<AddOne>, _>(&bench, shaped("stencil256k", threads, 262144, 10))?;
-    in_each::<Does<Square>, Place<Square>, _>(&bench, shaped("map", 4 * threads, 4096, 100))
+    in_nested(&bench, ("place", "zuflanto-place"))?;
+    in_nested(&patient, ("patient", "zuflanto-patient"))?;
+    in_each::<AddOne, _>(&bench, shaped("stencil4k", threads, 4096, 100))?;
+    in_each::<AddOne, _>(&bench, shaped("stencil256k", threads, 262144, 10))?;
+    in_each::<Square, _>(&bench, shaped("map", 4 * threads, 4096, 100))
 }

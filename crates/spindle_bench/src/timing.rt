@@ -4,7 +4,7 @@ ghost use denote.Param.Send.{IsSync};
 
 use crate::series::{Listed, Lists, Placed, Places, Plays, Runs, Series, Tries};
 use crate::settings::{Bench, Ended, Line, Shape, Stop};
-use spindle::lock::{Nest, Updates};
+use spindle::lock::Nest;
 use spindle::prelude::*;
 use std::rt::{Clock, Env};
 use std::time::Instant;
@@ -26,15 +26,11 @@ pub trait Machine: Runs + Clock + Env + Print + Alloc<A = Global> {}
 
 impl<H: Runs + Clock + Env + Print + Alloc<A = Global>> Machine for H {}
 
-/// Runs a shape in each kind of lock, over lists by jobs of kind J and in place by those of kind M.
-pub fn in_each<J: Listed + Send, M: Placed + Updates<Inner = End> + Send, H: Machine>(
-    bench: &Bench<H>,
-    shape: Shape,
-) -> Ended
+/// Runs a shape in a lock with a slot for each of its jobs.
+pub fn in_slots<J: Listed + Send, H: Machine>(bench: &Bench<H>, shape: Shape) -> Ended
 where
     J::In: Send + Sync,
     J::Out: Send,
-    M::Item: Send,
 {
     LockOf::<J>::with_slots(
         bench.rt,
@@ -45,9 +41,7 @@ where
         |leader| -> Ended
             requires { IsSync H.row }
         { led::<Lists<J>, _, H>(bench, ("slots", "zuflanto"), shape, leader) },
-    )??;
-    in_trays::<J, H>(bench, shape)?;
-    in_place::<M, H>(bench, ("place", "zuflanto-place"), shape)
+    )?
 }
 
 /// Runs a shape in a lock with trays; `try8` in rounds that may stop.
