@@ -163,10 +163,8 @@ impl Task for Stir {
     }
 
     fn item(_: Global, number: usize, _: usize, rounds: u64) -> Result<(u64, u64), Fault> {
-        Ok((
-            number as u64,
-            stirred(number as u64).wrapping_mul(rounds.min(1)),
-        ))
+        let number = number as u64;
+        Ok((number, stirred(number).wrapping_mul(rounds.min(1))))
     }
 
     fn output(_: Global, number: usize, _: usize, _: u64) -> Result<u64, Fault> {
@@ -246,8 +244,7 @@ impl Task for Square {
 
     fn update(mut item: Self::Item) -> Self::Item {
         let (numbers, squares) = (item.0.as_slice(), item.1.as_mut_slice());
-        let count = numbers.len().min(squares.len());
-        for at in 0..count {
+        for at in 0..numbers.len().min(squares.len()) {
             squares[at] = numbers[at].wrapping_mul(numbers[at]);
         }
         item

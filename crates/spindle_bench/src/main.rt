@@ -12,8 +12,8 @@
 //! begin within 50 ms warm up, until all threads of the lock are there; then 300 count, or as many as begin within 0.8 seconds.
 //!
 //! SHAPE in the environment names the one shape to run, and POOL what to run it on: `slots`, `trays`, `place` or `patient`. No line is
-//! printed where nothing has that name. THREADS is how many threads run, else 4. With the word `check` the program reads no clock: it
-//! runs a few rounds for each line, checks what came out, and prints zeros.
+//! printed, and no lock is opened, where nothing has that name. THREADS is how many threads run, else 4. With the word `check` the
+//! program reads no clock: it runs a few rounds for each line, checks what came out, and prints zeros.
 //!
 //! NAME is `zuflanto` for a lock that `with_slots` opens, with a slot for each job of the round,
 //! `zuflanto-trays` for one that `with_lock` opens, and `zuflanto-place` for one that `with_slots_in_place` opens, whose rounds are
@@ -46,37 +46,50 @@ mod timing;
 
 use crate::kinds::{AddOne, Does, Nothing, Square, Stir, Task};
 use crate::nested::{AddOneToPart, InRounds};
-use crate::settings::{Bench, Ended, Line, Shape, shaped};
+use crate::settings::{Bench, Ended, Shape, shaped};
 use crate::timing::{Machine, in_place, in_slots, in_trays};
 use spindle::lock::InPlace;
 
-/// Runs a shape in each kind of lock. What its jobs do is a parameter: where a lock's kind is named, the proof takes much more.
+/// Runs a shape in each kind of lock that is asked for. What its jobs do is a parameter: where a lock's kind is named, the proof takes
+/// much more.
 fn in_each<T: Task + Send, H: Machine>(bench: &Bench<H>, shape: Shape) -> Ended
 where
     T::In: Send + Sync,
     T::Out: Send,
     T::Item: Send,
 {
-    in_slots::<Does<T>, H>(bench, shape)?;
-    in_trays::<Does<T>, H>(bench, shape)?;
-    in_place::<InPlace<Does<T>>, H>(bench, ("place", "zuflanto-place"), shape)
+    if bench.wants("slots", shape) {
+        in_slots::<Does<T>, H>(bench, shape)?;
+    }
+    if bench.wants("trays", shape) {
+        in_trays::<Does<T>, H>(bench, shape)?;
+    }
+    if bench.wants("place", shape) {
+        in_place::<InPlace<Does<T>>, H>(bench, "zuflanto-place", shape)?;
+    }
+    Ok(())
 }
 
-/// Runs `nested`, in place all through.
-fn in_nested<H: Machine>(bench: &Bench<H>, line: Line) -> Ended {
+/// Runs `nested` in place all through, where it is asked for.
+fn in_nested<H: Machine>(bench: &Bench<H>, pool: &str, name: &str) -> Ended {
     let nested = shaped("nested", 2, 0, 20);
-    in_place::<InPlace<InRounds<InPlace<AddOneToPart>>>, H>(bench, line, nested)
+    if bench.wants(pool, nested) {
+        in_place::<InPlace<InRounds<InPlace<AddOneToPart>>>, H>(bench, name, nested)?;
+    }
+    Ok(())
 }
 
 fn main(rt: HostRuntime) -> Ended {
     let bench = Bench::read(&rt, 0)?;
-    let patient = Bench::read(&rt, 512)?;
     let threads = bench.threads;
     in_each::<Nothing, _>(&bench, shaped("empty", threads, 0, 100))?;
     in_each::<Stir, _>(&bench, shaped("tiny8", 8 * threads, 0, 100))?;
-    in_trays::<Does<Stir>, _>(&bench, shaped("try8", 8 * threads, 0, 100))?;
-    in_nested(&bench, ("place", "zuflanto-place"))?;
-    in_nested(&patient, ("patient", "zuflanto-patient"))?;
+    let tries = shaped("try8", 8 * threads, 0, 100);
+    if bench.wants("trays", tries) {
+        in_trays::<Does<Stir>, _>(&bench, tries)?;
+    }
+    in_nested(&bench, "place", "zuflanto-place")?;
+    in_nested(&Bench::read(&rt, 512)?, "patient", "zuflanto-patient")?;
     in_each::<AddOne, _>(&bench, shaped("stencil4k", threads, 4096, 100))?;
     in_each::<AddOne, _>(&bench, shaped("stencil256k", threads, 262144, 10))?;
     in_each::<Square, _>(&bench, shaped("map", 4 * threads, 4096, 100))

@@ -4,6 +4,7 @@ ghost use Rattle.std.specs.Prelude.{◌≡◌, ◌*◌, ◌<◌, ◌≤◌};
 use spindle::prelude::*;
 use std::rt::Env;
 use std::{env, io};
+use thiserror::Error;
 
 /// A shape of rounds.
 #[derive(Clone, Copy)]
@@ -33,9 +34,6 @@ pub fn shaped(name: &'static str, jobs: usize, numbers: usize, rounds: u64) -> S
     }
 }
 
-/// What the rounds of a line are played on: its name in the environment, and the name that is printed.
-pub type Line = (&'static str, &'static str);
-
 /// What to run, and on what.
 #[derive(Drop)]
 pub struct Bench<'a, H> {
@@ -47,7 +45,7 @@ pub struct Bench<'a, H> {
     pub pool: Pool<NoGate>,
     /// Whether rounds are only checked, and not timed.
     pub is_check: bool,
-    lines: Option<String>,
+    pools: Option<String>,
     shapes: Option<String>,
     ghost some: { 0 < threads },
     ghost few: { threads ≤ 32767 },
@@ -63,20 +61,20 @@ impl<'a, H: Env + Alloc<A = Global>> Bench<'a, H> {
         };
         let pool = Pool::new(threads, Limits::new(), NoGate).with_patience(patience);
         let is_check = env::args(rt)?.nth(1).as_deref() == Some("check");
-        let (lines, shapes) = (env::var(rt, "POOL").ok(), env::var(rt, "SHAPE").ok());
+        let (pools, shapes) = (env::var(rt, "POOL").ok(), env::var(rt, "SHAPE").ok());
         Ok(Bench {
             rt,
             threads,
             pool,
             is_check,
-            lines,
+            pools,
             shapes,
         })
     }
 
-    /// Whether this line of a shape is asked for.
-    pub fn wants(&self, line: Line, shape: Shape) -> bool {
-        self.lines.as_deref().is_none_or(|name| name == line.0)
+    /// Whether rounds of a shape on this are asked for.
+    pub fn wants(&self, pool: &str, shape: Shape) -> bool {
+        self.pools.as_deref().is_none_or(|name| name == pool)
             && self.shapes.as_deref().is_none_or(|name| name == shape.name)
     }
 }
@@ -85,26 +83,18 @@ impl<'a, H: Env + Alloc<A = Global>> Bench<'a, H> {
 pub type Ended = Result<(), Stop>;
 
 /// Why the program stops early.
-#[derive(Debug, Drop)]
+#[derive(Debug, Drop, Error)]
 pub enum Stop {
-    /// THREADS is no number from 1 to 32767.
+    /// THREADS says something else.
+    #[error("THREADS is no number from 1 to 32767")]
     Threads,
     /// A lock or a round was refused.
-    Refused(Fault),
+    #[error(transparent)]
+    Refused(#[from] Fault),
     /// The clock, the words or the output could not be read or written.
-    System(io::Error),
+    #[error(transparent)]
+    System(#[from] io::Error),
     /// Rounds of this shape answered something wrong.
+    #[error("wrong answers: {0}")]
     Wrong(&'static str),
-}
-
-impl From<Fault> for Stop {
-    fn from(fault: Fault) -> Stop {
-        Stop::Refused(fault)
-    }
-}
-
-impl From<io::Error> for Stop {
-    fn from(error: io::Error) -> Stop {
-        Stop::System(error)
-    }
 }

@@ -3,7 +3,7 @@ ghost use Rattle.std.specs.Prelude.{◌≡◌, ◌*◌, ◌<◌, ◌≤◌};
 ghost use denote.Param.Send.{IsSync};
 
 use crate::series::{Listed, Lists, Placed, Places, Plays, Runs, Series, Tries};
-use crate::settings::{Bench, Ended, Line, Shape, Stop};
+use crate::settings::{Bench, Ended, Shape, Stop};
 use spindle::lock::Nest;
 use spindle::prelude::*;
 use std::rt::{Clock, Env};
@@ -40,7 +40,7 @@ where
         shape.jobs,
         |leader| -> Ended
             requires { IsSync H.row }
-        { led::<Lists<J>, _, H>(bench, ("slots", "zuflanto"), shape, leader) },
+        { led::<Lists<J>, _, H>(bench, "zuflanto", shape, leader) },
     )?
 }
 
@@ -58,17 +58,16 @@ where
         |leader| -> Ended
             requires { IsSync H.row }
         {
-            let line = ("trays", "zuflanto-trays");
             match shape.name {
-                "try8" => led::<Tries<J>, _, H>(bench, line, shape, leader),
-                _ => led::<Lists<J>, _, H>(bench, line, shape, leader),
+                "try8" => led::<Tries<J>, _, H>(bench, "zuflanto-trays", shape, leader),
+                _ => led::<Lists<J>, _, H>(bench, "zuflanto-trays", shape, leader),
             }
         },
     )?
 }
 
 /// Runs a shape in a lock with a slot for each of its jobs, in place.
-pub fn in_place<J: Placed + Send, H: Machine>(bench: &Bench<H>, line: Line, shape: Shape) -> Ended
+pub fn in_place<J: Placed + Send, H: Machine>(bench: &Bench<H>, name: &str, shape: Shape) -> Ended
 where
     J::Item: Send,
     J::Inner: Send,
@@ -82,32 +81,29 @@ where
         shape.jobs,
         |leader| -> Ended
             requires { IsSync H.row }
-        { led::<Places<J>, _, H>(bench, line, shape, leader) },
+        { led::<Places<J>, _, H>(bench, name, shape, leader) },
     )?
 }
 
-// Runs a shape's series with the leader of its lock, and prints the line, where it is asked for.
+// Runs a shape's series with the leader of its lock, and prints the line, which begins with this name.
 fn led<S: Series, E: Plays<S>, H: Machine>(
     bench: &Bench<H>,
-    line: Line,
+    name: &str,
     shape: Shape,
     leader: &mut E,
 ) -> Ended
     requires { IsSync H.row }
 {
-    if !bench.wants(line, shape) {
-        return Ok(());
-    }
     let (rt, alloc) = (bench.rt, bench.rt.alloc());
     let mut series = S::new(alloc, shape)?;
     let (rounds, times) = time(bench, shape, leader, &mut series)?;
     if !series.is_right(alloc, shape, rounds)? {
         return Err(Stop::Wrong(shape.name));
     }
-    let (head, name, threads) = (line.1, shape.name, bench.threads);
     let (at, all) = (|at: usize| times.get(at).copied().unwrap_or(0), times.len());
     let (best, median, low, high) = (at(0), at(all / 2), at(all / 10), at(all - all / 10));
-    println!(rt; "{head} {name} {threads} {best} {median} {low} {high}")?;
+    let (of, threads) = (shape.name, bench.threads);
+    println!(rt; "{name} {of} {threads} {best} {median} {low} {high}")?;
     Ok(())
 }
 
@@ -147,6 +143,5 @@ fn time<S: Series, E: Plays<S>, H: Machine>(
 // The nanoseconds from an instant up to now.
 fn nanos_since(rt: &impl Clock, begin: Instant) -> Result<u64, Stop> {
     let elapsed = begin.elapsed(rt)?;
-    let seconds = elapsed.as_secs().saturating_mul(1_000_000_000);
-    Ok(seconds.saturating_add(u64::from(elapsed.subsec_nanos())))
+    Ok(u64::try_from(elapsed.as_nanos()).unwrap_or(u64::MAX))
 }
