@@ -11,11 +11,8 @@ ghost use Rattle.std.specs.Prelude.{◌≡◌, ◌<◌, All, IfOk, OnErr, IsOk, 
 ghost use Rattle.std.specs.List.{AllZip};
 ghost use Rattle.spindle_parts.specs.Pieces.{counted};
 
-use crate::lock::{Gate, Pool};
+use crate::prelude::*;
 use rayon::prelude::*;
-use spindle_parts::fault::Fault;
-use std::alloc::Global;
-use std::thread::Threads;
 
 /// What `f` answers to each item, in the order of the items.
 ///

@@ -8,17 +8,8 @@ ghost use Rattle.spindle.specs.SlotLeaders.{threads_of, lock_slots};
 
 use crate::kernels::held::Again;
 use crate::kernels::tasks::{Task, parts_in, tasks_of};
-use crate::kernels::{Division, Split};
-use crate::lock::PlaceLeader;
-use spindle_parts::fault::Fault;
-use spindle_slots::job::update::Update;
-use spindle_trays::job::context::JobCx;
-use spindle_trays::job::gate::Gate;
-use spindle_trays::job::nest::End;
-use std::alloc::{AllocError, Global};
+use crate::prelude::*;
 use std::marker::PhantomData;
-use std::sync::Wait;
-use std::thread::Threads;
 
 /// What a problem has become on the way to its answer.
 #[derive(Drop)]

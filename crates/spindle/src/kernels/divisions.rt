@@ -7,16 +7,9 @@ ghost use Rattle.spindle.specs.Divisions.{Allows};
 use crate::kernels::dividing::{Branch, Dividing, answers_to};
 use crate::kernels::held::Again;
 use crate::kernels::tasks::PIECES;
-use crate::kernels::{Division, Split};
 use crate::lock::with_slots_in_place;
-use spindle_parts::fault::Fault;
-use spindle_slots::job::update::InPlace;
-use spindle_trays::job::gate::Gate;
+use crate::prelude::*;
 use spindle_trays::lock::leader::MOST_JOBS;
-use spindle_trays::lock::pool::Pool;
-use std::alloc::Global;
-use std::sync::Wait;
-use std::thread::Threads;
 
 /// The answer to a problem that the kernel divides: it is split level by level, until there are some parts a thread; these are solved;
 /// and answers are joined level by level. Each level is a round of one lock, which is opened for them, so splits, solutions and

@@ -8,27 +8,18 @@ ghost use Rattle.spindle_parts.specs.Pieces.{joined};
 ghost use Rattle.spindle.specs.SlotLeaders.{threads_of, lock_slots};
 
 use crate::kernels::dividing::{Branch, Dividing, answers_to};
-use crate::kernels::held::{Again, Shared};
+use crate::kernels::held::Again;
 use crate::kernels::maps::{Mapping, Run, append_outputs, map_tasks, take_outputs};
-use crate::kernels::pairs::PairRun;
-use crate::kernels::passes::Passes;
 use crate::kernels::passing::{Passing, append_strips, play_passes, strips_of};
 use crate::kernels::source::{Source, parts_of};
 use crate::kernels::tasks::{Task, tasks_of};
-use crate::kernels::tries::{Failed, Trying, gathered_trials, trials_of};
+use crate::kernels::tries::{Trying, gathered_trials, trials_of};
 use crate::kernels::updates::{Updating, append_items};
-use crate::kernels::{Change, Division, Kernel, Split, Stencil};
 use crate::lock::folds::{combined, fold_parts};
-use crate::lock::{Combine, Folds, PlaceLeader};
+use crate::lock::{Combine, Folds};
+use crate::prelude::*;
 use spindle_parts::cut::cut;
-use spindle_parts::fault::Fault;
-use spindle_parts::lists::ListRun;
-use spindle_slots::job::update::InPlace;
-use spindle_trays::job::gate::Gate;
-use std::alloc::Global;
 use std::mem;
-use std::sync::Wait;
-use std::thread::Threads;
 
 /// The kind of job of a lock whose leader updates lists by the kernel K, opened by `LockOf::<UpdatesOf<K>>::with_slots_in_place`.
 pub type UpdatesOf<K> = InPlace<Updating<Shared<K>>>;

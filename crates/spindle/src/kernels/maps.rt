@@ -4,23 +4,12 @@ ghost use Rattle.std.specs.List.{AllZip};
 ghost use Rattle.spindle_parts.specs.Pieces.{joined};
 ghost use Rattle.spindle.specs.Kernels.{IsOfKernel};
 
-use crate::kernels::Kernel;
 use crate::kernels::held::Again;
 use crate::kernels::source::{Source, parts_of};
 use crate::kernels::tasks::{PIECES, Task, append_list};
-use crate::lock::update_one;
-use spindle_parts::fault::Fault;
-use spindle_parts::lists::SharedList;
-use spindle_slots::job::update::{InPlace, Update};
-use spindle_trays::job::context::JobCx;
-use spindle_trays::job::gate::Gate;
-use spindle_trays::job::nest::End;
-use spindle_trays::lock::pool::Pool;
-use std::alloc::{AllocError, Global};
+use crate::prelude::*;
 use std::marker::PhantomData;
 use std::mem;
-use std::sync::Wait;
-use std::thread::Threads;
 
 /// A piece of a list, and what is computed of it.
 #[derive(Drop)]

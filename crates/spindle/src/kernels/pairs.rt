@@ -3,17 +3,10 @@ ghost use Rattle.std.specs.Prelude.{◌≡◌, IfOk, IsOk, OnErr, IsErrOf, lengt
 ghost use Rattle.std.specs.List.{AllZip};
 ghost use Rattle.spindle.specs.Folds.{total_of};
 
-use crate::kernels::Kernel;
 use crate::kernels::maps::map_once;
 use crate::kernels::source::Source;
 use crate::lock::{Combine, reduce_once};
-use spindle_parts::fault::Fault;
-use spindle_parts::lists::{ListRun, SharedList};
-use spindle_trays::job::gate::Gate;
-use spindle_trays::lock::pool::Pool;
-use std::alloc::{AllocError, Global};
-use std::sync::Wait;
-use std::thread::Threads;
+use crate::prelude::*;
 
 /// The pairs of two runs, as far as both go. No list of pairs is made.
 #[derive(Drop)]

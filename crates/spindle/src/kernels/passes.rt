@@ -3,19 +3,12 @@ ghost use Rattle.std.specs.Prelude.{◌≡◌, ◌<◌, IfOk, IsOk, OnErr, IsErr
 ghost use denote.Param.Send.{IsSync};
 ghost use Rattle.spindle.specs.Passes.{HavePassed};
 
-use crate::kernels::Stencil;
 use crate::kernels::held::Again;
 use crate::kernels::passing::Passing;
 use crate::kernels::tasks::PIECES;
 use crate::lock::with_slots_in_place;
-use spindle_parts::fault::Fault;
-use spindle_slots::job::update::InPlace;
-use spindle_trays::job::gate::Gate;
+use crate::prelude::*;
 use spindle_trays::lock::leader::MOST_JOBS;
-use spindle_trays::lock::pool::Pool;
-use std::alloc::Global;
-use std::sync::Wait;
-use std::thread::Threads;
 
 /// What came of passes over a list.
 #[derive(Drop)]

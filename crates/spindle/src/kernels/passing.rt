@@ -7,20 +7,10 @@ ghost use Rattle.spindle_parts.specs.Strips.{items_of};
 ghost use Rattle.spindle.specs.Passes.{passed, all_settled, HavePassed, IsNotedBy, IsPassedOver};
 ghost use Rattle.spindle.specs.SlotLeaders.{threads_of, lock_slots};
 
-use crate::kernels::Stencil;
 use crate::kernels::held::Again;
-use crate::lock::PlaceLeader;
+use crate::prelude::*;
 use spindle_parts::cut::{Piece, cut};
-use spindle_parts::fault::Fault;
-use spindle_parts::lists::Strip;
-use spindle_slots::job::update::Update;
-use spindle_trays::job::context::JobCx;
-use spindle_trays::job::gate::Gate;
-use spindle_trays::job::nest::End;
-use std::alloc::{AllocError, Global};
 use std::marker::PhantomData;
-use std::sync::Wait;
-use std::thread::Threads;
 
 /// What stands at a strip: the kernel of its passes, and whether all its values have settled in the last one.
 #[derive(Drop)]

@@ -4,12 +4,9 @@ ghost use Rattle.std.specs.List.{AllZip};
 ghost use Rattle.spindle_parts.specs.Pieces.{joined, total};
 ghost use Rattle.spindle.specs.Folds.{total_of};
 
-use crate::kernels::Kernel;
 use crate::lock::Combine;
+use crate::prelude::*;
 use spindle_parts::cut::piece_lengths;
-use spindle_parts::fault::Fault;
-use spindle_parts::lists::ListRun;
-use std::alloc::{AllocError, Global};
 
 /// Items in an order, which may be cut, and are computed one by one.
 pub trait Source: Drop {

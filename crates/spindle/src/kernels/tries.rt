@@ -5,22 +5,11 @@ ghost use Rattle.spindle_parts.specs.Pieces.{joined};
 ghost use Rattle.spindle.specs.Kernels.{IsOfKernel};
 ghost use Rattle.spindle.specs.Tries.{AreUpTo, IsTried};
 
-use crate::kernels::Kernel;
 use crate::kernels::held::Again;
 use crate::kernels::source::parts_of;
 use crate::kernels::tasks::{PIECES, Task, append_list};
-use crate::lock::update_one;
-use spindle_parts::fault::Fault;
-use spindle_parts::lists::{ListRun, SharedList};
-use spindle_slots::job::update::{InPlace, Update};
-use spindle_trays::job::context::JobCx;
-use spindle_trays::job::gate::Gate;
-use spindle_trays::job::nest::End;
-use spindle_trays::lock::pool::Pool;
-use std::alloc::{AllocError, Global};
+use crate::prelude::*;
 use std::marker::PhantomData;
-use std::sync::Wait;
-use std::thread::Threads;
 
 /// Where a list failed.
 #[derive(Debug, Drop)]

@@ -3,20 +3,10 @@ ghost use Rattle.std.specs.Prelude.{◌≡◌, ◌<◌, ◌++◌, IfOk, IsOk, On
 ghost use Rattle.std.specs.List.{AllZip};
 ghost use Rattle.spindle_parts.specs.Pieces.{joined};
 
-use crate::kernels::Change;
 use crate::kernels::tasks::{PIECES, Task, tasks_of};
-use crate::lock::update_one;
+use crate::prelude::*;
 use spindle_parts::cut::{Piece, cut};
-use spindle_parts::fault::Fault;
-use spindle_slots::job::update::{InPlace, Update};
-use spindle_trays::job::context::JobCx;
-use spindle_trays::job::gate::Gate;
-use spindle_trays::job::nest::End;
-use spindle_trays::lock::pool::Pool;
-use std::alloc::{AllocError, Global};
 use std::marker::PhantomData;
-use std::sync::Wait;
-use std::thread::Threads;
 
 /// The kind of job that changes the items of pieces.
 pub struct Updating<K> {

@@ -2,14 +2,11 @@
 ghost use Rattle.std.specs.Prelude.{◌≡◌, ◌≤◌, None, true, false, vec_len, vec_capacity};
 ghost use Rattle.std.specs.List.{AllZip};
 
-use spindle_trays::job::Job;
-use spindle_trays::job::context::JobCx;
+use crate::prelude::*;
 use spindle_trays::pieces::tally::has_failure;
 use spindle_trays::running::runner::run_each;
-use std::alloc::Global;
+use std::sync::Arc;
 use std::sync::atomic::{AtomicBool, Ordering};
-use std::sync::{Arc, Wait};
-use std::thread::Threads;
 
 /// A piece of a round that may stop: its items, and an output for each of them where it ran.
 #[derive(Drop)]

@@ -11,24 +11,14 @@ ghost use Rattle.spindle.specs.OneRound.{asked_jobs};
 ghost use Rattle.spindle.specs.SlotLeaders.{threads_of, lock_slots};
 ghost use Rattle.spindle.specs.Attempts.{AreAttempts, HasFailed, HasRun, IsAttempted, IsSkipped, IsUnstopped};
 
-use crate::kernels::{Change, change_each};
-use crate::lock::attempt::Attempt;
-use crate::lock::one_round::update_one;
-use crate::lock::place_rounds::PlaceLeader;
+use crate::kernels::change_each;
+use crate::prelude::*;
 use spindle_parts::cut::{Piece, cut};
-use spindle_parts::fault::Fault;
-use spindle_slots::job::update::{InPlace, Update};
-use spindle_trays::job::Job;
-use spindle_trays::job::context::JobCx;
-use spindle_trays::job::gate::Gate;
 use spindle_trays::job::nest::Nest;
-use spindle_trays::lock::pool::Pool;
 use spindle_trays::pieces::tally::has_failure;
-use std::alloc::{AllocError, Global};
 use std::marker::PhantomData;
+use std::sync::Arc;
 use std::sync::atomic::AtomicBool;
-use std::sync::{Arc, Wait};
-use std::thread::Threads;
 
 /// The kind of job that runs pieces by jobs of kind J, as long as none has failed.
 pub struct Attempting<J> {

@@ -3,18 +3,8 @@ ghost use Rattle.std.specs.Prelude.{◌≡◌, IfOk, IsOk, OnErr, IsErrOf, fold,
 ghost use Rattle.spindle.specs.Folds.{IsAssociative, IsNeutral, total_of};
 
 use crate::kernels::{PIECES, Source, parts_of};
-use crate::lock::one_round::update_one;
-use spindle_parts::fault::Fault;
-use spindle_parts::lists::SharedList;
-use spindle_slots::job::update::{InPlace, Update};
-use spindle_trays::job::context::JobCx;
-use spindle_trays::job::gate::Gate;
-use spindle_trays::job::nest::End;
-use spindle_trays::lock::pool::Pool;
-use std::alloc::{AllocError, Global};
+use crate::prelude::*;
 use std::marker::PhantomData;
-use std::sync::Wait;
-use std::thread::Threads;
 
 /// An operation that makes one total of a list, and may be done chunk by chunk.
 pub trait Combine {

@@ -6,26 +6,17 @@ ghost use Rattle.spindle_trays.specs.Leaders.{workers_of, threads_of as tray_thr
 ghost use Rattle.spindle.specs.SlotLeaders.{TakesLeaders, IsLeaderOf};
 
 use crate::lock::nested::UnderPieces;
-use crate::lock::slot_leader::SlotLeader;
 use crate::lock::{nested, slot_root};
-use spindle_parts::fault::Fault;
+use crate::prelude::*;
 use spindle_rounds::round_table::pieces::PieceSlots;
 use spindle_slots::job::update::Updates;
 use spindle_slots::leader_states::opens_slots::MakesSlots;
 use spindle_slots::pieces::of_kind::{ChunkOf, PieceOf};
 use spindle_slots::running::in_slots::SlotWorkspace;
-use spindle_trays::job::Job;
-use spindle_trays::job::context::JobCx;
-use spindle_trays::job::gate::{Gate, NoGate};
 use spindle_trays::job::nest::Nest;
-use spindle_trays::lock::leader::Leader;
-use spindle_trays::lock::pool::Pool;
 use spindle_trays::lock::root;
 use spindle_trays::lock::workspace::Opens;
-use std::alloc::Global;
 use std::marker::PhantomData;
-use std::sync::Wait;
-use std::thread::Threads;
 
 /// The locks over jobs of kind J, as in `LockOf::<Bill>::with_slots(rt, alloc, pool, threads, slots, |leader| ..)`. No value of it is
 /// made. The compiler finds the other types of each call.

@@ -8,11 +8,9 @@ ghost use Rattle.spindle_threads.specs.Opening.{AreSeatsAt};
 ghost use Rattle.spindle_threads.specs.ThreadCounts.{lock_threads};
 ghost use Rattle.spindle.specs.SlotLeaders.{TakesLeaders, IsLeaderOf, WasLed};
 
-use crate::lock::slot_leader::SlotLeader;
 use crate::lock::slot_root::make;
-use spindle_parts::fault::Fault;
+use crate::prelude::*;
 use spindle_rounds::round_table::pieces::{PieceKind, PieceSlots};
-use spindle_slots::job::update::InPlace;
 use spindle_slots::leader_states::leader_state::{LeaderSeats, SlotShare};
 use spindle_slots::leader_states::opens_slots::MakesSlots;
 use spindle_slots::pieces::of_kind::{ChunkOf, PieceOf};
@@ -22,19 +20,15 @@ use spindle_threads::limits::Idling;
 use spindle_threads::seats::{Seats, SpareSeats};
 use spindle_threads::signals::Signals;
 use spindle_threads::tables::Tables;
-use spindle_trays::job::Job;
-use spindle_trays::job::context::{JobCx, child_slots_for, site_of};
-use spindle_trays::job::gate::NoGate;
+use spindle_trays::job::context::{child_slots_for, site_of};
 use spindle_trays::job::nest::{IsNest, Nest};
 use spindle_trays::lock::helper::join_as_leader;
 use spindle_trays::lock::nested::{
     Child, ChildLease, ChildSlot, TakesHelpers, close, help_from, make_child_slots,
     serve_child_slots,
 };
-use std::alloc::Global;
 use std::marker::PhantomData;
-use std::sync::{Arc, Wait};
-use std::thread::Threads;
+use std::sync::Arc;
 
 /// Opens a lock whose slots hold A's pieces, runs f with its leader, and closes the lock.
 pub(crate) fn open<

@@ -8,17 +8,11 @@ ghost use Rattle.spindle.specs.SlotLeaders.{IsForMemory};
 ghost use Rattle.spindle_trays.specs.Rounds.{job_count, IsRefusal};
 
 use crate::lock::slot_root::with_slots_in_place;
-use spindle_parts::fault::Fault;
+use crate::prelude::*;
 use spindle_slots::job::update::Updates;
-use spindle_trays::job::Job;
-use spindle_trays::job::gate::Gate;
 use spindle_trays::job::nest::Nest;
 use spindle_trays::lock::leader::MOST_JOBS;
-use spindle_trays::lock::pool::Pool;
 use spindle_trays::lock::root::with_lock;
-use std::alloc::Global;
-use std::sync::Wait;
-use std::thread::Threads;
 
 /// Opens a lock over jobs of kind J, runs the items in one round of `n_jobs` jobs, and closes the lock. Where `n_jobs` is 0,
 /// there are as many jobs as the pool has threads. Outputs stand in the order of the items, as those of a leader's `for_each`.

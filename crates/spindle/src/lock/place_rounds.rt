@@ -5,15 +5,9 @@ ghost use Rattle.spindle_parts.specs.Strips.{told};
 ghost use Rattle.spindle.specs.SlotLeaders.{lock_slots, slot_jobs, threads_of, GoesOn, IsForMemory, PlayedAs};
 
 use crate::kernels::PIECES;
-use crate::lock::slot_leader::SlotLeader;
-use spindle_parts::fault::Fault;
-use spindle_parts::lists::{Strip, tell_neighbours};
-use spindle_slots::job::update::{InPlace, Update, Updates};
+use crate::prelude::*;
+use spindle_slots::job::update::Updates;
 use spindle_slots::running::in_place::{PlaceLeaderState, PlaysInPlace};
-use spindle_trays::job::gate::Gate;
-use std::alloc::Global;
-use std::sync::Wait;
-use std::thread::Threads;
 
 /// The leader of a lock whose rounds update items of the kind M in place, lent to the closure that the lock was opened for.
 pub type PlaceLeader<'a, M, G> = SlotLeader<'a, InPlace<M>, G, PlaceLeaderState<InPlace<M>>>;

@@ -5,15 +5,13 @@
 ghost use Rattle.std.specs.Prelude.{◌≡◌, ◌<◌, ◌≤◌, IsNone};
 ghost use Rattle.spindle.specs.SlotLeaders.{threads_of, AnnouncedRest, IsAsBefore};
 
+use crate::prelude::*;
 use spindle_slots::leader_states::opens_slots::OpensSlots;
 use spindle_slots::running::over_lists::SlotLeaderState;
 use spindle_threads::ThreadCounts;
-use spindle_trays::job::Job;
-use spindle_trays::job::gate::Gate;
 use spindle_trays::lock::nested::Leads;
 use spindle_trays::running::runner::Runner;
 use std::marker::PhantomData;
-use std::sync::Wait;
 
 /// The leader of a lock with slots over jobs of kind J, lent to the closure that the lock was opened for.
 #[derive(Drop)]

@@ -9,8 +9,7 @@ ghost use Rattle.spindle_threads.specs.Opening.{AreSeatsAt};
 ghost use Rattle.spindle_threads.specs.ThreadCounts.{lock_threads};
 ghost use Rattle.spindle.specs.SlotLeaders.{TakesLeaders, IsLeaderOf, WasLed};
 
-use crate::lock::slot_leader::SlotLeader;
-use spindle_parts::fault::Fault;
+use crate::prelude::*;
 use spindle_rounds::round::Round;
 use spindle_rounds::round_table::pieces::{PieceKind, PieceSlots};
 use spindle_slots::job::update::Updates;
@@ -22,17 +21,12 @@ use spindle_threads::ThreadCounts;
 use spindle_threads::limits::Idling;
 use spindle_threads::seats::Seats;
 use spindle_threads::tables::Tables;
-use spindle_trays::job::Job;
-use spindle_trays::job::gate::Gate;
 use spindle_trays::job::nest::Nest;
 use spindle_trays::lock::nested::Leads;
-use spindle_trays::lock::pool::Pool;
 use spindle_trays::lock::root::{CrossesThreads, LeaderStart};
 use spindle_trays::lock::workspace::TakesPart;
-use std::alloc::Global;
-use std::sync::{Arc, Wait};
+use std::sync::Arc;
 use std::thread;
-use std::thread::Threads;
 
 /// Opens a lock over jobs of kind J whose rounds have at most so many jobs, runs f with its leader, and closes the lock.
 ///

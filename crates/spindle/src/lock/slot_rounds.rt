@@ -9,16 +9,10 @@ ghost use Rattle.spindle_parts.specs.Pieces.{counted};
 ghost use Rattle.spindle_parts.specs.declared.fault.Fault.TheVariants.{Memory};
 ghost use Rattle.spindle.specs.SlotLeaders.{threads_of, slots_of, slot_jobs, GoesOn, IsAsBefore, IsBetweenRounds, IsForMemory, PlayedAs, PlayedOnce};
 
-use crate::lock::slot_leader::SlotLeader;
-use spindle_parts::fault::Fault;
+use crate::prelude::*;
 use spindle_slots::pieces::items::{FillsSlots, Items, Numbers};
 use spindle_slots::running::over_lists::PlaysPieces;
-use spindle_trays::job::gate::Gate;
-use spindle_trays::lock::rounds::RunsRounds;
-use std::alloc::Global;
 use std::mem;
-use std::sync::Wait;
-use std::thread::Threads;
 
 impl<'a, J: PlaysPieces<P>, G: Gate, P> SlotLeader<'a, J, G, P> {
     /// Runs the items in `n_jobs` jobs, or in as many as there are items or slots where these are fewer. Each job runs a piece
