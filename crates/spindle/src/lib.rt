@@ -16,7 +16,7 @@ pub use kernels::{
     Passes, PassesOf, Shared, Split, Stencil, TotalsOf, TriesOf, UpdatesOf, divide, map, map_into,
     map_pairs, passes_until, reduce_pairs, try_map, update,
 };
-pub use lock::{reduce, run_one, try_one, update_one, with_lock, with_slots, with_slots_in_place};
+pub use lock::{reduce, run_one, try_one, update_one, with_lock, with_slots};
 pub use spindle_parts::fault::Fault;
 pub use spindle_parts::lists::{
     Chunk, EqualIsSame, ListRun, SharedList, Strip, gathered, joined_strips, tell_neighbours,

@@ -26,7 +26,7 @@ pub use self::nested::{NestedSlots, UnderInPlace, UnderPieces, UnderSlots};
 pub use self::one_round::{run_one, update_one};
 pub use self::place_rounds::PlaceLeader;
 pub use self::slot_leader::SlotLeader;
-pub use self::slot_root::{with_slots, with_slots_in_place};
+pub use self::slot_root::with_slots;
 pub use spindle_slots::job::update::{InPlace, Update, Updates};
 pub use spindle_slots::leader_states::leader_state::LeaderState;
 pub use spindle_slots::leader_states::opens_slots::{MakesSlots, OpensSlots};

@@ -8,8 +8,8 @@ use crate::checks::{holds, is};
 use crate::gates::Meetings;
 use crate::jobs::{Calls, Counting};
 use crate::sevens::seven_items;
-use spindle::lock::{End, Gate, InPlace, JobCx, Limits, NoGate, Pool, Update};
-use spindle::{Fault, update_one, with_slots_in_place};
+use spindle::lock::{End, Gate, InPlace, JobCx, Limits, LockOf, NoGate, Pool, Update};
+use spindle::{Fault, update_one};
 use std::alloc::Global;
 use std::process::Abort;
 use std::sync::Wait;
@@ -60,7 +60,7 @@ fn step_often<G: Gate + Sync, H: Threads + Wait + Sync>(
     requires slots { (1 ≤ slots) × (slots ≤ 4294967295) }
     requires jobs { 0 < jobs }
 {
-    with_slots_in_place::<InPlace<Step>, _, _, _, _, _>(
+    LockOf::<InPlace<Step>>::with_slots_in_place(
         rt,
         alloc,
         pool,

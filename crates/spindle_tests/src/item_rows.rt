@@ -6,8 +6,8 @@ ghost use Rattle.std.specs.Prelude.{◌<◌, ◌≤◌};
 use crate::checks::holds;
 use crate::marks::{Marks, Noted, Noting, Taking, noted_items};
 use crate::rounds::{rounds_in_slots, rounds_of};
-use spindle::lock::{End, InPlace, JobCx, Limits, Pool, Update};
-use spindle::{Fault, with_slots_in_place};
+use spindle::Fault;
+use spindle::lock::{End, InPlace, JobCx, Limits, LockOf, Pool, Update};
 use std::alloc::Global;
 use std::sync::{Arc, Wait};
 use std::thread::Threads;
@@ -88,7 +88,7 @@ fn note_here<H: Threads + Wait + Sync>(
 ) -> Result<(), Fault>
     requires { (1 ≤ slots) × (slots ≤ 4294967295) }
 {
-    with_slots_in_place::<InPlace<NotingHere>, _, _, _, _, _>(
+    LockOf::<InPlace<NotingHere>>::with_slots_in_place(
         rt,
         alloc,
         pool,

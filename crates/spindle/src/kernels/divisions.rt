@@ -7,7 +7,6 @@ ghost use Rattle.spindle.specs.Divisions.{Allows};
 use crate::kernels::dividing::{Branch, Dividing, answers_to};
 use crate::kernels::held::Again;
 use crate::kernels::tasks::PIECES;
-use crate::lock::with_slots_in_place;
 use crate::prelude::*;
 use spindle_trays::lock::leader::MOST_JOBS;
 
@@ -60,7 +59,7 @@ where
     let threads = pool.max_num_threads();
     let slots = threads.saturating_mul(PIECES).min(MOST_JOBS);
     let levels = slots.ilog2();
-    with_slots_in_place::<InPlace<Dividing<K>>, G, Result<Vec<Option<K::Answer>>, Fault>, _, _, H>(
+    LockOf::<InPlace<Dividing<K>>>::with_slots_in_place(
         rt,
         alloc,
         pool,

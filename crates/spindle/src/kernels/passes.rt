@@ -6,7 +6,6 @@ ghost use Rattle.spindle.specs.Passes.{HavePassed};
 use crate::kernels::held::Again;
 use crate::kernels::passing::Passing;
 use crate::kernels::tasks::PIECES;
-use crate::lock::with_slots_in_place;
 use crate::prelude::*;
 use spindle_trays::lock::leader::MOST_JOBS;
 
@@ -67,7 +66,7 @@ where
     let slots = threads
         .saturating_mul(PIECES)
         .min(list.len().max(1).min(MOST_JOBS));
-    with_slots_in_place::<InPlace<Passing<K>>, G, Result<Passes<K::Value>, Fault>, _, _, H>(
+    LockOf::<InPlace<Passing<K>>>::with_slots_in_place(
         rt,
         alloc,
         pool,

@@ -83,7 +83,8 @@ impl<J> LockOf<J> {
         slot_root::with_slots::<J, G, R, F, P, H>(rt, alloc, pool, max_threads, slots, f)
     }
 
-    /// Opens a lock whose rounds update lists in place, where J is `InPlace<M>`: `spindle::with_slots_in_place`.
+    /// Opens a lock whose rounds update lists in place, in at most so many jobs, runs f with its leader, and closes the lock. J is
+    /// `InPlace<M>` for a kind M of updating. It is a lock as `with_slots` opens it, and a refusal hasn't run f.
     pub fn with_slots_in_place<
         G: Gate + Sync,
         R,
@@ -114,7 +115,14 @@ impl<J> LockOf<J> {
             × FnOnceReturnsAtMut F.FnOnce f old r new) }
         ensures memory { OnErr result (IsErrOf result Fault.Memory) }
     {
-        slot_root::with_slots_in_place::<J, G, R, F, P, H>(rt, alloc, pool, max_threads, slots, f)
+        slot_root::open::<J, ChunkOf<J>, SlotWorkspace<J>, G, R, F, P, H>(
+            rt,
+            alloc,
+            pool,
+            max_threads,
+            slots,
+            f,
+        )
     }
 
     /// Opens a lock with slots in a job, whose rounds have at most so many jobs, runs f with its leader, and closes the lock. (A lock

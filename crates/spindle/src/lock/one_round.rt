@@ -7,7 +7,6 @@ ghost use Rattle.spindle.specs.OneRound.{asked_jobs};
 ghost use Rattle.spindle.specs.SlotLeaders.{IsForMemory};
 ghost use Rattle.spindle_trays.specs.Rounds.{job_count, IsRefusal};
 
-use crate::lock::slot_root::with_slots_in_place;
 use crate::prelude::*;
 use spindle_slots::job::update::Updates;
 use spindle_trays::job::nest::Nest;
@@ -81,7 +80,7 @@ where
         return Ok(items);
     }
     let (jobs, threads) = size_of::<J>(pool.max_num_threads(), n_jobs, items.len());
-    with_slots_in_place::<J, G, Result<Vec<J::Item>, Fault>, _, _, H>(
+    LockOf::<J>::with_slots_in_place(
         rt,
         alloc,
         pool,

@@ -57,36 +57,8 @@ where
     open::<J, PieceOf<J>, SlotWorkspace<J>, G, R, F, P, H>(rt, alloc, pool, max_threads, slots, f)
 }
 
-/// Opens a lock whose rounds update lists in place, in at most so many jobs, runs f with its leader, and closes the lock.
-///
-/// J is `InPlace<M>` for a kind M of updating. It is a lock as `with_slots` opens it, and a refusal hasn't run f.
-pub fn with_slots_in_place<
-    J: MakesSlots<P, PieceSlots<ChunkOf<J>>, SlotWorkspace<J>> + Updates + Send,
-    G: Gate + Sync,
-    R,
-    F: FnOnce(&mut SlotLeader<J, G, P>) -> R,
-    P: Drop,
-    H: Threads + Wait + Sync,
->(rt: &H, alloc: Global, pool: &Pool<G>, max_threads: usize, slots: usize, f: F) -> Result<R, Fault>
-where
-    J::In: Send + Sync,
-    J::Out: Send,
-    J::Item: Send,
-    J::Inner: Send,
-    <J::Inner as Nest>::ChildSlots: Send + Sync,
-    requires some { 0 < max_threads }
-    requires slots { (1 ≤ slots) × (slots ≤ 4294967295) }
-    requires callable { TakesLeaders J.OpensSlots.slot_count slots F.FnOnce f }
-    ensures promise { IfOk result (λ r. (old : _) × (new : _)
-        × IsLeaderOf J.OpensSlots.slot_count (lock_threads pool.now.threads max_threads) slots old
-        × FnOnceReturnsAtMut F.FnOnce f old r new) }
-    ensures memory { OnErr result (IsErrOf result Fault.Memory) }
-{
-    open::<J, ChunkOf<J>, SlotWorkspace<J>, G, R, F, P, H>(rt, alloc, pool, max_threads, slots, f)
-}
-
-// Opens a lock whose slots hold A's pieces, runs f with its leader, and closes the lock. A refusal hasn't run f.
-fn open<
+/// Opens a lock whose slots hold A's pieces, runs f with its leader, and closes the lock. A refusal hasn't run f.
+pub(crate) fn open<
     J: MakesSlots<P, PieceSlots<A>, L> + CrossesThreads,
     A: PieceKind<Piece: Send, Answer: Send> + Send,
     L: TakesPart<J, PieceSlots<A>> + Drop + Send + Sync,
