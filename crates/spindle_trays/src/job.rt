@@ -2,11 +2,7 @@
 ghost use Rattle.std.specs.Prelude.{◌≡◌, ◌↔◌, IsTrue, true};
 ghost use denote.Param.Send.{IsSync};
 
-use crate::job::context::JobCx;
-use crate::job::nest::Nest;
-use std::alloc::Global;
-use std::sync::Wait;
-use std::thread::Threads;
+use crate::prelude::*;
 
 pub mod context;
 pub mod gate;

@@ -8,4 +8,5 @@
 pub mod job;
 pub mod lock;
 pub mod pieces;
+pub mod prelude;
 pub mod running;

@@ -4,13 +4,8 @@ ghost use Rattle.std.specs.Option.{ForSome};
 ghost use Rattle.std.proofs.Common.{refl};
 ghost use denote.Param.Send.{IsSync};
 
-use spindle_trays::job::Job;
-use spindle_trays::job::context::JobCx;
-use spindle_trays::job::nest::Nest;
-use std::alloc::Global;
+use spindle_trays::prelude::*;
 use std::marker::PhantomData;
-use std::sync::Wait;
-use std::thread::Threads;
 
 /// A kind of job that updates items. It stands where spindle takes a closure that writes through a reference to its own item.
 ///

@@ -10,17 +10,14 @@ ghost use Rattle.spindle_rounds.specs.Seating.{HasSlots};
 use crate::leader_states::opens_slots::{HasLeaderState, MakesSlots, OpensSlots};
 use crate::pieces::of_kind::Reuses;
 use crate::running::in_slots::{RunsPieces, SlotWorkspace};
-use spindle_parts::fault::Fault;
 use spindle_rounds::barrier::detached_party::DetachedParty;
 use spindle_rounds::round_table::pieces::{PieceKind, PieceSlots};
 use spindle_rounds::round_table::slots::SlotContents;
 use spindle_threads::leader_member::LeaderMember;
 use spindle_threads::member::Member;
 use spindle_threads::tables::Tables;
-use spindle_trays::job::Job;
-use spindle_trays::job::nest::Nest;
-use std::alloc::Global;
-use std::sync::{Arc, Wait};
+use spindle_trays::prelude::*;
+use std::sync::Arc;
 
 /// The state of a leader whose rounds have such pieces, with what it keeps from one round to the next.
 #[derive(Drop)]

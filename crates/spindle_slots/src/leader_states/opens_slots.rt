@@ -8,12 +8,9 @@ ghost use Rattle.spindle_rounds.specs.declared.round_table.view.View.{View};
 ghost use Rattle.spindle_rounds.specs.RoundConditions.{MayFill};
 
 use crate::leader_states::leader_state::LeaderSeats;
-use spindle_parts::fault::Fault;
 use spindle_rounds::round_table::pieces::PieceSlots;
 use spindle_rounds::round_table::slots::SlotContents;
-use spindle_trays::job::Job;
-use std::alloc::Global;
-use std::sync::Wait;
+use spindle_trays::prelude::*;
 
 /// What `OpensSlots` is implemented for. `spindle` doesn't give it out.
 pub trait HasLeaderState<P> {}

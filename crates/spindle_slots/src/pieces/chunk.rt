@@ -7,8 +7,7 @@ ghost use Rattle.std.specs.Prelude.{◌≡◌, ◌-◌, ◌+◌, ◌≤◌, ◌+
 ghost use Rattle.spindle_slots.specs.SlotPieces.{all_of};
 
 use crate::pieces::slot_piece::OneOr;
-use spindle_parts::fault::Fault;
-use std::alloc::Global;
+use spindle_trays::prelude::*;
 use std::marker::Model;
 
 /// The items of a piece that wait, in reverse, and what became of the others.

@@ -5,8 +5,7 @@ ghost use Rattle.spindle_slots.specs.InPlace.{HaveCapacity, IsReady, last_pieces
 ghost use Rattle.spindle_trays.specs.PieceRuns.{piece_start};
 
 use crate::pieces::chunk::{Chunk, ChunkBuffer};
-use spindle_parts::fault::Fault;
-use std::alloc::Global;
+use spindle_trays::prelude::*;
 
 /// Room that waits for a round, room that is ready for one, and the chunks of a round on their way to its slots.
 #[derive(Drop)]

@@ -12,12 +12,10 @@ use crate::leader_states::leader_state::SlotTables;
 use crate::pieces::chunk_buffers::ChunkBuffers;
 use crate::pieces::of_kind::{ChunkOf, PieceOf};
 use crate::pieces::slot_piece::{Batch, OneOr, OutputBuffers, Parts};
-use spindle_parts::fault::Fault;
 use spindle_rounds::round_table::Seat;
 use spindle_rounds::round_table::pieces::{PieceKind, PieceSlots};
-use spindle_trays::job::Job;
 use spindle_trays::pieces::list_runs;
-use std::alloc::{AllocError, Global};
+use spindle_trays::prelude::*;
 
 // The piece of a number, with this room for its outputs, if there is any.
 fn batch<T: Drop, U: Drop>(

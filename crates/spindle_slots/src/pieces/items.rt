@@ -10,12 +10,10 @@ ghost use Rattle.spindle_slots.specs.SlotPieces.{IsPieceOf, all_items, pieces_of
 use crate::leader_states::leader_state::SlotTables;
 use crate::pieces::of_kind::PieceOf;
 use crate::pieces::slot_piece::OutputBuffers;
-use spindle_parts::fault::Fault;
 use spindle_parts::lists::shared::SharedList;
 use spindle_rounds::round_table::{Seat, pieces};
-use spindle_trays::job::Job;
 use spindle_trays::pieces::list_runs::ListRuns;
-use std::alloc::{AllocError, Global};
+use spindle_trays::prelude::*;
 
 /// What the slots of a round over jobs of kind J are filled with.
 pub trait FillsSlots<J: Job> {

@@ -17,16 +17,10 @@ use crate::pieces::chunk_buffers::ChunkBuffers;
 use crate::pieces::of_kind::ChunkOf;
 use crate::pieces::slot_piece::OneOr;
 use crate::running::in_slots::{RunsPieces, play_held};
-use spindle_parts::fault::Fault;
 use spindle_rounds::barrier::Barrier;
 use spindle_rounds::round_table::pieces::PieceSlots;
 use spindle_threads::tables::Tables;
-use spindle_trays::job::context::JobCx;
-use spindle_trays::job::gate::Gate;
-use spindle_trays::running::runner::Runner;
-use std::alloc::Global;
-use std::sync::Wait;
-use std::thread::Threads;
+use spindle_trays::prelude::*;
 
 impl<'t, J: Updates> SlotTables<'t, PieceSlots<ChunkOf<J>>> {
     /// A leader's round in place, for which all room is ready that it needs: the items go into the slots, are updated, and come out of

@@ -20,14 +20,8 @@ use spindle_rounds::round_table::pieces::{PieceKind, PieceSlots};
 use spindle_threads::member::Member;
 use spindle_threads::publish_and_end::{end_round, publish_held};
 use spindle_threads::tables::{MemberCount, Tables};
-use spindle_trays::job::Job;
-use spindle_trays::job::gate::Gate;
-use spindle_trays::job::nest::Nest;
 use spindle_trays::lock::workspace::TakesPart;
-use spindle_trays::running::runner::Runner;
-use std::alloc::Global;
-use std::sync::Wait;
-use std::thread::Threads;
+use spindle_trays::prelude::*;
 
 /// Pieces that jobs of kind J run.
 pub trait RunsPieces<J: Job>: Reuses {

@@ -15,16 +15,10 @@ use crate::pieces::items::FillsSlots;
 use crate::pieces::of_kind::PieceOf;
 use crate::pieces::slot_piece::{Batch, OneOr, OutputBuffers, Outputs};
 use crate::running::in_slots::{RunsPieces, play_held};
-use spindle_parts::fault::Fault;
 use spindle_rounds::barrier::Barrier;
 use spindle_rounds::round_table::pieces::PieceSlots;
 use spindle_threads::tables::Tables;
-use spindle_trays::job::Job;
-use spindle_trays::job::gate::Gate;
-use spindle_trays::running::runner::Runner;
-use std::alloc::Global;
-use std::sync::Wait;
-use std::thread::Threads;
+use spindle_trays::prelude::*;
 
 impl<'t, J: Job> SlotTables<'t, PieceSlots<PieceOf<J>>> {
     /// A leader's round: the pieces of the items go into the slots, are played, and their outputs come out of the slots, in order.

@@ -6,11 +6,8 @@ ghost use Rattle.std.specs.Prelude.{OnErr, IsErrOf};
 ghost use denote.Param.Send.{IsSync};
 ghost use Rattle.spindle_threads.specs.Accounts.{IsSameThread};
 
-use spindle_parts::fault::Fault;
+use crate::prelude::*;
 use spindle_threads::signals::Signals;
-use std::alloc::Global;
-use std::sync::Wait;
-use std::thread::Threads;
 
 /// What `Nest` is implemented for: by the crate above too, whose locks with slots are nests of their own. `spindle` doesn't give it out.
 pub trait IsNest {}

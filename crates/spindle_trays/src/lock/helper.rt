@@ -6,11 +6,8 @@ ghost use Rattle.spindle_threads.specs.Helpers.{IsHelperAt, IsNews, seat_of};
 ghost use Rattle.spindle_rounds.specs.Seating.{IsSameSeat};
 ghost use Rattle.spindle_threads.specs.Opening.{AreSeatsAt};
 
-use crate::job::Job;
-use crate::job::gate::Gate;
-use crate::job::nest::Nest;
 use crate::lock::workspace::TakesPart;
-use crate::running::runner::Runner;
+use crate::prelude::*;
 use spindle_rounds::round_table;
 use spindle_rounds::round_table::slots::SlotContents;
 use spindle_threads::helper_waits::{News, await_news, end_part, take_number};
@@ -19,9 +16,6 @@ use spindle_threads::member::{HelperStatus, Member};
 use spindle_threads::seats::{HelperSeats, Seats};
 use spindle_threads::signals::Signals;
 use spindle_threads::tables::Tables;
-use std::alloc::Global;
-use std::sync::Wait;
-use std::thread::Threads;
 
 /// A helper's life, from its number to its end. Its seats come back.
 pub(crate) fn help<'a, D: SlotContents, J: Job + 'a, L: TakesPart<J, D>, G: Gate>(

@@ -8,21 +8,15 @@ ghost use Rattle.spindle_parts.specs.Pieces.{counted};
 ghost use Rattle.spindle_trays.specs.Leaders.{counts_of, threads_of, workers_of, AnnouncedRest, GoesOn, IsSameLock, MadeNoStep, PlayedAs, PlayedOnce};
 ghost use Rattle.spindle_trays.specs.Rounds.{job_count, IsRefusal};
 
-use crate::job::Job;
-use crate::job::gate::Gate;
 use crate::lock::nested::Leads;
 use crate::lock::workspace::{Opens, Workspace};
 use crate::pieces::list_runs::ListRuns;
 use crate::pieces::place::SpareLists;
+use crate::prelude::*;
 use crate::running::in_trays::{play_ahead, play_alone};
-use crate::running::runner::Runner;
-use spindle_parts::fault::Fault;
 use spindle_rounds::round_table::slots::Bare;
 use spindle_threads::leader_member::LeaderMember;
 use spindle_threads::tables::MemberCount;
-use std::alloc::{AllocError, Global};
-use std::sync::Wait;
-use std::thread::Threads;
 
 /// A round has at most so many jobs, whatever a caller asks for.
 pub const MOST_JOBS: usize = 4294967295;

@@ -5,26 +5,19 @@ ghost use Rattle.spindle_trays.specs.Leaders.{threads_of, workers_of, WasLed};
 ghost use Rattle.spindle_threads.specs.Opening.{AreSeatsAt};
 ghost use Rattle.spindle_threads.specs.ThreadCounts.{lock_threads};
 
-use crate::job::Job;
-use crate::job::gate::Gate;
-use crate::job::nest::Nest;
 use crate::lock::helper::{help, join_as_leader};
 use crate::lock::leader::Leader;
 use crate::lock::nested::Leads;
-use crate::lock::pool::Pool;
 use crate::lock::workspace::{Opens, TakesPart};
-use crate::running::runner::Runner;
-use spindle_parts::fault::Fault;
+use crate::prelude::*;
 use spindle_rounds::round::Round;
 use spindle_rounds::round_table::slots::{Bare, SlotContents};
 use spindle_threads::ThreadCounts;
 use spindle_threads::leader_member::LeaderMember;
 use spindle_threads::seats::Seats;
 use spindle_threads::tables::Tables;
-use std::alloc::{AllocError, Global};
-use std::sync::Wait;
 use std::thread;
-use std::thread::{JoinHandle, Scope, Threads};
+use std::thread::{JoinHandle, Scope};
 
 /// Opens a lock over jobs of kind J, runs f with its leader, and closes the lock.
 ///

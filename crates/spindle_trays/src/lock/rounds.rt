@@ -10,16 +10,11 @@ ghost use Rattle.spindle_trays.specs.ChunkRounds.{IsMapped};
 ghost use Rattle.spindle_trays.specs.Leaders.{threads_of, workers_of, IsBetweenRounds};
 ghost use Rattle.spindle_trays.specs.Rounds.{job_count, never_of_none, GoesOnAs, IsRefusal};
 
-use crate::job::Job;
-use crate::job::gate::Gate;
 use crate::lock::leader::Leader;
 use crate::lock::workspace::Opens;
-use spindle_parts::fault::Fault;
+use crate::prelude::*;
 use spindle_parts::lists::{ListRun, SharedList, gathered};
-use std::alloc::Global;
 use std::mem;
-use std::sync::Wait;
-use std::thread::Threads;
 
 /// What runs rounds over jobs of kind J: the leader of a lock, whichever kind of lock it is.
 pub trait RunsRounds<J: Job> {

@@ -5,20 +5,16 @@ ghost use Rattle.spindle_trays.specs.Leaders.{AreLeft, GoesOn, IsBlank, IsSameLo
 ghost use Rattle.spindle_trays.specs.Reports.{IsOfNone, IsReport};
 ghost use Rattle.spindle_trays.specs.Rounds.{job_count};
 
-use crate::job::gate::Gate;
 use crate::lock::leader::{Leader, MOST_JOBS};
 use crate::lock::workspace::Opens;
 use crate::pieces::list_runs::ListRuns;
 use crate::pieces::place::SpareLists;
 use crate::pieces::report::Report;
 use crate::pieces::tally::Tally;
+use crate::prelude::*;
 use crate::running::in_trays::play_in_trays;
 use crate::running::sequential::{make_buffers, play_sequential};
-use spindle_parts::fault::Fault;
-use std::alloc::Global;
 use std::mem;
-use std::sync::Wait;
-use std::thread::Threads;
 
 impl<'a, J: Opens<L>, G: Gate, L> Leader<'a, J, G, L> {
     /// Runs the items in as many jobs as `for_each` does, until a job fails: one of its outputs does, as `Job::failed` says.

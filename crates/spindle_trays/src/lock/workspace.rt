@@ -8,21 +8,14 @@ ghost use Rattle.spindle_rounds.specs.RoundConditions.{IsDone};
 ghost use Rattle.spindle_rounds.specs.Seating.{IsSameSeat};
 ghost use Rattle.spindle_rounds.specs.Working.{OnPublished};
 
-use crate::job::Job;
-use crate::job::gate::Gate;
-use crate::job::nest::Nest;
 use crate::lock::nested::{Child, Nested};
 use crate::pieces::trays::Trays;
+use crate::prelude::*;
 use crate::running::in_trays::TrayWork;
-use crate::running::runner::Runner;
-use spindle_parts::fault::Fault;
 use spindle_rounds::round::publishing::PublishedRound;
 use spindle_rounds::round_table::slots::{Bare, SlotContents};
 use spindle_threads::member::Member;
 use spindle_threads::tables::{MemberCount, Tables};
-use std::alloc::Global;
-use std::sync::Wait;
-use std::thread::Threads;
 
 /// What the threads of a lock over jobs of kind J share, beside the tables that every lock has.
 #[derive(Drop)]

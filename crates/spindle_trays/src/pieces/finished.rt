@@ -3,12 +3,11 @@ ghost use Rattle.std.specs.Prelude.{◌≡◌, ◌+◌, ◌≤◌, ◌↔◌, []
 ghost use Rattle.std.specs.List.{AllZip, Any};
 ghost use Rattle.spindle_trays.specs.Rounds.{AddsAnswers};
 
-use crate::job::Job;
 use crate::pieces::place::Ready;
 use crate::pieces::tally::has_failure;
+use crate::prelude::*;
 use spindle_parts::lists::shared::{ListRun, are_equal};
 use spindle_rounds::round::claim::Numbered;
-use std::alloc::Global;
 use std::marker::Model;
 
 /// A piece that was run, with its inputs and an output for each, in their order.

@@ -8,11 +8,10 @@ ghost use Rattle.spindle_trays.specs.Outputs.{IsDoneOf};
 ghost use Rattle.spindle_trays.specs.Trays.{brought_to, AwaitsDealt, HoldsDone, IsFirstMissing};
 ghost use Rattle.spindle_trays.specs.declared.pieces.place.Place.TheVariants.{Away, Waits, Back};
 
-use crate::job::Job;
 use crate::pieces::finished::Finished;
 use crate::pieces::list_runs::{Address, ListRuns, dealt_length};
+use crate::prelude::*;
 use spindle_parts::lists::shared::ListRun;
-use std::alloc::{AllocError, Global};
 use std::marker::Model;
 use std::mem;
 

@@ -4,8 +4,7 @@ ghost use Rattle.std.specs.List.{Any};
 ghost use Rattle.spindle_trays.specs.Reports.{AreFailed, IsFirstFailed, IsOfNone, NoneFailed, outputs_of};
 
 use crate::job::TellsFailures;
-use spindle_parts::fault::Fault;
-use std::alloc::Global;
+use crate::prelude::*;
 
 /// The pieces of a round that may stop: those that ran, each with its number and its outputs, and the numbers of those that
 /// were skipped, since one that ran failed.

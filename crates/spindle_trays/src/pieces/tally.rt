@@ -6,11 +6,9 @@ ghost use Rattle.std.specs.List.{AllZip, Any, Contains};
 ghost use Rattle.spindle_trays.specs.PieceRuns.{piece_at};
 ghost use Rattle.spindle_trays.specs.Reports.{IsNoted, IsReport, is_marked, least_lost, lost_at};
 
-use crate::job::Job;
 use crate::pieces::list_runs::ListRuns;
 use crate::pieces::report::Report;
-use spindle_parts::fault::Fault;
-use std::alloc::Global;
+use crate::prelude::*;
 
 /// The pieces noted so far: those that ran and those that were skipped, whether one that ran failed, and the least number of
 /// one that is left and ran, or that isn't left and didn't.

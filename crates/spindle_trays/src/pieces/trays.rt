@@ -5,15 +5,13 @@ ghost use Rattle.std.specs.List.{AllZip};
 ghost use Rattle.spindle_trays.specs.PieceRuns.{HasAnswered};
 ghost use Rattle.spindle_trays.specs.Reports.{IsNoted};
 
-use crate::job::Job;
 use crate::pieces::finished::Finished;
 use crate::pieces::list_runs::{Address, ListRuns};
 use crate::pieces::place::{Ready, SpareLists, Tray, fill, gather, let_go};
 use crate::pieces::tally::Tally;
+use crate::prelude::*;
 use crossbeam_utils::CachePadded;
-use spindle_parts::fault::Fault;
-use std::alloc::Global;
-use std::sync::{Mutex, Wait};
+use std::sync::Mutex;
 
 /// The trays of a lock, by thread number.
 #[derive(Drop)]

@@ -13,22 +13,17 @@ ghost use Rattle.std.specs.List.{AllZip};
 ghost use Rattle.std.proofs.Common.{refl, ◌∙◌};
 ghost use Rattle.spindle_trays.specs.PieceRuns.{HasAnswered};
 
-use crate::job::Job;
-use crate::job::gate::Gate;
 use crate::pieces::finished::Finished;
 use crate::pieces::list_runs::ListRuns;
 use crate::pieces::trays::Trays;
-use crate::running::runner::Runner;
+use crate::prelude::*;
 use spindle_rounds::round::claim::{Claimed, Numbered};
 use spindle_rounds::round::claimer::{Claimer, Work};
 use spindle_rounds::round::publishing::PublishedRound;
 use spindle_rounds::round_table::Seat;
 use spindle_rounds::round_table::slots::Bare;
 use spindle_threads::leader_member::LeaderMember;
-use std::alloc::Global;
 use std::mem;
-use std::sync::Wait;
-use std::thread::Threads;
 
 /// What runs the pieces of trays. It holds the last piece until it takes its next one.
 #[derive(Drop)]

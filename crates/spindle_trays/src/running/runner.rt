@@ -2,15 +2,10 @@
 ghost use Rattle.std.specs.Prelude.{◌≡◌, ◌+◌, ◌≤◌, ◌++◌, List, length, vec_len, vec_capacity};
 ghost use Rattle.spindle_trays.specs.Rounds.{AddsAnswers};
 
-use crate::job::Job;
-use crate::job::context::{JobCx, JobSignals};
-use crate::job::gate::Gate;
-use crate::job::nest::Nest;
+use crate::job::context::JobSignals;
+use crate::prelude::*;
 use spindle_threads::signals::Signals;
 use spindle_threads::tables::JobSite;
-use std::alloc::Global;
-use std::sync::Wait;
-use std::thread::Threads;
 
 /// What a thread of a lock runs jobs with.
 #[derive(Drop)]

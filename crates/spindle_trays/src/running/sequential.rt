@@ -11,24 +11,18 @@ ghost use Rattle.spindle_threads.specs.Members.{LastPublished, party_view};
 ghost use Rattle.spindle_rounds.specs.RoundSteps.{round_of};
 ghost use Rattle.spindle_rounds.specs.Working.{PlayedRoundOf};
 
-use crate::job::Job;
-use crate::job::gate::Gate;
 use crate::pieces::finished::Finished;
 use crate::pieces::list_runs::ListRuns;
 use crate::pieces::place::SpareLists;
 use crate::pieces::tally::{Tally, has_failure};
+use crate::prelude::*;
 use crate::running::in_trays::finish;
-use crate::running::runner::Runner;
-use spindle_parts::fault::Fault;
 use spindle_rounds::round::claim::Claimed;
 use spindle_rounds::round::claimer::{Claimer, Work};
 use spindle_rounds::round_table::Seat;
 use spindle_rounds::round_table::slots::Bare;
 use spindle_threads::leader_member::LeaderMember;
-use std::alloc::Global;
 use std::mem;
-use std::sync::Wait;
-use std::thread::Threads;
 
 /// What runs the pieces of the numbers that the leader claims, each in its buffer. It keeps the number that failed last; as many as there
 /// are pieces stands for none.

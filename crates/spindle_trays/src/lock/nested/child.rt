@@ -5,14 +5,13 @@ ghost use Rattle.spindle_threads.specs.SpareSeats.{AreSpareSeatsAt};
 ghost use Rattle.spindle_threads.specs.Opening.{AreSeatsAt};
 ghost use denote.Param.Send.{IsSync};
 
-use crate::job::Job;
 use crate::job::gate::NoGate;
-use crate::job::nest::{IsNest, Nest};
+use crate::job::nest::IsNest;
 use crate::lock::helper::help;
 use crate::lock::nested::child_lease::{ChildSlot, make_child_slots, serve_child_slots};
 use crate::lock::workspace::{Opens, TakesPart, Workspace};
+use crate::prelude::*;
 use spindle_parts::aarc_imp::Fits;
-use spindle_parts::fault::Fault;
 use spindle_rounds::round::Round;
 use spindle_rounds::round_table::slots::{Bare, SlotContents};
 use spindle_threads::ThreadCounts;
@@ -20,10 +19,8 @@ use spindle_threads::limits::Idling;
 use spindle_threads::seats::{Seats, SpareSeats};
 use spindle_threads::signals::Signals;
 use spindle_threads::tables::Tables;
-use std::alloc::Global;
 use std::marker::PhantomData;
-use std::sync::{Arc, Wait};
-use std::thread::Threads;
+use std::sync::Arc;
 
 /// What the threads of a nested lock share: its tables, its workspace, and seats for its helpers.
 #[derive(Drop)]

@@ -11,14 +11,11 @@ ghost use Rattle.spindle_parts.specs.declared.requests.plays.Account.{Account};
 ghost use Rattle.spindle_threads.specs.Signals.{AnnouncedExit};
 
 use crate::lock::nested::child::{Child, TakesHelpers};
+use crate::prelude::*;
 use crossbeam_utils::CachePadded;
 use spindle_parts::aarc_imp::AtomicArc;
-use spindle_parts::fault::Fault;
 use spindle_threads::signals::{HelperRequest, OpenPlaces, Signals};
 use spindle_threads::sleep::Sleep;
-use std::alloc::Global;
-use std::sync::Wait;
-use std::thread::Threads;
 
 /// A slot for nested locks of type N.
 pub type ChildSlot<N> = CachePadded<AtomicArc<Child<N>>>;

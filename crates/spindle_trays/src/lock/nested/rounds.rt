@@ -10,8 +10,7 @@ ghost use Rattle.std.specs.Arc.{arc_value};
 ghost use Rattle.spindle_threads.specs.ThreadCounts.{lock_threads};
 ghost use Rattle.spindle_threads.specs.Opening.{AreSeatsAt};
 
-use crate::job::Job;
-use crate::job::context::{JobCx, child_slots_for};
+use crate::job::context::child_slots_for;
 use crate::job::gate::NoGate;
 use crate::lock::helper::join_as_leader;
 use crate::lock::leader::{Leader, MOST_JOBS, numbers};
@@ -19,13 +18,10 @@ use crate::lock::nested::Under;
 use crate::lock::nested::child::{Child, Nested};
 use crate::lock::nested::child_lease::{ChildLease, close};
 use crate::lock::workspace::Opens;
+use crate::prelude::*;
 use crate::running::runner::run_each;
-use spindle_parts::fault::Fault;
 use spindle_rounds::round_table::slots::Bare;
 use spindle_threads::seats::Seats;
-use std::alloc::Global;
-use std::sync::Wait;
-use std::thread::Threads;
 
 impl<'a, K: Job> JobCx<'a, Under<K>> {
     /// Runs the items in `n_jobs` jobs, as a leader's `for_each` does, in a lock of so many threads that is opened for this round.
