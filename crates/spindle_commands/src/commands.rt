@@ -7,10 +7,8 @@ use crate::steps::play;
 use crate::stop::Stop;
 use crate::words::Command;
 use spindle::cut::piece_lengths;
-use std::alloc::Global;
+use spindle::prelude::*;
 use std::io::{Read, Write};
-use std::sync::Wait;
-use std::thread::Threads;
 
 /// Does what the words say, the program's name left out.
 ///

@@ -7,11 +7,8 @@ ghost use Rattle.spindle_trays.specs.Rounds.{job_count};
 ghost use Rattle.spindle_commands.specs.Faults.{IsOutcome, Tells};
 
 use crate::squares::{RoundPlan, numbers_below};
-use spindle::lock::{End, Job, JobCx, Limits, NoGate, Pool, Report};
-use spindle::{Fault, with_lock};
-use std::alloc::Global;
-use std::sync::Wait;
-use std::thread::Threads;
+use spindle::prelude::*;
+use spindle::with_lock;
 
 /// Answers whether its number, the first of two, is the second, at which it fails.
 struct FailAt;

@@ -5,11 +5,8 @@ ghost use Rattle.spindle_parts.specs.Pieces.{joined, total};
 ghost use Rattle.spindle_parts.specs.Same.{equal_pairs_are_same};
 ghost use Rattle.spindle_commands.specs.Grid.{one_more, IsLeast, IsGreatest};
 
-use spindle::lock::{End, Job, JobCx, Leader, Limits, NoGate, Pool, Under};
-use spindle::{Fault, ListRun, SharedList, gathered, with_lock};
-use std::alloc::{AllocError, Global};
-use std::sync::Wait;
-use std::thread::Threads;
+use spindle::prelude::*;
+use spindle::with_lock;
 
 /// The jobs of each round, and of each round that a job runs.
 const JOBS: usize = 4;

@@ -4,11 +4,8 @@ ghost use Rattle.std.specs.List.{AllZip};
 ghost use Rattle.std.proofs.Common.{rules};
 ghost use Rattle.spindle_parts.specs.Pieces.{counted};
 
-use spindle::lock::{End, Job, JobCx, Limits, NoGate, Pool};
-use spindle::{Fault, with_lock, with_slots};
-use std::alloc::Global;
-use std::sync::Wait;
-use std::thread::Threads;
+use spindle::prelude::*;
+use spindle::{with_lock, with_slots};
 
 /// What a round is made of, and by how many threads and jobs.
 #[derive(Clone, Copy, Debug, PartialEq, Eq)]

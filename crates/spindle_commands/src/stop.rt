@@ -3,8 +3,7 @@ ghost use Rattle.std.specs.Prelude.{◌≡◌};
 ghost use Rattle.spindle_commands.specs.Stop.{stop_for, status_of};
 ghost use Rattle.spindle_commands.specs.declared.stop.Stop.TheVariants.{Memory};
 
-use spindle::Fault;
-use std::alloc::AllocError;
+use spindle::prelude::*;
 use thiserror::Error;
 
 /// What the program stops for. Its text is the line on standard error.
