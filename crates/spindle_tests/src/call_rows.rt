@@ -4,12 +4,9 @@ use crate::checks::{holds, is};
 use crate::jobs::{Calls, Counting};
 use crate::nested::inner_rounds::Playing;
 use crate::staying::{Seen, Staying, all_see, each_ran};
-use spindle::lock::{Job, Limits, Nest, NoGate, Pool};
-use spindle::{Fault, run_one};
-use std::alloc::Global;
+use spindle::lock::Nest;
+use spindle::prelude::*;
 use std::process::Abort;
-use std::sync::Wait;
-use std::thread::Threads;
 
 // The jobs that are asked for over ten numbers in a pool of three threads, those that run, and the threads of their lock.
 const ONE_CALL: [(usize, usize, usize); 6] = [

@@ -2,9 +2,8 @@
 ghost use Rattle.std.specs.Prelude.{◌≡◌, ◌∷◌, [], IfOk};
 
 use crate::jobs::Square;
-use spindle::SharedList;
 use spindle::lock::Finished;
-use std::alloc::{AllocError, Global};
+use spindle::prelude::*;
 use std::test::Fail;
 
 /// A list of one item.

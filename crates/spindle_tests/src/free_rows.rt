@@ -4,12 +4,11 @@
 use crate::checks::{are, holds, is};
 use crate::gates::{Meeting, Meetings};
 use crate::sevens::{are_seven_squares, seven_items};
-use spindle::lock::{Gate, Limits, NoGate, Pool};
-use spindle::{Fault, for_each, for_each_raw};
-use std::alloc::Global;
+use spindle::prelude::*;
+use spindle::{for_each, for_each_raw};
 use std::process::Abort;
 use std::sync::atomic::{AtomicUsize, Ordering};
-use std::thread::{Threads, available_parallelism};
+use std::thread::available_parallelism;
 
 #[test]
 fn lists_outside_a_lock_are_answered(rt: HostRuntime) -> Result<(), Fault> {

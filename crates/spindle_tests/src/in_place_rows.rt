@@ -8,12 +8,8 @@ use crate::checks::{holds, is};
 use crate::gates::Meetings;
 use crate::jobs::{Calls, Counting};
 use crate::sevens::seven_items;
-use spindle::lock::{End, Gate, InPlace, JobCx, Limits, LockOf, NoGate, Pool, Update};
-use spindle::{Fault, update_one};
-use std::alloc::Global;
+use spindle::prelude::*;
 use std::process::Abort;
-use std::sync::Wait;
-use std::thread::Threads;
 
 /// Adds 3 to a number, modulo 2^64.
 pub struct Step;

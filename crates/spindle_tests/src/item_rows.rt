@@ -6,11 +6,8 @@ ghost use Rattle.std.specs.Prelude.{◌<◌, ◌≤◌};
 use crate::checks::holds;
 use crate::marks::{Marks, Noted, Noting, Taking, noted_items};
 use crate::rounds::{rounds_in_slots, rounds_of};
-use spindle::Fault;
-use spindle::lock::{End, InPlace, JobCx, Limits, LockOf, Pool, Update};
-use std::alloc::Global;
-use std::sync::{Arc, Wait};
-use std::thread::Threads;
+use spindle::prelude::*;
+use std::sync::Arc;
 
 /// Notes that its item is run, which stays as it is.
 pub struct NotingHere;
@@ -88,19 +85,12 @@ fn note_here<H: Threads + Wait + Sync>(
 ) -> Result<(), Fault>
     requires { (1 ≤ slots) × (slots ≤ 4294967295) }
 {
-    LockOf::<InPlace<NotingHere>>::with_slots_in_place(
-        rt,
-        alloc,
-        pool,
-        4,
-        slots,
-        |leader| {
-            for _ in 0..25 {
-                leader.update_each(rt, alloc, 11, items)?;
-            }
-            Ok::<(), Fault>(())
-        },
-    )?
+    LockOf::<InPlace<NotingHere>>::with_slots_in_place(rt, alloc, pool, 4, slots, |leader| {
+        for _ in 0..25 {
+            leader.update_each(rt, alloc, 11, items)?;
+        }
+        Ok::<(), Fault>(())
+    })?
 }
 
 #[test]

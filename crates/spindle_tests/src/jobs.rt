@@ -2,11 +2,8 @@
 ghost use Rattle.std.specs.Prelude.{◌≡◌};
 ghost use Rattle.std.proofs.Common.{rules};
 
-use spindle::lock::{End, Gate, Job, JobCx};
-use std::alloc::Global;
-use std::sync::Wait;
+use spindle::prelude::*;
 use std::sync::atomic::{AtomicUsize, Ordering};
-use std::thread::Threads;
 
 /// Squares a number of a round.
 pub struct Square;

@@ -3,11 +3,7 @@
 ghost use Rattle.std.specs.Prelude.{◌≡◌};
 ghost use Rattle.std.proofs.Common.{rules};
 
-use spindle::lock::{End, Job, JobCx, TellsFailures};
-use spindle::{Fault, SharedList};
-use std::alloc::Global;
-use std::sync::Wait;
-use std::thread::Threads;
+use spindle::prelude::*;
 
 /// Answers how long a list is. No length is a failure.
 pub struct Length;

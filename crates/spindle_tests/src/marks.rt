@@ -4,13 +4,10 @@ ghost use Rattle.std.specs.Cmp.Rules.{comparing};
 ghost use Rattle.std.proofs.Common.{rules};
 
 use crate::gates::await_turn;
-use spindle::Fault;
-use spindle::lock::{End, Gate, Job, JobCx};
-use std::alloc::Global;
+use spindle::prelude::*;
 use std::marker::Model;
+use std::sync::Arc;
 use std::sync::atomic::{AtomicUsize, Ordering};
-use std::sync::{Arc, Wait};
-use std::thread::Threads;
 
 // No job has begun that isn't done; and no job has had the item.
 const NONE: usize = usize::MAX;

@@ -8,12 +8,8 @@ use crate::checks::{holds, is};
 use crate::gates::Meetings;
 use crate::rounds::{rounds_in_slots, rounds_of};
 use crate::staying::{Seen, Staying, all_see, each_ran, runs_of};
-use spindle::Fault;
-use spindle::lock::{Gate, Limits, NoGate, Pool};
-use std::alloc::Global;
+use spindle::prelude::*;
 use std::process::Abort;
-use std::sync::Wait;
-use std::thread::Threads;
 
 // Where the jobs of so many rounds run, over so many items, and what their leader sees. A lock with slots has a slot a job.
 fn places_of<G: Gate + Sync, H: Threads + Wait + Sync>(

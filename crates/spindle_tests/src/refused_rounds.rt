@@ -8,13 +8,10 @@ ghost use Rattle.std.specs.Prelude.{◌<◌};
 use crate::checks::{are, holds, is};
 use crate::jobs::{Calls, Counting, Square};
 use crate::lists::{Length, are_three_numbers, seven_clones, six_clones, three_numbers};
-use spindle::lock::{Leader, Limits, Pool, Report};
-use spindle::{Fault, SharedList, with_lock};
-use std::alloc::Global;
+use spindle::prelude::*;
+use spindle::with_lock;
 use std::process::Abort;
-use std::sync::Wait;
 use std::sync::atomic::{AtomicUsize, Ordering};
-use std::thread::Threads;
 
 /// Fails the test in which a call was refused for another reason than memory, or has run a job, and says whether it answered.
 pub fn answered<T>(rt: &impl Abort, answer: &Result<T, Fault>, ran: bool) -> bool {

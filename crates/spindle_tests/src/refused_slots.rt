@@ -10,13 +10,10 @@ use crate::checks::{are, holds, is};
 use crate::jobs::{Calls, Counting, Square};
 use crate::lists::{Length, are_three_numbers, seven_clones, three_numbers};
 use crate::refused_rounds::answered;
-use spindle::lock::{Limits, Pool, SlotLeader};
-use spindle::{Fault, with_slots};
-use std::alloc::Global;
+use spindle::prelude::*;
+use spindle::with_slots;
 use std::process::Abort;
-use std::sync::Wait;
 use std::sync::atomic::{AtomicUsize, Ordering};
-use std::thread::Threads;
 
 // One round over seven clones of a list, of which none is left then.
 fn measures<H: Threads + Wait + Abort + Sync>(

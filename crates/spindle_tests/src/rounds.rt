@@ -3,11 +3,9 @@ ghost use Rattle.std.specs.Prelude.{◌<◌, ◌≤◌};
 ghost use denote.Param.Send.{IsSync};
 
 use crate::staying::Seen;
-use spindle::lock::{Gate, Job, Leader, Nest, Opens, PlaysPieces, Pool, RunsRounds, SlotLeader};
-use spindle::{Fault, with_lock, with_slots};
-use std::alloc::Global;
-use std::sync::Wait;
-use std::thread::Threads;
+use spindle::lock::{Nest, Opens, PlaysPieces};
+use spindle::prelude::*;
+use spindle::{with_lock, with_slots};
 
 /// So many rounds over the same items in one lock: what their jobs answer, one round after the other, and what the leader sees after
 /// each. Before every second round it tells its helpers to rest.

@@ -1,7 +1,6 @@
 //! Rounds of seven items in a test that may be refused memory.
 
-use spindle::Fault;
-use std::alloc::Global;
+use spindle::prelude::*;
 
 /// The items of a round; where memory for them is refused once, it is asked for again.
 pub fn seven_items(alloc: Global) -> Result<Vec<usize>, Fault> {

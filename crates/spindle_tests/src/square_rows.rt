@@ -8,12 +8,10 @@ ghost use Rattle.std.proofs.Common.{rules};
 use crate::checks::{are, holds, is, repeat};
 use crate::jobs::{Calls, Counting, Idle, Square};
 use crate::rounds::{rounds_in_slots, rounds_of};
-use spindle::lock::{End, Job, JobCx, Leader, Limits, NoGate, Opens, Pool};
-use spindle::{Fault, with_lock};
-use std::alloc::Global;
+use spindle::lock::Opens;
+use spindle::prelude::*;
+use spindle::with_lock;
 use std::process::Abort;
-use std::sync::Wait;
-use std::thread::Threads;
 
 // The threads of a pool and how many helpers it may start, how they idle (pauses in all, and a turn), and so many rounds of a lock:
 // its slots (0: it has trays), the jobs that are asked for, the first number, and how many numbers there are.

@@ -3,12 +3,8 @@ ghost use Rattle.std.specs.Prelude.{◌≡◌, ◌<◌, vec_len};
 ghost use Rattle.std.proofs.Common.{rules};
 ghost use denote.Param.Send.{IsSync};
 
-use spindle::Fault;
-use spindle::lock::{End, Job, JobCx, RunsRounds};
-use std::alloc::Global;
+use spindle::prelude::*;
 use std::hint::spin_loop;
-use std::sync::Wait;
-use std::thread::Threads;
 
 /// How often rounds are played until each thread runs a job.
 pub const MOST_ROUNDS: usize = 10000;

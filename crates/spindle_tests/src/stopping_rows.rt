@@ -8,12 +8,8 @@ use crate::crossings::Crossings;
 use crate::gates::Meetings;
 use crate::jobs::{Calls, Counting};
 use crate::trying::{Trying, items, reports_of, these_ran};
-use spindle::Fault;
-use spindle::lock::{Limits, NoGate, Pool};
-use std::alloc::Global;
+use spindle::prelude::*;
 use std::process::Abort;
-use std::sync::Wait;
-use std::thread::Threads;
 
 // Threads, numbers, the number that fails, and jobs; the pieces that ran and those that were skipped.
 type Row = (usize, u32, u32, usize, &'static [usize], &'static [usize]);

@@ -10,16 +10,14 @@ use crate::checks::{are, holds, is};
 use crate::finished::{only, squared};
 use crate::jobs::Square;
 use crate::trying::{Item, Trying, these_ran};
-use spindle::SharedList;
 use spindle::cut::Piece;
-use spindle::lock::{Finished, Report, gather};
+use spindle::lock::{Finished, gather};
+use spindle::prelude::*;
 use spindle_trays::pieces::list_runs::ListRuns;
 use spindle_trays::pieces::place::SpareLists;
 use spindle_trays::pieces::tally::Tally;
 use spindle_trays::pieces::trays::Trays;
-use std::alloc::{AllocError, Global};
 use std::process::Abort;
-use std::sync::Wait;
 use std::test::Fail;
 
 // The pieces [1] and [2].

@@ -3,13 +3,10 @@ ghost use Rattle.std.specs.Prelude.{◌≡◌, ◌<◌, true};
 ghost use Rattle.std.proofs.Common.{rules};
 
 use crate::checks::{are, is};
-use spindle::lock::{End, Gate, Job, JobCx, Pool, Report, TellsFailures};
-use spindle::{Fault, with_lock};
-use std::alloc::Global;
+use spindle::prelude::*;
+use spindle::with_lock;
 use std::process::Abort;
-use std::sync::Wait;
 use std::thread;
-use std::thread::Threads;
 
 /// A number, and whether it is to fail.
 pub type Item = (u32, bool);

@@ -10,12 +10,9 @@ ghost use denote.Param.Send.{IsSync};
 use crate::checks::{is, repeat};
 use crate::jobs::Square;
 use crate::rounds::rounds_of;
-use spindle::Fault;
-use spindle::lock::{Job, JobCx, Leader, Limits, Nest, NoGate, Opens, Pool, Under};
-use std::alloc::Global;
+use spindle::lock::{Nest, Opens};
+use spindle::prelude::*;
 use std::process::Abort;
-use std::sync::Wait;
-use std::thread::Threads;
 
 /// Squares as many numbers, of seven at most, by each of its calls: in a lock of two threads, by a round over a list, and by one over
 /// numbers alone, again where one was refused. Answers whether it had the squares each time, a refused lock hadn't run its closure, and

@@ -8,12 +8,9 @@ ghost use denote.Param.Send.{IsSync};
 use crate::checks::{holds, repeat};
 use crate::rounds::rounds_of;
 use crate::staying::{MOST_ROUNDS, STAY, Seen, Staying, all_see, each_ran};
-use spindle::Fault;
-use spindle::lock::{End, Job, JobCx, Limits, Nest, NoGate, Pool, Under};
-use std::alloc::Global;
+use spindle::lock::Nest;
+use spindle::prelude::*;
 use std::process::Abort;
-use std::sync::Wait;
-use std::thread::Threads;
 
 /// Plays rounds of so many jobs until each runs in a thread of its own. Answers where those of the last round ran.
 pub struct Playing;

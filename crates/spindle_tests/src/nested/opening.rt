@@ -9,15 +9,12 @@ use crate::checks::{holds, is};
 use crate::gates::Meetings;
 use crate::jobs::Idle;
 use crate::rounds::rounds_of;
-use spindle::Fault;
-use spindle::lock::{Job, JobCx, Leader, Limits, Nest, NoGate, Opens, Pool, Under};
-use std::alloc::Global;
+use spindle::lock::{Nest, Opens};
+use spindle::prelude::*;
 use std::hint::spin_loop;
 use std::marker::PhantomData;
 use std::process::Abort;
-use std::sync::Wait;
 use std::thread;
-use std::thread::Threads;
 
 /// What a job is asked for: a lock of so many threads, for which it waits so many turns at most, and a round of so many units there. A
 /// kind above has it with so many quiet ones beside it, which wait for no thread.

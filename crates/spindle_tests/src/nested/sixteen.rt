@@ -9,13 +9,10 @@ ghost use denote.Param.Send.{IsSync};
 use crate::checks::{is, repeat};
 use crate::jobs::Idle;
 use crate::rounds::rounds_of;
-use spindle::lock::{End, Job, JobCx, Leader, Limits, Nest, NoGate, Opens, Pool, Under};
-use spindle::{Fault, ListRun, SharedList, gathered};
-use std::alloc::Global;
+use spindle::lock::{Nest, Opens};
+use spindle::prelude::*;
 use std::marker::PhantomData;
 use std::process::Abort;
-use std::sync::Wait;
-use std::thread::Threads;
 
 /// Adds one to each number of a chunk; the sum wraps.
 pub struct Grow;

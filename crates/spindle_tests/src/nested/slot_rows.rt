@@ -12,15 +12,9 @@ use crate::rounds::rounds_of;
 use crate::staying::{
     MOST_ROUNDS, Seen, Staying, all_see, each_ran, stay, turns_of, until_all_run,
 };
-use spindle::Fault;
-use spindle::lock::{
-    End, InPlace, Job, JobCx, Limits, LockOf, Nest, NoGate, PlaceLeader, Pool, SlotLeader,
-    UnderInPlace, UnderSlots, Update,
-};
-use std::alloc::Global;
+use spindle::lock::Nest;
+use spindle::prelude::*;
 use std::process::Abort;
-use std::sync::Wait;
-use std::thread::Threads;
 
 /// The threads of a lock, the jobs of its rounds, and how many rounds are played at most until each thread has run a job.
 pub type Ask = (usize, usize, usize);
