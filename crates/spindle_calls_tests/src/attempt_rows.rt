@@ -3,9 +3,9 @@
 ghost use Rattle.std.specs.Prelude.{◌≡◌, min};
 
 use crate::checks::{are, holds, is};
-use crate::jobs::{Calls, Counting};
 use crate::leaders::{Led, LedBy, Runs, in_place};
 use spindle::prelude::*;
+use spindle_trays_tests::jobs::{Calls, Counting};
 
 // The less of a number and seven; seven is a failure.
 struct BelowSeven;

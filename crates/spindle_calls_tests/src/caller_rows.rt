@@ -4,10 +4,10 @@ ghost use denote.Param.Send.{IsSync};
 
 use crate::callers;
 use crate::checks::{are, is};
-use crate::jobs::Square;
 use crate::leaders::Runs;
 use spindle::prelude::*;
 use spindle::with_lock;
+use spindle_trays_tests::jobs::Square;
 
 // Rounds into one list, whose memory serves again.
 fn square_into<R: RunsRounds<Square>, H: Runs>(

@@ -6,10 +6,10 @@ ghost use Rattle.std.specs.Prelude.{◌≡◌, ◌+◌, min};
 
 use crate::checks::{are, holds, is};
 use crate::chunks::LastOdd;
-use crate::jobs::{Calls, Counting};
 use crate::leaders::{Led, LedBy, Runs, in_place};
 use spindle::lock::Combine;
 use spindle::prelude::*;
+use spindle_trays_tests::jobs::{Calls, Counting};
 
 // A number, but no more than one that is borrowed.
 #[derive(Drop)]

@@ -17,8 +17,6 @@ mod chunks;
 #[cfg(test)]
 mod division_rows;
 #[cfg(test)]
-mod jobs;
-#[cfg(test)]
 mod kernel_rows;
 #[cfg(test)]
 mod laws;

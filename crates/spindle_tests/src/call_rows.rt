@@ -1,11 +1,12 @@
 //! Rows of calls that open a lock for one round. No clause says how many jobs one call has, and on how many threads.
 
 use crate::checks::{holds, is};
-use crate::jobs::{Calls, Counting};
 use crate::nested::inner_rounds::Playing;
-use crate::staying::{Seen, Staying, all_see, each_ran};
+use crate::staying::{Staying, all_see, each_ran};
 use spindle::lock::Nest;
 use spindle::prelude::*;
+use spindle_trays_tests::jobs::{Calls, Counting};
+use spindle_trays_tests::rounds::Seen;
 use std::process::Abort;
 
 // The jobs that are asked for over ten numbers in a pool of three threads, those that run, and the threads of their lock.

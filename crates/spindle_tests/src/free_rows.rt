@@ -2,10 +2,10 @@
 //! memory is there, that a closure is called once for each item, and on which threads.
 
 use crate::checks::{are, holds, is};
-use crate::gates::{Meeting, Meetings};
 use crate::sevens::{are_seven_squares, seven_items};
 use spindle::prelude::*;
 use spindle::{for_each, for_each_raw};
+use spindle_trays_tests::gates::{Meeting, Meetings};
 use std::process::Abort;
 use std::sync::atomic::{AtomicUsize, Ordering};
 use std::thread::available_parallelism;

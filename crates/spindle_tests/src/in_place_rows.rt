@@ -5,10 +5,10 @@
 ghost use Rattle.std.specs.Prelude.{◌<◌, ◌≤◌};
 
 use crate::checks::{holds, is};
-use crate::gates::Meetings;
-use crate::jobs::{Calls, Counting};
 use crate::sevens::seven_items;
 use spindle::prelude::*;
+use spindle_trays_tests::gates::Meetings;
+use spindle_trays_tests::jobs::{Calls, Counting};
 use std::process::Abort;
 
 /// Adds 3 to a number, modulo 2^64.

@@ -8,19 +8,11 @@ mod call_rows;
 #[cfg(test)]
 mod checks;
 #[cfg(test)]
-mod crossings;
-#[cfg(test)]
-mod finished;
-#[cfg(test)]
 mod free_rows;
-#[cfg(test)]
-mod gates;
 #[cfg(test)]
 mod in_place_rows;
 #[cfg(test)]
 mod item_rows;
-#[cfg(test)]
-mod jobs;
 #[cfg(test)]
 mod lists;
 #[cfg(test)]
@@ -41,9 +33,3 @@ mod sevens;
 mod square_rows;
 #[cfg(test)]
 mod staying;
-#[cfg(test)]
-mod stopping_rows;
-#[cfg(test)]
-mod tray_rows;
-#[cfg(test)]
-mod trying;

@@ -5,10 +5,11 @@
 ghost use Rattle.std.specs.Prelude.{◌<◌, ◌≤◌};
 
 use crate::checks::{holds, is};
-use crate::gates::Meetings;
-use crate::rounds::{rounds_in_slots, rounds_of};
-use crate::staying::{Seen, Staying, all_see, each_ran, runs_of};
+use crate::rounds::rounds_in_slots;
+use crate::staying::{Staying, all_see, each_ran, runs_of};
 use spindle::prelude::*;
+use spindle_trays_tests::gates::Meetings;
+use spindle_trays_tests::rounds::{Seen, rounds_of};
 use std::process::Abort;
 
 // Where the jobs of so many rounds run, over so many items, and what their leader sees. A lock with slots has a slot a job.

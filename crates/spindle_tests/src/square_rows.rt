@@ -6,11 +6,12 @@ ghost use Rattle.std.specs.Prelude.{◌≡◌, ◌<◌};
 ghost use Rattle.std.proofs.Common.{rules};
 
 use crate::checks::{are, holds, is, repeat};
-use crate::jobs::{Calls, Counting, Idle, Square};
-use crate::rounds::{rounds_in_slots, rounds_of};
+use crate::rounds::rounds_in_slots;
 use spindle::lock::Opens;
 use spindle::prelude::*;
 use spindle::with_lock;
+use spindle_trays_tests::jobs::{Calls, Counting, Idle, Square};
+use spindle_trays_tests::rounds::rounds_of;
 use std::process::Abort;
 
 // The threads of a pool and how many helpers it may start, how they idle (pauses in all, and a turn), and so many rounds of a lock:

@@ -4,6 +4,7 @@ ghost use Rattle.std.proofs.Common.{rules};
 ghost use denote.Param.Send.{IsSync};
 
 use spindle::prelude::*;
+use spindle_trays_tests::rounds::Seen;
 use std::hint::spin_loop;
 
 /// How often rounds are played until each thread runs a job.
@@ -11,9 +12,6 @@ pub const MOST_ROUNDS: usize = 10000;
 
 /// How long a job of such a round stays, in turns.
 pub const STAY: usize = 100000;
-
-/// Where a job runs: its thread's number, how many threads are there, and the lock's threads.
-pub type Seen = (Option<usize>, usize, usize);
 
 /// Waits for so many turns at most until all threads of its lock are there, and stays for so many more. Answers where it runs. In no turns
 /// it tells the lock's workers to rest.

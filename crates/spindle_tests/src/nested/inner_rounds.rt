@@ -6,10 +6,10 @@ ghost use Rattle.std.proofs.Common.{rules};
 ghost use denote.Param.Send.{IsSync};
 
 use crate::checks::{holds, repeat};
-use crate::rounds::rounds_of;
-use crate::staying::{MOST_ROUNDS, STAY, Seen, Staying, all_see, each_ran};
+use crate::staying::{MOST_ROUNDS, STAY, Staying, all_see, each_ran};
 use spindle::lock::Nest;
 use spindle::prelude::*;
+use spindle_trays_tests::rounds::{Seen, rounds_of};
 use std::process::Abort;
 
 /// Plays rounds of so many jobs until each runs in a thread of its own. Answers where those of the last round ran.

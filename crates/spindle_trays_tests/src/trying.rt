@@ -3,8 +3,11 @@ ghost use Rattle.std.specs.Prelude.{◌≡◌, ◌<◌, true};
 ghost use Rattle.std.proofs.Common.{rules};
 
 use crate::checks::{are, is};
-use spindle::prelude::*;
-use spindle::with_lock;
+use spindle_trays::job::TellsFailures;
+use spindle_trays::job::nest::End;
+use spindle_trays::lock::root::with_lock;
+use spindle_trays::pieces::report::Report;
+use spindle_trays::prelude::*;
 use std::process::Abort;
 use std::thread;
 

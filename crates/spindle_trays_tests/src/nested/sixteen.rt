@@ -9,8 +9,14 @@ ghost use denote.Param.Send.{IsSync};
 use crate::checks::{is, repeat};
 use crate::jobs::Idle;
 use crate::rounds::rounds_of;
-use spindle::lock::{Nest, Opens};
-use spindle::prelude::*;
+use spindle_parts::lists::{ListRun, SharedList, gathered};
+use spindle_threads::limits::Limits;
+use spindle_trays::job::gate::NoGate;
+use spindle_trays::job::nest::End;
+use spindle_trays::lock::leader::Leader;
+use spindle_trays::lock::nested::Under;
+use spindle_trays::lock::workspace::Opens;
+use spindle_trays::prelude::*;
 use std::marker::PhantomData;
 use std::process::Abort;
 

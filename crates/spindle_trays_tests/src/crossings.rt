@@ -1,7 +1,7 @@
 //! A gate that two jobs of a round cross.
 
 use crate::gates::await_count;
-use spindle::lock::Gate;
+use spindle_trays::prelude::*;
 use std::sync::atomic::{AtomicUsize, Ordering};
 
 /// How often a job that crosses another was done and the other has begun, and how often one of them waited in vain.

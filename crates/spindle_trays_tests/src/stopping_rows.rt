@@ -8,7 +8,9 @@ use crate::crossings::Crossings;
 use crate::gates::Meetings;
 use crate::jobs::{Calls, Counting};
 use crate::trying::{Trying, items, reports_of, these_ran};
-use spindle::prelude::*;
+use spindle_threads::limits::Limits;
+use spindle_trays::job::gate::NoGate;
+use spindle_trays::prelude::*;
 use std::process::Abort;
 
 // Threads, numbers, the number that fails, and jobs; the pieces that ran and those that were skipped.

@@ -2,7 +2,8 @@
 ghost use Rattle.std.specs.Prelude.{◌≡◌};
 ghost use Rattle.std.proofs.Common.{rules};
 
-use spindle::prelude::*;
+use spindle_trays::job::nest::End;
+use spindle_trays::prelude::*;
 use std::sync::atomic::{AtomicUsize, Ordering};
 
 /// Squares a number of a round.

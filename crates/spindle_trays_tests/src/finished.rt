@@ -2,8 +2,9 @@
 ghost use Rattle.std.specs.Prelude.{◌≡◌, ◌∷◌, [], IfOk};
 
 use crate::jobs::Square;
-use spindle::lock::Finished;
-use spindle::prelude::*;
+use spindle_parts::lists::SharedList;
+use spindle_trays::pieces::finished::Finished;
+use spindle_trays::prelude::*;
 use std::test::Fail;
 
 /// A list of one item.

@@ -10,8 +10,12 @@ ghost use denote.Param.Send.{IsSync};
 use crate::checks::{is, repeat};
 use crate::jobs::Square;
 use crate::rounds::rounds_of;
-use spindle::lock::{Nest, Opens};
-use spindle::prelude::*;
+use spindle_threads::limits::Limits;
+use spindle_trays::job::gate::NoGate;
+use spindle_trays::lock::leader::Leader;
+use spindle_trays::lock::nested::Under;
+use spindle_trays::lock::workspace::Opens;
+use spindle_trays::prelude::*;
 use std::process::Abort;
 
 /// Squares as many numbers, of seven at most, by each of its calls: in a lock of two threads, by a round over a list, and by one over

@@ -1,7 +1,8 @@
 //! A gate at which the jobs of a round meet.
 ghost use Rattle.std.specs.Prelude.{◌<◌};
 
-use spindle::lock::{Gate, Limits, Pool};
+use spindle_threads::limits::Limits;
+use spindle_trays::prelude::*;
 use std::hint::spin_loop;
 use std::sync::atomic::{AtomicUsize, Ordering};
 use std::thread;

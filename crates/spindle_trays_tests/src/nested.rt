@@ -1,0 +1,5 @@
+//! Rows of locks that jobs open: inputs with the outputs that they must give, and what a refused allocation leaves there.
+
+mod asking;
+mod opening;
+mod sixteen;
