@@ -1,6 +1,6 @@
 //! The tests of `spindle_parts`. They stand in a crate of their own, since a proof of tests proves their whole crate.
 //!
-//! The tests named `refused_` hold with any one allocation refused; `./do refusals` refuses each in turn.
+//! The tests named `refused_` hold with any one allocation refused; `./do test` refuses each in turn.
 #![tactic(auto)]
 
 #[cfg(test)]

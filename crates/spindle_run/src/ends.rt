@@ -1,6 +1,6 @@
 //! How runs end: the texts on standard error, the statuses, and what is written where memory is refused.
 //!
-//! The tests named `refused_` hold with any one allocation refused; `./do refusals` refuses each in turn.
+//! The tests named `refused_` hold with any one allocation refused; `./do test` refuses each in turn.
 use crate::checks::{holds, is};
 use crate::trials::outcome;
 use spindle_commands::Stop;

@@ -1,7 +1,7 @@
 //! What a refused allocation leaves of a lock with trays or a round there: no job was run and nothing keeps an item, and the same call
 //! with memory answers in full.
 //!
-//! Each of these tests ends well whichever one of its allocations is refused; `./do refusals` refuses each in turn. With memory for
+//! Each of these tests ends well whichever one of its allocations is refused; `./do test` refuses each in turn. With memory for
 //! all, they show the full answers. No clause says that a refused call runs no job, or that memory which is there is used.
 ghost use Rattle.std.specs.Prelude.{◌<◌};
 

@@ -1,6 +1,6 @@
 //! What a refused allocation leaves in a job that opens locks: its closure wasn't run, and the same call with memory answers.
 //!
-//! The test ends well whichever one of its allocations is refused; `./do refusals` refuses each in turn. With memory for all, it shows the
+//! The test ends well whichever one of its allocations is refused; `./do test` refuses each in turn. With memory for all, it shows the
 //! full answers. A job can't fail a test, so it answers whether all is as it should be. No clause says that a refused lock hasn't run its
 //! closure, or that memory which is there is used.
 ghost use Rattle.std.specs.Prelude.{◌<◌};
