@@ -68,7 +68,7 @@ test() {
 soak() {
   local seconds=${1:-15}
   # A lock's rounds go on where the time is over, and beside proofs threads that meet are slow.
-  (cd crates/spindle_soak && rt try --seconds $((600 + 2 * seconds)) -- "$seconds")
+  (cd crates/spindle_bench && rt try --seconds $((600 + 2 * seconds)) -- soak "$seconds")
 }
 
 #: edits CRATE..        try the crates' must-fail edits: the prover must refuse each in the function that it changes

@@ -3,6 +3,7 @@ ghost use Rattle.std.specs.Prelude.{◌≡◌};
 ghost use Rattle.std.proofs.Common.{rules};
 
 use crate::series::{Input, Listed, Placed};
+use crate::settings::stirred;
 use spindle::prelude::*;
 use std::marker::PhantomData;
 
@@ -33,15 +34,15 @@ impl Input for List {
 }
 
 /// What jobs of a shape do. The number of a job and the numbers of its list, where it has one, tell its values after each round.
-pub trait Task {
+pub trait Task: Send {
     /// What a job over lists is given.
     type In: Input;
 
     /// What it answers.
-    type Out: PartialEq + Drop;
+    type Out: PartialEq + Drop + Send;
 
     /// What is changed in place.
-    type Item: PartialEq + Drop;
+    type Item: PartialEq + Drop + Send;
 
     /// A job over lists.
     fn answer(alloc: Global, input: &Self::In) -> Self::Out;
@@ -135,17 +136,6 @@ impl Task for Nothing {
 
 /// Stirs its number by dependent arithmetic; in place it writes down beside it what comes out.
 pub struct Stir;
-
-// 26 turns of a xorshift generator from the number and one more: about 50 ns in which no step overlaps another.
-fn stirred(number: u64) -> u64 {
-    let mut x = number.wrapping_add(1);
-    for _ in 0..26 {
-        x ^= x << 13;
-        x ^= x >> 7;
-        x ^= x << 17;
-    }
-    x
-}
 
 impl Task for Stir {
     type In = usize;

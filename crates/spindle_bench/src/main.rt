@@ -13,7 +13,10 @@
 //!
 //! SHAPE in the environment names the one shape to run, and POOL what to run it on: `slots`, `trays`, `place` or `patient`. No line is
 //! printed, and no lock is opened, where nothing has that name. THREADS is how many threads run, else 4. With the word `check` the
-//! program reads no clock: it runs a few rounds for each line, checks what came out, and prints zeros.
+//! program runs one batch for each line, checks what came out, and prints zeros; then it plays a round of each lock of `soak`.
+//!
+//! With the words `soak SECONDS` it plays uneven jobs in each kind of lock instead, for so many seconds in all, as `soak.rt` says. A
+//! line a kind has its rounds, how long the longest took, its lists made and checked, and the memory that the program has then.
 //!
 //! NAME is `zuflanto` for a lock that `with_slots` opens, with a slot for each job of the round,
 //! `zuflanto-trays` for one that `with_lock` opens, and `zuflanto-place` for one that `with_slots_in_place` opens, whose rounds are
@@ -42,55 +45,91 @@ mod kinds;
 mod nested;
 mod series;
 mod settings;
+mod soak;
 mod timing;
 
-use crate::kinds::{AddOne, Does, Nothing, Square, Stir, Task};
+use crate::kinds::{AddOne, Nothing, Square, Stir, Task};
 use crate::nested::{AddOneToPart, InRounds};
-use crate::settings::{Bench, Ended, Shape, shaped};
-use crate::timing::{Machine, in_place, in_slots, in_trays};
-use spindle::lock::InPlace;
+use crate::settings::{Bench, Ended, Shape, Stop, Way, shaped, threads};
+use crate::soak::soak;
+use crate::timing::{Machine, in_lock, in_place};
+use spindle::prelude::*;
+use std::env;
 
-/// Runs a shape in each kind of lock that is asked for. What its jobs do is a parameter: where a lock's kind is named, the proof takes
-/// much more.
-fn in_each<T: Task + Send, H: Machine>(bench: &Bench<H>, shape: Shape) -> Ended
-where
-    T::In: Send + Sync,
-    T::Out: Send,
-    T::Item: Send,
-{
-    if bench.wants("slots", shape) {
-        in_slots::<Does<T>, H>(bench, shape)?;
-    }
-    if bench.wants("trays", shape) {
-        in_trays::<Does<T>, H>(bench, shape)?;
-    }
-    if bench.wants("place", shape) {
-        in_place::<InPlace<Does<T>>, H>(bench, "zuflanto-place", shape)?;
+// Whether POOL and SHAPE ask for rounds of a shape in this kind of lock.
+fn wants<H: Machine>(bench: &Bench<H>, kind: &str, shape: Shape) -> bool {
+    let (kinds, shapes) = (
+        env::var(bench.rt, "POOL").ok(),
+        env::var(bench.rt, "SHAPE").ok(),
+    );
+    kinds.as_deref().is_none_or(|name| name == kind)
+        && shapes.as_deref().is_none_or(|name| name == shape.name)
+}
+
+// Runs a shape in each of these kinds of locks that is asked for.
+fn in_each<T: Task, H: Machine>(bench: &Bench<H>, kinds: &[&str], shape: Shape) -> Ended {
+    for kind in kinds {
+        if wants(bench, kind, shape) {
+            print(bench, kind, shape, in_lock::<T, H>(bench, kind, shape)?)?;
+        }
     }
     Ok(())
 }
 
-/// Runs `nested` in place all through, where it is asked for.
-fn in_nested<H: Machine>(bench: &Bench<H>, pool: &str, name: &str) -> Ended {
+// Runs `nested` in place all through, where it is asked for.
+fn in_nested<H: Machine>(bench: &Bench<H>, kind: &str) -> Ended {
     let nested = shaped("nested", 2, 0, 20);
-    if bench.wants(pool, nested) {
-        in_place::<InPlace<InRounds<InPlace<AddOneToPart>>>, H>(bench, name, nested)?;
+    if wants(bench, kind, nested) {
+        let times = in_place::<InPlace<InRounds<InPlace<AddOneToPart>>>, H>(bench, nested)?;
+        print(bench, kind, nested, times)?;
     }
     Ok(())
+}
+
+// Prints the line of a shape in this kind of lock.
+fn print<H: Machine>(bench: &Bench<H>, kind: &str, shape: Shape, times: Vec<u64>) -> Ended {
+    let name = match kind {
+        "slots" => "zuflanto",
+        "trays" => "zuflanto-trays",
+        "place" => "zuflanto-place",
+        _ => "zuflanto-patient",
+    };
+    let (at, all) = (|at: usize| times.get(at).copied().unwrap_or(0), times.len());
+    let (best, median, low, high) = (at(0), at(all / 2), at(all / 10), at(all - all / 10));
+    let (of, threads) = (shape.name, bench.pool.max_num_threads());
+    println!(bench.rt; "{name} {of} {threads} {best} {median} {low} {high}")?;
+    Ok(())
+}
+
+// Runs each shape in each kind of lock.
+fn run<H: Machine>(rt: &H, way: Way) -> Ended {
+    let threads = threads(rt)?;
+    let kinds = ["slots", "trays", "place"].as_slice();
+    let pool = Pool::new(threads, Limits::new(), NoGate);
+    let bench = Bench { rt, pool, way };
+    in_each::<Nothing, H>(&bench, kinds, shaped("empty", threads, 0, 100))?;
+    in_each::<Stir, H>(&bench, kinds, shaped("tiny8", 8 * threads, 0, 100))?;
+    in_each::<Stir, H>(&bench, &["trays"], shaped("try8", 8 * threads, 0, 100))?;
+    in_nested(&bench, "place")?;
+    let pool = Pool::new(threads, Limits::new(), NoGate).with_patience(512);
+    in_nested(&Bench { rt, pool, way }, "patient")?;
+    in_each::<AddOne, H>(&bench, kinds, shaped("stencil4k", threads, 4096, 100))?;
+    in_each::<AddOne, H>(&bench, kinds, shaped("stencil256k", threads, 262144, 10))?;
+    in_each::<Square, H>(&bench, kinds, shaped("map", 4 * threads, 4096, 100))
 }
 
 fn main(rt: HostRuntime) -> Ended {
-    let bench = Bench::read(&rt, 0)?;
-    let threads = bench.threads;
-    in_each::<Nothing, _>(&bench, shaped("empty", threads, 0, 100))?;
-    in_each::<Stir, _>(&bench, shaped("tiny8", 8 * threads, 0, 100))?;
-    let tries = shaped("try8", 8 * threads, 0, 100);
-    if bench.wants("trays", tries) {
-        in_trays::<Does<Stir>, _>(&bench, tries)?;
+    let mut words = env::args(&rt)?.skip(1);
+    let (word, seconds) = (words.next(), words.next());
+    match word.as_deref().unwrap_or("") {
+        "check" => {
+            run(&rt, Way::Check)?;
+            soak(&rt, 0)
+        }
+        "soak" => match seconds.as_deref().unwrap_or("0").parse::<u64>() {
+            Ok(seconds) => soak(&rt, seconds),
+            Err(_) => Err(Stop::Seconds),
+        },
+        _ => run(&rt, Way::Time),
     }
-    in_nested(&bench, "place", "zuflanto-place")?;
-    in_nested(&Bench::read(&rt, 512)?, "patient", "zuflanto-patient")?;
-    in_each::<AddOne, _>(&bench, shaped("stencil4k", threads, 4096, 100))?;
-    in_each::<AddOne, _>(&bench, shaped("stencil256k", threads, 262144, 10))?;
-    in_each::<Square, _>(&bench, shaped("map", 4 * threads, 4096, 100))
 }

@@ -58,7 +58,8 @@ impl<J: Placed> Update for InRounds<J> {
         cx: &mut JobCx<UnderPieces<J, ChunkOf<J>>>,
     ) -> Vec<J::Item> {
         let threads = (cx.max_num_threads() / 2).max(1);
-        let mut series = Places::<J> { items };
+        let shape = shaped("parts", PARTS, 0, 0);
+        let mut series = Places::<J> { shape, items };
         let _played = LockOf::<J>::nested_with_slots_in_place(
             rt,
             alloc,
@@ -74,8 +75,10 @@ impl<J: Placed> Update for InRounds<J> {
 }
 
 impl<J: Placed> Placed for InPlace<InRounds<J>> {
-    fn item(alloc: Global, _: usize, _: usize, rounds: u64) -> Result<Vec<J::Item>, Fault> {
-        let parts = shaped("parts", PARTS, 0, 0);
-        items::<J>(alloc, parts, rounds.saturating_mul(ROUNDS))
+    // Where the lists of a shape have no numbers, each has as many parts as a round has jobs.
+    fn item(alloc: Global, number: usize, size: usize, rounds: u64) -> Result<Self::Item, Fault> {
+        let parts = PARTS + number.saturating_mul(size) % 6;
+        let first = number.saturating_add(size);
+        items::<J>(alloc, parts, first, rounds.saturating_mul(ROUNDS))
     }
 }

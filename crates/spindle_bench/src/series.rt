@@ -16,7 +16,7 @@ pub trait Runs: Threads + Wait + Sync {}
 impl<H: Threads + Wait + Sync> Runs for H {}
 
 /// What a job over lists is given.
-pub trait Input: Clone + Eq + Drop {
+pub trait Input: Clone + Eq + Drop + Send + Sync {
     /// What the job of this number is given in the first round, so many numbers where that is a list.
     fn input(alloc: Global, number: usize, size: usize) -> Result<Self, Fault>;
 
@@ -25,16 +25,18 @@ pub trait Input: Clone + Eq + Drop {
 }
 
 /// A kind of job whose rounds answer new lists.
-pub trait Listed: Job<Inner = End, In: Input, Out: PartialEq> {
+pub trait Listed: Job<In: Input, Out: PartialEq + Send> + Send {
     /// What the job of this number answers after so many rounds.
     fn output(alloc: Global, number: usize, size: usize, rounds: u64) -> Result<Self::Out, Fault>;
 
-    /// What the jobs of the next round are given, after this in the first and these answers.
-    fn next(_: Global, first: &Vec<Self::In>, _: Vec<Self::Out>) -> Result<Vec<Self::In>, Fault>;
+    /// What the jobs of the next round are given, after this in the first and these answers: the same, where they aren't given those.
+    fn next(_: Global, first: &Vec<Self::In>, _: Vec<Self::Out>) -> Result<Vec<Self::In>, Fault> {
+        Ok(first.clone()?)
+    }
 }
 
 /// A kind of job whose rounds are played in place.
-pub trait Placed: Updates<In = (), Out = (), Item: PartialEq> {
+pub trait Placed: Updates<In = (), Out = (), Item: PartialEq + Send> + Send {
     /// The item of the job of this number after so many rounds, so many numbers where that is a list.
     fn item(alloc: Global, number: usize, size: usize, rounds: u64) -> Result<Self::Item, Fault>;
 }
@@ -45,7 +47,7 @@ pub trait Series: Drop {
     fn new(alloc: Global, shape: Shape) -> Result<Self, Fault>;
 
     /// Whether what stands after so many rounds is right.
-    fn is_right(&self, alloc: Global, shape: Shape, rounds: u64) -> Result<bool, Fault>;
+    fn is_right(&self, alloc: Global, rounds: u64) -> Result<bool, Fault>;
 }
 
 /// A leader that plays the rounds of a series S.
@@ -65,10 +67,24 @@ pub trait Plays<S> {
     }
 }
 
+/// Plays a batch of rounds of this shape, and tells whether what came out is right.
+pub fn goes_right<S: Series, E: Plays<S>, H: Runs>(
+    rt: &H,
+    alloc: Global,
+    leader: &mut E,
+    shape: Shape,
+) -> Result<bool, Fault>
+    requires { IsSync H.row }
+{
+    let mut series = S::new(alloc, shape)?;
+    leader.play_all(rt, alloc, &mut series, shape.rounds)?;
+    series.is_right(alloc, shape.rounds)
+}
+
 // What the jobs of a shape answer after so many rounds.
 fn outputs<J: Listed>(alloc: Global, shape: Shape, rounds: u64) -> Result<Vec<J::Out>, Fault> {
     let mut outputs = Vec::new(alloc);
-    for number in 0..shape.jobs {
+    for number in 0..shape.items {
         outputs.push(J::output(alloc, number, shape.size, rounds)?)?;
     }
     Ok(outputs)
@@ -77,6 +93,7 @@ fn outputs<J: Listed>(alloc: Global, shape: Shape, rounds: u64) -> Result<Vec<J:
 /// Rounds that answer new lists.
 #[derive(Drop)]
 pub struct Lists<J: Job> {
+    shape: Shape,
     first: Vec<J::In>,
     outputs: Vec<J::Out>,
 }
@@ -84,15 +101,19 @@ pub struct Lists<J: Job> {
 impl<J: Listed> Series for Lists<J> {
     fn new(alloc: Global, shape: Shape) -> Result<Lists<J>, Fault> {
         let mut first = Vec::new(alloc);
-        for number in 0..shape.jobs {
+        for number in 0..shape.items {
             first.push(J::In::input(alloc, number, shape.size)?)?;
         }
         let outputs = outputs::<J>(alloc, shape, 0)?;
-        Ok(Lists { first, outputs })
+        Ok(Lists {
+            shape,
+            first,
+            outputs,
+        })
     }
 
-    fn is_right(&self, alloc: Global, shape: Shape, rounds: u64) -> Result<bool, Fault> {
-        Ok(self.outputs == outputs::<J>(alloc, shape, rounds)?)
+    fn is_right(&self, alloc: Global, rounds: u64) -> Result<bool, Fault> {
+        Ok(self.outputs == outputs::<J>(alloc, self.shape, rounds)?)
     }
 }
 
@@ -100,7 +121,7 @@ impl<J: Listed, E: RunsRounds<J>> Plays<Lists<J>> for E {
     fn play<H: Runs>(&mut self, rt: &H, alloc: Global, lists: &mut Lists<J>) -> Done {
         let outputs = mem::replace(&mut lists.outputs, Vec::new(alloc));
         let mut inputs = J::next(alloc, &lists.first, outputs)?;
-        let jobs = inputs.len();
+        let jobs = lists.shape.jobs;
         self.for_each_into(rt, alloc, jobs, &mut inputs, &mut lists.outputs)
     }
 }
@@ -108,6 +129,7 @@ impl<J: Listed, E: RunsRounds<J>> Plays<Lists<J>> for E {
 /// Rounds over one list that may stop, into one report.
 #[derive(Drop)]
 pub struct Tries<J: Job> {
+    shape: Shape,
     first: Vec<J::In>,
     report: Report<J::Out>,
 }
@@ -116,11 +138,15 @@ impl<J: Listed> Series for Tries<J> {
     fn new(alloc: Global, shape: Shape) -> Result<Tries<J>, Fault> {
         let first = Lists::<J>::new(alloc, shape)?.first;
         let report = Report::new(alloc);
-        Ok(Tries { first, report })
+        Ok(Tries {
+            shape,
+            first,
+            report,
+        })
     }
 
-    fn is_right(&self, alloc: Global, shape: Shape, rounds: u64) -> Result<bool, Fault> {
-        let wanted = outputs::<J>(alloc, shape, rounds)?;
+    fn is_right(&self, alloc: Global, rounds: u64) -> Result<bool, Fault> {
+        let wanted = outputs::<J>(alloc, self.shape, rounds)?;
         let mut ran = self.report.ran.iter().zip(&wanted);
         let right = ran.all(|(piece, wanted)| matches!(piece.1.as_slice(), [x] if x == wanted));
         Ok(right && self.report.ran.len() == wanted.len())
@@ -130,7 +156,7 @@ impl<J: Listed> Series for Tries<J> {
 impl<'a, J: Opens<L>, G: Gate, L> Plays<Tries<J>> for Leader<'a, J, G, L> {
     fn play<H: Runs>(&mut self, rt: &H, alloc: Global, all: &mut Tries<J>) -> Done {
         let inputs = all.first.clone()?;
-        let jobs = inputs.len();
+        let jobs = all.shape.jobs;
         self.try_for_each_into(rt, alloc, jobs, inputs, &mut all.report)
     }
 }
@@ -138,33 +164,39 @@ impl<'a, J: Opens<L>, G: Gate, L> Plays<Tries<J>> for Leader<'a, J, G, L> {
 /// Rounds in place.
 #[derive(Drop)]
 pub struct Places<J: Updates> {
+    /// The shape of its rounds.
+    pub shape: Shape,
     /// What the jobs of the last round left.
     pub items: Vec<J::Item>,
 }
 
 impl<J: Placed> Series for Places<J> {
     fn new(alloc: Global, shape: Shape) -> Result<Places<J>, Fault> {
-        let items = items::<J>(alloc, shape, 0)?;
-        Ok(Places { items })
+        let items = items::<J>(alloc, shape.items, shape.size, 0)?;
+        Ok(Places { shape, items })
     }
 
-    fn is_right(&self, alloc: Global, shape: Shape, rounds: u64) -> Result<bool, Fault> {
-        Ok(self.items == items::<J>(alloc, shape, rounds)?)
+    fn is_right(&self, alloc: Global, rounds: u64) -> Result<bool, Fault> {
+        Ok(self.items == items::<J>(alloc, self.shape.items, self.shape.size, rounds)?)
     }
 }
 
-/// The items of all jobs of a shape after so many rounds.
-pub fn items<J: Placed>(alloc: Global, shape: Shape, rounds: u64) -> Result<Vec<J::Item>, Fault> {
+/// So many items after so many rounds.
+pub fn items<J: Placed>(
+    alloc: Global,
+    count: usize,
+    size: usize,
+    rounds: u64,
+) -> Result<Vec<J::Item>, Fault> {
     let mut items = Vec::new(alloc);
-    for number in 0..shape.jobs {
-        items.push(J::item(alloc, number, shape.size, rounds)?)?;
+    for number in 0..count {
+        items.push(J::item(alloc, number, size, rounds)?)?;
     }
     Ok(items)
 }
 
 impl<'a, J: PlaysInPlace<P>, G: Gate, P> Plays<Places<J>> for SlotLeader<'a, J, G, P> {
     fn play<H: Runs>(&mut self, rt: &H, alloc: Global, all: &mut Places<J>) -> Done {
-        let jobs = all.items.len();
-        self.update_each(rt, alloc, jobs, &mut all.items)
+        self.update_each(rt, alloc, all.shape.jobs, &mut all.items)
     }
 }

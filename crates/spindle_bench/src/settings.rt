@@ -1,5 +1,5 @@
-//! What the environment and the words ask for, shapes of rounds, and why the program stops early.
-ghost use Rattle.std.specs.Prelude.{◌≡◌, ◌*◌, ◌<◌, ◌≤◌};
+//! What is played, and on what; shapes of rounds; and why the program stops early.
+ghost use Rattle.std.specs.Prelude.{◌≡◌, ◌*◌, ◌<◌, ◌≤◌, IfOk};
 
 use spindle::prelude::*;
 use std::rt::Env;
@@ -9,11 +9,13 @@ use thiserror::Error;
 /// A shape of rounds.
 #[derive(Clone, Copy)]
 pub struct Shape {
-    /// Its name in the environment and in the printed line.
+    /// Its name in the environment and in the printed line, or that of a kind of lock.
     pub name: &'static str,
     /// The jobs of a round.
     pub jobs: usize,
-    /// The numbers of a job's list, where it has one.
+    /// The items of a round.
+    pub items: usize,
+    /// The numbers of an item's list, where it has one.
     pub size: usize,
     /// The rounds of a batch.
     pub rounds: u64,
@@ -21,61 +23,72 @@ pub struct Shape {
     ghost few: { jobs ≤ 4294967295 },
 }
 
-/// A shape of so many jobs a round, and so many numbers in all of their lists.
+/// A shape of so many jobs a round, with an item each, and so many numbers in all of their lists.
 pub fn shaped(name: &'static str, jobs: usize, numbers: usize, rounds: u64) -> Shape
     requires { (0 < jobs) × (jobs ≤ 4294967295) }
 {
-    let size = numbers / jobs;
     Shape {
         name,
         jobs,
-        size,
+        items: jobs,
+        size: numbers / jobs,
         rounds,
     }
 }
 
-/// What to run, and on what.
+/// 26 turns of a xorshift generator from the number and one more: about 50 ns in which no step overlaps another.
+pub fn stirred(number: u64) -> u64 {
+    let mut x = number.wrapping_add(1);
+    for _ in 0..26 {
+        x ^= x << 13;
+        x ^= x >> 7;
+        x ^= x << 17;
+    }
+    x
+}
+
+/// The uneven shape of this number, for one round: up to fifty jobs, over fewer than forty items. Its size is any number.
+pub fn uneven(name: &'static str, number: u64) -> Shape {
+    let random = stirred(number);
+    Shape {
+        name,
+        jobs: 1 + (random >> 50) as usize % 50,
+        items: (random >> 8) as usize % 40,
+        size: (random % 4000000000) as usize,
+        rounds: 1,
+    }
+}
+
+/// What is played in a lock.
+#[derive(Clone, Copy)]
+pub enum Way {
+    /// Batches of rounds of a shape, against the clock.
+    Time,
+    /// One batch.
+    Check,
+    /// Uneven rounds, from the one of this number on, for so many nanoseconds.
+    Soak(u64, u64),
+}
+
+/// What to play, and on what.
 #[derive(Drop)]
 pub struct Bench<'a, H> {
     /// The runtime.
     pub rt: &'a H,
-    /// The threads of each lock.
-    pub threads: usize,
     /// The pool that locks are opened from.
     pub pool: Pool<NoGate>,
-    /// Whether rounds are only checked, and not timed.
-    pub is_check: bool,
-    pools: Option<String>,
-    shapes: Option<String>,
-    ghost some: { 0 < threads },
-    ghost few: { threads ≤ 32767 },
+    /// What is played in them.
+    pub way: Way,
 }
 
-impl<'a, H: Env + Alloc<A = Global>> Bench<'a, H> {
-    /// Reads THREADS, SHAPE and POOL, and the word `check`. The pool's helpers let so many pauses pass before they look for inner locks.
-    pub fn read(rt: &'a H, patience: u32) -> Result<Bench<'a, H>, Stop> {
-        let text = env::var(rt, "THREADS").ok();
-        let threads = match text.as_deref().unwrap_or("4").parse::<usize>() {
-            Ok(threads) if 0 < threads && threads <= 32767 => threads,
-            _ => return Err(Stop::Threads),
-        };
-        let pool = Pool::new(threads, Limits::new(), NoGate).with_patience(patience);
-        let is_check = env::args(rt)?.nth(1).as_deref() == Some("check");
-        let (pools, shapes) = (env::var(rt, "POOL").ok(), env::var(rt, "SHAPE").ok());
-        Ok(Bench {
-            rt,
-            threads,
-            pool,
-            is_check,
-            pools,
-            shapes,
-        })
-    }
-
-    /// Whether rounds of a shape on this are asked for.
-    pub fn wants(&self, pool: &str, shape: Shape) -> bool {
-        self.pools.as_deref().is_none_or(|name| name == pool)
-            && self.shapes.as_deref().is_none_or(|name| name == shape.name)
+/// The threads that THREADS asks for, else 4.
+pub fn threads<H: Env + Alloc<A = Global>>(rt: &H) -> Result<usize, Stop>
+    ensures { IfOk result (λ n. (0 < n) × (n ≤ 32767)) }
+{
+    let text = env::var(rt, "THREADS").ok();
+    match text.as_deref().unwrap_or("4").parse::<usize>() {
+        Ok(threads) if 0 < threads && threads <= 32767 => Ok(threads),
+        _ => Err(Stop::Threads),
     }
 }
 
@@ -88,13 +101,16 @@ pub enum Stop {
     /// THREADS says something else.
     #[error("THREADS is no number from 1 to 32767")]
     Threads,
+    /// So does what follows `soak`.
+    #[error("soak for how many seconds?")]
+    Seconds,
     /// A lock or a round was refused.
     #[error(transparent)]
     Refused(#[from] Fault),
-    /// The clock, the words or the output could not be read or written.
+    /// The clock, the words, a file or the output could not be read or written.
     #[error(transparent)]
     System(#[from] io::Error),
-    /// Rounds of this shape answered something wrong.
+    /// Rounds of this shape, or in this kind of lock, answered something wrong.
     #[error("wrong answers: {0}")]
     Wrong(&'static str),
 }

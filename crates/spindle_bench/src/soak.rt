@@ -1,0 +1,204 @@
+//! Uneven jobs by the thousand, which triple numbers, in each kind of lock and in locks that jobs open, with few threads and with 64,
+//! with the default limits and without a pause before sleep. Each answer is checked; a wrong one ends the program.
+ghost use Rattle.std.specs.Prelude.{◌≡◌};
+ghost use Rattle.std.proofs.Common.{rules};
+ghost use denote.Param.Send.{IsSync};
+
+use crate::kinds::{Does, Task};
+use crate::nested::InRounds;
+use crate::series::{Input, Listed, Lists, goes_right};
+use crate::settings::{Bench, Ended, Way, shaped, uneven};
+use crate::timing::{Machine, Times, in_lock, in_place, in_slots, in_trays, nanos_since};
+use spindle::prelude::*;
+use std::fs;
+use std::hint::spin_loop;
+use std::marker::PhantomData;
+use std::time::Instant;
+
+/// The kinds of locks, each with those that its jobs open.
+const KINDS: [&str; 6] = [
+    "trays",
+    "slots",
+    "place",
+    "trays in trays",
+    "slots in slots",
+    "place in place",
+];
+
+/// The slots of a lock with slots, which are fewer than the jobs of some of its rounds.
+const SLOTS: usize = 25;
+
+/// Triples its number, and takes uneven numbers of turns for it.
+pub struct Turns;
+
+impl Input for u64 {
+    ghost equal_is_same = { Prim.search rules };
+
+    fn input(_: Global, number: usize, size: usize) -> Result<u64, Fault> {
+        Ok(number.saturating_add(size) as u64)
+    }
+}
+
+impl Task for Turns {
+    type In = u64;
+
+    type Out = u64;
+
+    type Item = u64;
+
+    fn answer(_: Global, number: &u64) -> u64 {
+        Turns::update(*number)
+    }
+
+    fn update(number: u64) -> u64 {
+        let turns = if number % 61 == 0 { 999 } else { number % 16 };
+        for _ in 0..turns {
+            spin_loop();
+        }
+        number.wrapping_mul(3)
+    }
+
+    fn output(alloc: Global, number: usize, size: usize, _: u64) -> Result<u64, Fault> {
+        Turns::item(alloc, number, size, 1)
+    }
+
+    fn item(alloc: Global, number: usize, size: usize, rounds: u64) -> Result<u64, Fault> {
+        let mut item = u64::input(alloc, number, size)?;
+        for _ in 0..rounds {
+            item = item.wrapping_mul(3);
+        }
+        Ok(item)
+    }
+}
+
+/// Opens a lock with trays, plays the uneven round of its number there over jobs of kind J, and answers whether it went right.
+pub struct InTrays<J>(PhantomData<J>);
+
+impl<J: Listed> Job for InTrays<J> {
+    type In = u64;
+
+    type Out = bool;
+
+    type Inner = Under<J>;
+
+    ghost meets = { λ _ _. Unit {0} };
+
+    fn run<H: Threads + Wait + Sync>(
+        rt: &H,
+        alloc: Global,
+        number: &u64,
+        cx: &mut JobCx<Under<J>>,
+    ) -> bool {
+        let shape = uneven("inner", *number);
+        let right = cx.with_lock(
+            rt,
+            alloc,
+            3,
+            |leader| -> Result<bool, Fault>
+                requires { IsSync H.row }
+            { goes_right::<Lists<J>, _, H>(rt, alloc, leader, shape) },
+        );
+        matches!(right, Ok(Ok(true)))
+    }
+
+    ghost equal_is_same = { Prim.search rules };
+}
+
+impl<J: Listed> Listed for InTrays<J> {
+    fn output(_: Global, _: usize, _: usize, _: u64) -> Result<bool, Fault> {
+        Ok(true)
+    }
+}
+
+/// The same in a lock with slots, which are fewer than the jobs of some rounds.
+pub struct InSlots<J>(PhantomData<J>);
+
+impl<J: Listed> Job for InSlots<J> {
+    type In = u64;
+
+    type Out = bool;
+
+    type Inner = UnderSlots<J>;
+
+    ghost meets = { λ _ _. Unit {0} };
+
+    fn run<H: Threads + Wait + Sync>(
+        rt: &H,
+        alloc: Global,
+        number: &u64,
+        cx: &mut JobCx<UnderSlots<J>>,
+    ) -> bool {
+        let shape = uneven("inner", *number);
+        let right = LockOf::<J>::nested_with_slots(
+            rt,
+            alloc,
+            cx,
+            3,
+            4,
+            |leader| -> Result<bool, Fault>
+                requires { IsSync H.row }
+            { goes_right::<Lists<J>, _, H>(rt, alloc, leader, shape) },
+        );
+        matches!(right, Ok(Ok(true)))
+    }
+
+    ghost equal_is_same = { Prim.search rules };
+}
+
+impl<J: Listed> Listed for InSlots<J> {
+    fn output(_: Global, _: usize, _: usize, _: u64) -> Result<bool, Fault> {
+        Ok(true)
+    }
+}
+
+// Plays in a lock of this kind. What its jobs do is a parameter, as in `in_lock`.
+fn play<T: Task, H: Machine>(bench: &Bench<H>, kind: &'static str) -> Times {
+    let shape = shaped(kind, SLOTS, 0, 0);
+    match kind {
+        "trays in trays" => in_trays::<InTrays<Does<T>>, H>(bench, shape),
+        "slots in slots" => in_slots::<InSlots<Does<T>>, H>(bench, shape),
+        "place in place" => in_place::<InPlace<InRounds<InPlace<Does<T>>>>, H>(bench, shape),
+        _ => in_lock::<T, H>(bench, kind, shape),
+    }
+}
+
+/// Plays in all kinds of locks for so many seconds in all. With 0 it plays a round in each, and prints nothing.
+pub fn soak<H: Machine>(rt: &H, seconds: u64) -> Ended {
+    let share = seconds.saturating_mul(1_000_000_000) / 36;
+    for kind in KINDS {
+        let (mut rounds, mut worst) = (0u64, 0u64);
+        for threads in [2, 5, 64] {
+            for limits in [Limits::new(), Limits { spin: 0, pause: 0 }] {
+                let begin = Instant::now(rt)?;
+                for _ in 0..u64::MAX {
+                    let left = share.saturating_sub(nanos_since(rt, begin)?);
+                    let bench = Bench {
+                        rt,
+                        pool: Pool::new(threads, limits, NoGate),
+                        way: Way::Soak(rounds, left),
+                    };
+                    for nanos in play::<Turns, H>(&bench, kind)? {
+                        rounds = rounds.saturating_add(1);
+                        worst = worst.max(nanos);
+                    }
+                    if share <= nanos_since(rt, begin)? {
+                        break;
+                    }
+                }
+            }
+        }
+        if 0 < seconds {
+            print(rt, kind, rounds, worst / 1000)?;
+        }
+    }
+    Ok(())
+}
+
+// Prints a kind's line. The system counts the memory in pages of 4 kB.
+fn print<H: Machine>(rt: &H, kind: &'static str, rounds: u64, worst: u64) -> Ended {
+    let text = fs::read_to_string(rt, "/proc/self/statm")?;
+    let pages = text.as_str().split(' ').nth(1).unwrap_or("0");
+    let memory = pages.parse::<u64>().unwrap_or(0).saturating_mul(4);
+    println!(rt; "{kind}: {rounds} rounds, the longest took {worst} us, {memory} kB of memory")?;
+    Ok(())
+}
