@@ -15,6 +15,6 @@ pub use Rattle.spindle_parts.proofs.GatheredLists
 pub use Rattle.spindle_parts.proofs.ListChunks
 pub use Rattle.spindle_parts.proofs.ListRuns
 pub use Rattle.spindle_parts.proofs.StripLists
-pub use Rattle.spindle_trays.proofs.ChunkRounds
-pub use Rattle.spindle_trays.proofs.Outputs
-pub use Rattle.spindle_trays.proofs.Reports
+pub use Rattle.spindle_locks.proofs.ChunkRounds
+pub use Rattle.spindle_locks.proofs.Outputs
+pub use Rattle.spindle_locks.proofs.Reports

@@ -1,7 +1,7 @@
 -- What contracts see of the leader of a lock with slots, or in place. Its state is hidden behind a type P:
 -- what is known of the seat in it is told by a function of P.
 --
--- Its rounds promise the same four things as those of a lock with trays, which Leaders of the crate spindle_trays names.
+-- Its rounds promise the same four things as those of a lock with trays, which Leaders of the crate spindle_locks names.
 --
 -- clause          word         sentence
 -- answer, updated  AllZip       an Ok answers the items: an output for each, in their order, or what became of it in its place
@@ -14,9 +14,9 @@ use Rattle.std.specs.Prelude.{◌≡◌, ◌≤◌, ℕ, min, OnOk, OnErr, IsOk,
 use Rattle.spindle_parts.specs.declared.fault.Fault.{Fault}
 use Rattle.spindle_parts.specs.declared.fault.Fault.TheVariants.{Memory}
 use Rattle.spindle_parts.specs.declared.requests.plays.Account.{Account}
-use Rattle.spindle_threads.specs.Accounts as accounts
-use Rattle.spindle_threads.specs.Signals as signals
-use Rattle.spindle_slots.specs.declared.leader_states.leader_state.LeaderState.{LeaderState}
+use Rattle.spindle_rounds.specs.Accounts as accounts
+use Rattle.spindle_rounds.specs.Signals as signals
+use Rattle.spindle_locks.specs.declared.leader_states.leader_state.LeaderState.{LeaderState}
 use Rattle.spindle.specs.declared.lock.slot_leader.SlotLeader.{SlotLeader}
 use Rattle.spindle_rounds.specs.declared.round_table.view.View.{View}
 use Rattle.spindle_rounds.specs.RoundConditions.{MayFill}

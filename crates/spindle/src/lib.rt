@@ -2,7 +2,7 @@
 //! in the order of the items.
 //!
 //! Here stands what a user names, and the locks whose pieces stand in the slots of the round table, which play their rounds by
-//! `spindle_slots`. The locks whose pieces stand in trays are those of `spindle_trays`.
+//! `spindle_locks`. The locks whose pieces stand in trays are those of `spindle_locks`.
 #![tactic(auto)]
 
 pub mod free;
@@ -22,5 +22,5 @@ pub use spindle_parts::lists::{
     Chunk, EqualIsSame, ListRun, SharedList, Strip, gathered, joined_strips, tell_neighbours,
 };
 pub use spindle_parts::{aarc_imp, cut, numbers, requests, steps};
+pub use spindle_rounds::threads::{DEFAULT_PAUSE_LIMIT, DEFAULT_SPIN_LIMIT};
 pub use spindle_rounds::{barrier, round, round_table};
-pub use spindle_threads::{DEFAULT_PAUSE_LIMIT, DEFAULT_SPIN_LIMIT};

@@ -2,7 +2,7 @@
 //! out here.
 //!
 //! Locks with slots: `slot_root` has how they open and close, `slot_leader` what both kinds of their leader share, `slot_rounds` and
-//! `place_rounds` their rounds, which `spindle_slots` plays, and `nested` how a job opens them. `lock_of` has the calls that open a
+//! `place_rounds` their rounds, which `spindle_locks` plays, and `nested` how a job opens them. `lock_of` has the calls that open a
 //! lock under the name of their kind of job. Locks for one call: `one_round` opens one for a round, `folds` for the total of a list.
 //! `attempts` has the rounds in place that may stop.
 
@@ -27,24 +27,24 @@ pub use self::one_round::{run_one, update_one};
 pub use self::place_rounds::PlaceLeader;
 pub use self::slot_leader::SlotLeader;
 pub use self::slot_root::with_slots;
-pub use spindle_slots::job::update::{InPlace, Update, Updates};
-pub use spindle_slots::leader_states::leader_state::LeaderState;
-pub use spindle_slots::leader_states::opens_slots::{MakesSlots, OpensSlots};
-pub use spindle_slots::pieces::of_kind::{ChunkOf, PieceOf, Reuses};
-pub use spindle_slots::running::in_place::{PlaceLeaderState, PlaysInPlace};
-pub use spindle_slots::running::in_slots::SlotWorkspace;
-pub use spindle_slots::running::over_lists::{PlaysPieces, SlotLeaderState};
-pub use spindle_threads::limits::Limits;
-pub use spindle_trays::job::context::JobCx;
-pub use spindle_trays::job::gate::{Gate, NoGate};
-pub use spindle_trays::job::nest::{End, Nest};
-pub use spindle_trays::job::{Job, TellsFailures};
-pub use spindle_trays::lock::leader::Leader;
-pub use spindle_trays::lock::nested::Under;
-pub use spindle_trays::lock::pool::Pool;
-pub use spindle_trays::lock::root::with_lock;
-pub use spindle_trays::lock::rounds::{ChunkRounds, RunsRounds};
-pub use spindle_trays::lock::workspace::{Opens, Workspace};
-pub use spindle_trays::pieces::finished::Finished;
-pub use spindle_trays::pieces::gathering::gather;
-pub use spindle_trays::pieces::report::Report;
+pub use spindle_locks::job::context::JobCx;
+pub use spindle_locks::job::gate::{Gate, NoGate};
+pub use spindle_locks::job::nest::{End, Nest};
+pub use spindle_locks::job::update::{InPlace, Update, Updates};
+pub use spindle_locks::job::{Job, TellsFailures};
+pub use spindle_locks::leader_states::leader_state::LeaderState;
+pub use spindle_locks::leader_states::opens_slots::{MakesSlots, OpensSlots};
+pub use spindle_locks::lock::leader::Leader;
+pub use spindle_locks::lock::nested::Under;
+pub use spindle_locks::lock::pool::Pool;
+pub use spindle_locks::lock::root::with_lock;
+pub use spindle_locks::lock::rounds::{ChunkRounds, RunsRounds};
+pub use spindle_locks::lock::workspace::{Opens, Workspace};
+pub use spindle_locks::pieces::finished::Finished;
+pub use spindle_locks::pieces::gathering::gather;
+pub use spindle_locks::pieces::of_kind::{ChunkOf, PieceOf, Reuses};
+pub use spindle_locks::pieces::report::Report;
+pub use spindle_locks::running::in_place::{PlaceLeaderState, PlaysInPlace};
+pub use spindle_locks::running::in_slots::SlotWorkspace;
+pub use spindle_locks::running::over_lists::{PlaysPieces, SlotLeaderState};
+pub use spindle_rounds::threads::limits::Limits;

@@ -3,8 +3,8 @@ use Rattle.std.specs.Prelude.{◌≡◌, ◌≢◌, ℕ, ◌+◌, ◌∷◌, fal
 use mathlib.Core.Option.{some}
 use lib.ListN.{get_elem?}
 use Rattle.std.specs.List.{Contains}
-use Rattle.spindle_trays.specs.declared.lock.leader.Leader.{Leader}
-use Rattle.spindle_trays.specs.Leaders.{view_of}
+use Rattle.spindle_locks.specs.declared.lock.leader.Leader.{Leader}
+use Rattle.spindle_locks.specs.Leaders.{view_of}
 use Rattle.spindle_rounds.specs.declared.round_table.view.View.{View}
 use Rattle.spindle_rounds.specs.RoundShown.{Began, Showed, deeds_of}
 use Rattle.spindle_rounds.specs.RoundSlots.{Discipline}

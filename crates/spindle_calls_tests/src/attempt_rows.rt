@@ -5,7 +5,7 @@ ghost use Rattle.std.specs.Prelude.{◌≡◌, min};
 use crate::checks::{are, holds, is};
 use crate::leaders::{Led, LedBy, Runs, in_place};
 use spindle::prelude::*;
-use spindle_trays_tests::jobs::{Calls, Counting};
+use spindle_locks_tests::jobs::{Calls, Counting};
 
 // The less of a number and seven; seven is a failure.
 struct BelowSeven;

@@ -7,7 +7,7 @@ use crate::checks::{are, is};
 use crate::leaders::Runs;
 use spindle::prelude::*;
 use spindle::with_lock;
-use spindle_trays_tests::jobs::Square;
+use spindle_locks_tests::jobs::Square;
 
 // Rounds into one list, whose memory serves again.
 fn square_into<R: RunsRounds<Square>, H: Runs>(

@@ -3,7 +3,7 @@
 ghost use Rattle.std.specs.Prelude.{◌≡◌, ◌+◌, ◌*◌, ◌<◌, ◌≤◌, IfOk, OnOk, map, vec_len};
 ghost use Rattle.std.specs.List.{AllZip};
 ghost use Rattle.std.proofs.Common.{rules};
-ghost use Rattle.spindle_trays.specs.Rounds.{job_count};
+ghost use Rattle.spindle_locks.specs.Rounds.{job_count};
 ghost use Rattle.spindle_calls_tests.specs.Callers.{IsFunction, PublishedTwice, JobsDiffer};
 
 use crate::chunks::AddOne;

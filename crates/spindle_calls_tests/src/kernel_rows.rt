@@ -9,7 +9,7 @@ use crate::chunks::LastOdd;
 use crate::leaders::{Led, LedBy, Runs, in_place};
 use spindle::lock::Combine;
 use spindle::prelude::*;
-use spindle_trays_tests::jobs::{Calls, Counting};
+use spindle_locks_tests::jobs::{Calls, Counting};
 
 // A number, but no more than one that is borrowed.
 #[derive(Drop)]

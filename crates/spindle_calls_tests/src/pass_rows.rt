@@ -5,7 +5,7 @@ ghost use Rattle.std.specs.Prelude.{◌≡◌, ◌==◌, min};
 use crate::checks::{are, is};
 use crate::leaders::{Led, LedBy, Runs, in_place};
 use spindle::prelude::*;
-use spindle_trays_tests::jobs::{Calls, Counting};
+use spindle_locks_tests::jobs::{Calls, Counting};
 
 // Each value becomes the least of itself and its neighbours, until none changes.
 #[derive(Drop)]

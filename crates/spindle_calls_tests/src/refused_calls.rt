@@ -10,7 +10,7 @@ use crate::chunks::{Halve, LastOdd};
 use crate::sevens::{are_seven_squares, seven_items};
 use spindle::prelude::*;
 use spindle::{with_lock, with_slots};
-use spindle_trays_tests::jobs::{Calls, Counting, Square};
+use spindle_locks_tests::jobs::{Calls, Counting, Square};
 
 #[test]
 fn refused_call_of_one_round_has_run_no_job(rt: HostRuntime) -> Result<(), Fault> {

@@ -4,7 +4,7 @@ ghost use Rattle.spindle_calls_tests.specs.Halves.{IsHalf};
 use crate::checks::{are, holds, is};
 use crate::leaders::{Led, LedBy, Runs, in_place};
 use spindle::prelude::*;
-use spindle_trays_tests::jobs::{Calls, Counting};
+use spindle_locks_tests::jobs::{Calls, Counting};
 use std::process::Abort;
 
 // Halves an even number, or fails with an odd one.

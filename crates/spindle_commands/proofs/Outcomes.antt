@@ -6,9 +6,9 @@ use Rattle.std.specs.List.{AllZip}
 use Rattle.std.specs.List.Sorted.{IsStrictlyIncreasing}
 use Rattle.std.proofs.lemmas.List.{length-map, get_or-map, take-map, drop-map}
 use Rattle.spindle_parts.specs.Pieces.{counted}
-use Rattle.spindle_trays.specs.PieceRuns.{piece_at, piece_start}
-use Rattle.spindle_trays.specs.Reports.{numbers_of, IsAnswered, HasFailed, IsReport}
-use Rattle.spindle_trays.specs.declared.pieces.report.Report.{Report}
+use Rattle.spindle_locks.specs.PieceRuns.{piece_at, piece_start}
+use Rattle.spindle_locks.specs.Reports.{numbers_of, IsAnswered, HasFailed, IsReport}
+use Rattle.spindle_locks.specs.declared.pieces.report.Report.{Report}
 use Rattle.spindle_commands.specs.Faults.{Tells, HasBad, IsOutcome}
 use Rattle.spindle_commands.specs.declared.faults.Outcome.{Outcome}
 

@@ -3,7 +3,7 @@ use Rattle.std.specs.Prelude.{◌≡◌, ◌↔◌, ◌⊎◌, ℕ, Bool, [], �
 use Rattle.std.specs.List.{Any, Contains}
 use Rattle.std.specs.List.Sorted.{IsStrictlyIncreasing}
 use Rattle.spindle_parts.specs.Pieces.{counted}
-use Rattle.spindle_trays.specs.PieceRuns.{piece_at}
+use Rattle.spindle_locks.specs.PieceRuns.{piece_at}
 use Rattle.spindle_commands.specs.declared.faults.Outcome.{Outcome}
 
 -- a number that stands before the one that fails is told as failed just where it is that one

@@ -2,8 +2,8 @@
 ghost use Rattle.std.specs.Prelude.{◌≡◌, ◌↔◌, ◌<◌, IfOk, IsTrue, map, vec_len};
 ghost use Rattle.std.proofs.Common.{rules};
 ghost use Rattle.spindle_parts.specs.Pieces.{counted};
-ghost use Rattle.spindle_trays.specs.Reports.{IsReport, numbers_of};
-ghost use Rattle.spindle_trays.specs.Rounds.{job_count};
+ghost use Rattle.spindle_locks.specs.Reports.{IsReport, numbers_of};
+ghost use Rattle.spindle_locks.specs.Rounds.{job_count};
 ghost use Rattle.spindle_commands.specs.Faults.{IsOutcome, Tells};
 
 use crate::squares::{RoundPlan, numbers_below};

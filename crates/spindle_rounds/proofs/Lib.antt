@@ -33,3 +33,7 @@ pub mod SlotLoops
 pub mod KeptLeftovers
 pub mod Leftovers
 pub mod SlotHands
+mod SpareSeats
+mod Helpers
+pub mod Leaving
+mod Waits

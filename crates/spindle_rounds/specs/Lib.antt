@@ -31,3 +31,17 @@ pub mod SlotLoops
 pub mod Leftovers
 pub mod SlotHands
 pub mod DetachedParties
+pub mod ThreadCounts
+pub mod Opening
+pub mod Members
+pub mod Signals
+pub mod Accounts
+pub mod Helpers
+pub mod Waits
+pub mod SlotMembers
+pub mod SpareSeats
+-- Those of the crate below that its public clauses name.
+pub use Rattle.spindle_parts.specs.Ledger
+pub use Rattle.spindle_parts.specs.LedgerSeats
+pub use Rattle.spindle_parts.specs.LedgerSteps
+pub use Rattle.spindle_parts.specs.ThreadNumbers

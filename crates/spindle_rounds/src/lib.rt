@@ -1,5 +1,6 @@
 //! The rounds of a fork-join lock: the table of atomic words that threads change at once, the barrier that parties join and
-//! leave in mid-round, and the calls by which a leader publishes numbered jobs and each party claims and finishes them.
+//! leave in mid-round, the calls by which a leader publishes numbered jobs and each party claims and finishes them, and what the
+//! threads of a lock do between rounds.
 //!
 //! Nothing here knows what a job is: a piece of a round is whatever has a number.
 #![tactic(auto)]
@@ -7,3 +8,4 @@
 pub mod barrier;
 pub mod round;
 pub mod round_table;
+pub mod threads;

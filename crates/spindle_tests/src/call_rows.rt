@@ -5,8 +5,8 @@ use crate::nested::inner_rounds::Playing;
 use crate::staying::{Staying, all_see, each_ran};
 use spindle::lock::Nest;
 use spindle::prelude::*;
-use spindle_trays_tests::jobs::{Calls, Counting};
-use spindle_trays_tests::rounds::Seen;
+use spindle_locks_tests::jobs::{Calls, Counting};
+use spindle_locks_tests::rounds::Seen;
 use std::process::Abort;
 
 // The jobs that are asked for over ten numbers in a pool of three threads, those that run, and the threads of their lock.

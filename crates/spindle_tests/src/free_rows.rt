@@ -5,7 +5,7 @@ use crate::checks::{are, holds, is};
 use crate::sevens::{are_seven_squares, seven_items};
 use spindle::prelude::*;
 use spindle::{for_each, for_each_raw};
-use spindle_trays_tests::gates::{Meeting, Meetings};
+use spindle_locks_tests::gates::{Meeting, Meetings};
 use std::process::Abort;
 use std::sync::atomic::{AtomicUsize, Ordering};
 use std::thread::available_parallelism;

@@ -7,8 +7,8 @@ ghost use Rattle.std.specs.Prelude.{◌<◌, ◌≤◌};
 use crate::checks::{holds, is};
 use crate::sevens::seven_items;
 use spindle::prelude::*;
-use spindle_trays_tests::gates::Meetings;
-use spindle_trays_tests::jobs::{Calls, Counting};
+use spindle_locks_tests::gates::Meetings;
+use spindle_locks_tests::jobs::{Calls, Counting};
 use std::process::Abort;
 
 /// Adds 3 to a number, modulo 2^64.

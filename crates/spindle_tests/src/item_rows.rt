@@ -7,7 +7,7 @@ use crate::checks::holds;
 use crate::marks::{Marks, Noted, Noting, Taking, noted_items};
 use crate::rounds::rounds_in_slots;
 use spindle::prelude::*;
-use spindle_trays_tests::rounds::rounds_of;
+use spindle_locks_tests::rounds::rounds_of;
 use std::sync::Arc;
 
 /// Notes that its item is run, which stays as it is.

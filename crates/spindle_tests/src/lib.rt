@@ -1,5 +1,5 @@
 //! Tests of locks of each kind: rows of inputs with the outputs that they must give, or with what a refused allocation leaves. Most
-//! that need trays alone stand in `spindle_trays_tests`.
+//! that need trays alone stand in `spindle_locks_tests`.
 //!
 //! All of it is read with the tests alone, so that it is proved once.
 #![tactic(auto)]

@@ -4,7 +4,7 @@ ghost use Rattle.std.specs.Cmp.Rules.{comparing};
 ghost use Rattle.std.proofs.Common.{rules};
 
 use spindle::prelude::*;
-use spindle_trays_tests::gates::await_turn;
+use spindle_locks_tests::gates::await_turn;
 use std::marker::Model;
 use std::sync::Arc;
 use std::sync::atomic::{AtomicUsize, Ordering};

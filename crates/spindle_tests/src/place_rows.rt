@@ -8,8 +8,8 @@ use crate::checks::{holds, is};
 use crate::rounds::rounds_in_slots;
 use crate::staying::{Staying, all_see, each_ran, runs_of};
 use spindle::prelude::*;
-use spindle_trays_tests::gates::Meetings;
-use spindle_trays_tests::rounds::{Seen, rounds_of};
+use spindle_locks_tests::gates::Meetings;
+use spindle_locks_tests::rounds::{Seen, rounds_of};
 use std::process::Abort;
 
 // Where the jobs of so many rounds run, over so many items, and what their leader sees. A lock with slots has a slot a job.

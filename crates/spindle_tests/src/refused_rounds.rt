@@ -9,7 +9,7 @@ use crate::checks::{are, holds, is};
 use crate::lists::{Length, are_three_numbers, seven_clones, six_clones, three_numbers};
 use spindle::prelude::*;
 use spindle::with_lock;
-use spindle_trays_tests::jobs::{Calls, Counting, Square};
+use spindle_locks_tests::jobs::{Calls, Counting, Square};
 use std::process::Abort;
 use std::sync::atomic::{AtomicUsize, Ordering};
 

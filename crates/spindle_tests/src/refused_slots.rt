@@ -11,7 +11,7 @@ use crate::lists::{Length, are_three_numbers, seven_clones, three_numbers};
 use crate::refused_rounds::answered;
 use spindle::prelude::*;
 use spindle::with_slots;
-use spindle_trays_tests::jobs::{Calls, Counting, Square};
+use spindle_locks_tests::jobs::{Calls, Counting, Square};
 use std::process::Abort;
 use std::sync::atomic::{AtomicUsize, Ordering};
 

@@ -5,7 +5,7 @@ ghost use denote.Param.Send.{IsSync};
 use spindle::lock::{Nest, PlaysPieces};
 use spindle::prelude::*;
 use spindle::with_slots;
-use spindle_trays_tests::rounds::Seen;
+use spindle_locks_tests::rounds::Seen;
 
 /// What `rounds_of` answers, by rounds in one lock with so many slots.
 pub fn rounds_in_slots<J: Job + Send, G: Gate + Sync, H: Threads + Wait + Sync>(

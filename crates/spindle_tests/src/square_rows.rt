@@ -10,8 +10,8 @@ use crate::rounds::rounds_in_slots;
 use spindle::lock::Opens;
 use spindle::prelude::*;
 use spindle::with_lock;
-use spindle_trays_tests::jobs::{Calls, Counting, Idle, Square};
-use spindle_trays_tests::rounds::rounds_of;
+use spindle_locks_tests::jobs::{Calls, Counting, Idle, Square};
+use spindle_locks_tests::rounds::rounds_of;
 use std::process::Abort;
 
 // The threads of a pool and how many helpers it may start, how they idle (pauses in all, and a turn), and so many rounds of a lock:

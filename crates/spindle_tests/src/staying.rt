@@ -4,7 +4,7 @@ ghost use Rattle.std.proofs.Common.{rules};
 ghost use denote.Param.Send.{IsSync};
 
 use spindle::prelude::*;
-use spindle_trays_tests::rounds::Seen;
+use spindle_locks_tests::rounds::Seen;
 use std::hint::spin_loop;
 
 /// How often rounds are played until each thread runs a job.

@@ -8,7 +8,7 @@ use crate::kernels::dividing::{Branch, Dividing, answers_to};
 use crate::kernels::held::Again;
 use crate::kernels::tasks::PIECES;
 use crate::prelude::*;
-use spindle_trays::lock::leader::MOST_JOBS;
+use spindle_locks::lock::leader::MOST_JOBS;
 
 /// The answer to a problem that the kernel divides: it is split level by level, until there are some parts a thread; these are solved;
 /// and answers are joined level by level. Each level is a round of one lock, which is opened for them, so splits, solutions and

@@ -7,7 +7,7 @@ use crate::kernels::held::Again;
 use crate::kernels::passing::Passing;
 use crate::kernels::tasks::PIECES;
 use crate::prelude::*;
-use spindle_trays::lock::leader::MOST_JOBS;
+use spindle_locks::lock::leader::MOST_JOBS;
 
 /// What came of passes over a list.
 #[derive(Drop)]

@@ -3,8 +3,8 @@ ghost use Rattle.std.specs.Prelude.{◌≡◌, ◌≤◌, None, true, false, vec
 ghost use Rattle.std.specs.List.{AllZip};
 
 use crate::prelude::*;
-use spindle_trays::pieces::tally::has_failure;
-use spindle_trays::running::runner::run_each;
+use spindle_locks::pieces::tally::has_failure;
+use spindle_locks::running::runner::run_each;
 use std::sync::Arc;
 use std::sync::atomic::{AtomicBool, Ordering};
 

@@ -13,9 +13,9 @@ ghost use Rattle.spindle.specs.Attempts.{AreAttempts, HasFailed, HasRun, IsAttem
 
 use crate::kernels::change_each;
 use crate::prelude::*;
+use spindle_locks::job::nest::Nest;
+use spindle_locks::pieces::tally::has_failure;
 use spindle_parts::cut::{Piece, cut};
-use spindle_trays::job::nest::Nest;
-use spindle_trays::pieces::tally::has_failure;
 use std::marker::PhantomData;
 use std::sync::Arc;
 use std::sync::atomic::AtomicBool;

@@ -1,21 +1,21 @@
 //! The locks of a kind of job, by its name: each call opens one, and names no type but that kind.
 ghost use Rattle.std.specs.Prelude.{◌≡◌, ◌<◌, ◌≤◌, IfOk, OnErr, IsErrOf};
 ghost use Rattle.std.specs.Fn.{FnOnceReturnsAtMut};
-ghost use Rattle.spindle_threads.specs.ThreadCounts.{lock_threads};
-ghost use Rattle.spindle_trays.specs.Leaders.{workers_of, threads_of as tray_threads};
+ghost use Rattle.spindle_rounds.specs.ThreadCounts.{lock_threads};
+ghost use Rattle.spindle_locks.specs.Leaders.{workers_of, threads_of as tray_threads};
 ghost use Rattle.spindle.specs.SlotLeaders.{TakesLeaders, IsLeaderOf};
 
 use crate::lock::nested::UnderPieces;
 use crate::lock::{nested, slot_root};
 use crate::prelude::*;
+use spindle_locks::job::nest::Nest;
+use spindle_locks::job::update::Updates;
+use spindle_locks::leader_states::opens_slots::MakesSlots;
+use spindle_locks::lock::root;
+use spindle_locks::lock::workspace::Opens;
+use spindle_locks::pieces::of_kind::{ChunkOf, PieceOf};
+use spindle_locks::running::in_slots::SlotWorkspace;
 use spindle_rounds::round_table::pieces::PieceSlots;
-use spindle_slots::job::update::Updates;
-use spindle_slots::leader_states::opens_slots::MakesSlots;
-use spindle_slots::pieces::of_kind::{ChunkOf, PieceOf};
-use spindle_slots::running::in_slots::SlotWorkspace;
-use spindle_trays::job::nest::Nest;
-use spindle_trays::lock::root;
-use spindle_trays::lock::workspace::Opens;
 use std::marker::PhantomData;
 
 /// The locks over jobs of kind J, as in `LockOf::<Bill>::with_slots(rt, alloc, pool, threads, slots, |leader| ..)`. No value of it is

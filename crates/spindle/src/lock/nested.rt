@@ -3,30 +3,30 @@
 ghost use Rattle.std.specs.Prelude.{◌≡◌, ◌<◌, ◌≤◌, IfOk, OnErr, IsErrOf, All};
 ghost use Rattle.std.specs.Arc.{arc_value};
 ghost use Rattle.std.specs.Fn.{FnOnceReturnsAtMut};
-ghost use Rattle.spindle_threads.specs.SpareSeats.{AreSpareSeatsAt};
-ghost use Rattle.spindle_threads.specs.Opening.{AreSeatsAt};
-ghost use Rattle.spindle_threads.specs.ThreadCounts.{lock_threads};
+ghost use Rattle.spindle_rounds.specs.SpareSeats.{AreSpareSeatsAt};
+ghost use Rattle.spindle_rounds.specs.Opening.{AreSeatsAt};
+ghost use Rattle.spindle_rounds.specs.ThreadCounts.{lock_threads};
 ghost use Rattle.spindle.specs.SlotLeaders.{TakesLeaders, IsLeaderOf, WasLed};
 
 use crate::lock::slot_root::make;
 use crate::prelude::*;
-use spindle_rounds::round_table::pieces::{PieceKind, PieceSlots};
-use spindle_slots::leader_states::leader_state::{LeaderSeats, SlotShare};
-use spindle_slots::leader_states::opens_slots::MakesSlots;
-use spindle_slots::pieces::of_kind::{ChunkOf, PieceOf};
-use spindle_slots::running::in_slots::{RunsPieces, SlotWorkspace};
-use spindle_threads::ThreadCounts;
-use spindle_threads::limits::Idling;
-use spindle_threads::seats::{Seats, SpareSeats};
-use spindle_threads::signals::Signals;
-use spindle_threads::tables::Tables;
-use spindle_trays::job::context::{child_slots_for, site_of};
-use spindle_trays::job::nest::{IsNest, Nest};
-use spindle_trays::lock::helper::join_as_leader;
-use spindle_trays::lock::nested::{
+use spindle_locks::job::context::{child_slots_for, site_of};
+use spindle_locks::job::nest::{IsNest, Nest};
+use spindle_locks::leader_states::leader_state::{LeaderSeats, SlotShare};
+use spindle_locks::leader_states::opens_slots::MakesSlots;
+use spindle_locks::lock::helper::join_as_leader;
+use spindle_locks::lock::nested::{
     Child, ChildLease, ChildSlot, TakesHelpers, close, help_from, make_child_slots,
     serve_child_slots,
 };
+use spindle_locks::pieces::of_kind::{ChunkOf, PieceOf};
+use spindle_locks::running::in_slots::{RunsPieces, SlotWorkspace};
+use spindle_rounds::round_table::pieces::{PieceKind, PieceSlots};
+use spindle_rounds::threads::ThreadCounts;
+use spindle_rounds::threads::limits::Idling;
+use spindle_rounds::threads::seats::{Seats, SpareSeats};
+use spindle_rounds::threads::signals::Signals;
+use spindle_rounds::threads::tables::Tables;
 use std::marker::PhantomData;
 use std::sync::Arc;
 

@@ -1,17 +1,17 @@
 //! One round in a lock of its own, with trays or in place: for callers who run one list, and no other in the same lock.
 ghost use Rattle.std.specs.Prelude.{◌≡◌, ◌<◌, ◌≤◌, IfOk, IfErr, OnErr, IsErrOf, vec_len};
 ghost use Rattle.std.specs.List.{AllZip};
-ghost use Rattle.spindle_trays.specs.Leaders.{workers_of};
-ghost use Rattle.spindle_threads.specs.ThreadCounts.{lock_threads};
+ghost use Rattle.spindle_locks.specs.Leaders.{workers_of};
+ghost use Rattle.spindle_rounds.specs.ThreadCounts.{lock_threads};
 ghost use Rattle.spindle.specs.OneRound.{asked_jobs};
 ghost use Rattle.spindle.specs.SlotLeaders.{IsForMemory};
-ghost use Rattle.spindle_trays.specs.Rounds.{job_count, IsRefusal};
+ghost use Rattle.spindle_locks.specs.Rounds.{job_count, IsRefusal};
 
 use crate::prelude::*;
-use spindle_slots::job::update::Updates;
-use spindle_trays::job::nest::Nest;
-use spindle_trays::lock::leader::MOST_JOBS;
-use spindle_trays::lock::root::with_lock;
+use spindle_locks::job::nest::Nest;
+use spindle_locks::job::update::Updates;
+use spindle_locks::lock::leader::MOST_JOBS;
+use spindle_locks::lock::root::with_lock;
 
 /// Opens a lock over jobs of kind J, runs the items in one round of `n_jobs` jobs, and closes the lock. Where `n_jobs` is 0,
 /// there are as many jobs as the pool has threads. Outputs stand in the order of the items, as those of a leader's `for_each`.

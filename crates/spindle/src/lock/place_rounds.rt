@@ -6,8 +6,8 @@ ghost use Rattle.spindle.specs.SlotLeaders.{lock_slots, slot_jobs, threads_of, G
 
 use crate::kernels::PIECES;
 use crate::prelude::*;
-use spindle_slots::job::update::Updates;
-use spindle_slots::running::in_place::{PlaceLeaderState, PlaysInPlace};
+use spindle_locks::job::update::Updates;
+use spindle_locks::running::in_place::{PlaceLeaderState, PlaysInPlace};
 
 /// The leader of a lock whose rounds update items of the kind M in place, lent to the closure that the lock was opened for.
 pub type PlaceLeader<'a, M, G> = SlotLeader<'a, InPlace<M>, G, PlaceLeaderState<InPlace<M>>>;

@@ -6,11 +6,11 @@ ghost use Rattle.std.specs.Prelude.{◌≡◌, ◌<◌, ◌≤◌, IsNone};
 ghost use Rattle.spindle.specs.SlotLeaders.{threads_of, AnnouncedRest, IsAsBefore};
 
 use crate::prelude::*;
-use spindle_slots::leader_states::opens_slots::OpensSlots;
-use spindle_slots::running::over_lists::SlotLeaderState;
-use spindle_threads::ThreadCounts;
-use spindle_trays::lock::nested::Leads;
-use spindle_trays::running::runner::Runner;
+use spindle_locks::leader_states::opens_slots::OpensSlots;
+use spindle_locks::lock::nested::Leads;
+use spindle_locks::running::over_lists::SlotLeaderState;
+use spindle_locks::running::runner::Runner;
+use spindle_rounds::threads::ThreadCounts;
 use std::marker::PhantomData;
 
 /// The leader of a lock with slots over jobs of kind J, lent to the closure that the lock was opened for.

@@ -10,8 +10,8 @@ ghost use Rattle.spindle_parts.specs.declared.fault.Fault.TheVariants.{Memory};
 ghost use Rattle.spindle.specs.SlotLeaders.{threads_of, slots_of, slot_jobs, GoesOn, IsAsBefore, IsBetweenRounds, IsForMemory, PlayedAs, PlayedOnce};
 
 use crate::prelude::*;
-use spindle_slots::pieces::items::{FillsSlots, Items, Numbers};
-use spindle_slots::running::over_lists::PlaysPieces;
+use spindle_locks::pieces::items::{FillsSlots, Items, Numbers};
+use spindle_locks::running::over_lists::PlaysPieces;
 use std::mem;
 
 impl<'a, J: PlaysPieces<P>, G: Gate, P> SlotLeader<'a, J, G, P> {

@@ -9,7 +9,7 @@ use crate::checks::{holds, repeat};
 use crate::staying::{MOST_ROUNDS, STAY, Staying, all_see, each_ran};
 use spindle::lock::Nest;
 use spindle::prelude::*;
-use spindle_trays_tests::rounds::{Seen, rounds_of};
+use spindle_locks_tests::rounds::{Seen, rounds_of};
 use std::process::Abort;
 
 /// Plays rounds of so many jobs until each runs in a thread of its own. Answers where those of the last round ran.

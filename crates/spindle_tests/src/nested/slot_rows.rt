@@ -11,7 +11,7 @@ use crate::checks::{holds, is};
 use crate::staying::{MOST_ROUNDS, Staying, all_see, each_ran, stay, turns_of, until_all_run};
 use spindle::lock::Nest;
 use spindle::prelude::*;
-use spindle_trays_tests::rounds::{Seen, rounds_of};
+use spindle_locks_tests::rounds::{Seen, rounds_of};
 use std::process::Abort;
 
 /// The threads of a lock, the jobs of its rounds, and how many rounds are played at most until each thread has run a job.

@@ -1,6 +1,6 @@
 -- The second round begins where the first has ended.
 use Rattle.std.proofs.Common.{ℕ, ◌∙◌, ◌∷◌, false, arith, vec_len}
-use Rattle.spindle_trays.specs.Rounds.{job_count}
+use Rattle.spindle_locks.specs.Rounds.{job_count}
 use Rattle.spindle_rounds.specs.RoundShown.{Showed}
 use Rattle.spindle_rounds.specs.RoundSteps.{round_of}
 use Rattle.spindle_calls_tests.proofs.callers.two_rounds.Goals as goal

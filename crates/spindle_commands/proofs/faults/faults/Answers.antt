@@ -4,8 +4,8 @@ use Rattle.std.specs.Prelude.{IsTrue}
 use Rattle.std.proofs.lemmas.List.{length-map}
 use Rattle.spindle_parts.specs.Pieces.{counted}
 use Rattle.spindle_parts.proofs.Deals.{length-counted}
-use Rattle.spindle_trays.specs.Reports.{IsReport}
-use Rattle.spindle_trays.specs.Rounds.{job_count}
+use Rattle.spindle_locks.specs.Reports.{IsReport}
+use Rattle.spindle_locks.specs.Rounds.{job_count}
 use Rattle.spindle_commands.specs.Faults.{Tells}
 use Rattle.spindle_commands.proofs.Outcomes.{outcome_of}
 use Rattle.spindle_commands.proofs.faults.faults.Goals as goal

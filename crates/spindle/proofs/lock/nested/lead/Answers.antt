@@ -1,6 +1,6 @@
 -- The leader is one of this lock, with its slots.
 use Rattle.std.proofs.Common.{ap, sym, refl, ◌∙◌}
-use Rattle.spindle_threads.specs.declared.tables.ThreadCounts.{ThreadCounts}
+use Rattle.spindle_rounds.specs.declared.threads.tables.ThreadCounts.{ThreadCounts}
 use Rattle.spindle.specs.SlotLeaders.{WasLed}
 use Rattle.spindle.proofs.lock.nested.lead.Goals as goal
 

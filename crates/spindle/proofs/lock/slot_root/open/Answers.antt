@@ -1,7 +1,7 @@
 -- The closure was called with a leader of this lock, with its slots.
 use Rattle.std.proofs.Common.{◌≡◌, ap, ◌∙◌}
-use Rattle.spindle_threads.specs.ThreadCounts.{lock_threads}
-use Rattle.spindle_threads.specs.declared.tables.ThreadCounts.{ThreadCounts}
+use Rattle.spindle_rounds.specs.ThreadCounts.{lock_threads}
+use Rattle.spindle_rounds.specs.declared.threads.tables.ThreadCounts.{ThreadCounts}
 use Rattle.spindle.specs.SlotLeaders.{WasLed}
 use Rattle.spindle.proofs.lock.slot_root.open.Goals as goal
 

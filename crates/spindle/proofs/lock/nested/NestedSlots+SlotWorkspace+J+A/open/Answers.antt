@@ -2,8 +2,8 @@
 use Rattle.std.proofs.Common.{All, ap, sym, subst, ◌∙◌}
 use Rattle.std.specs.Arc.{arc_value}
 use Rattle.spindle_rounds.specs.Seating.{slots_of}
-use Rattle.spindle_threads.specs.SpareSeats.{AreSpareSeatsAt}
-use Rattle.spindle_threads.specs.Opening.{AreSeatsAt}
+use Rattle.spindle_rounds.specs.SpareSeats.{AreSpareSeatsAt}
+use Rattle.spindle_rounds.specs.Opening.{AreSeatsAt}
 use Rattle.spindle.proofs.lock.nested.NestedSlots+SlotWorkspace+J+A.open.Goals as goal
 
 pub invariant_of-nested : goal.invariant_of-nested

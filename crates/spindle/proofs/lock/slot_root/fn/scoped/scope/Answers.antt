@@ -1,6 +1,6 @@
 -- The leader of the closure is one of this lock, with its slots.
 use Rattle.std.proofs.Common.{ap, refl, ◌∙◌}
-use Rattle.spindle_threads.specs.declared.tables.ThreadCounts.{ThreadCounts}
+use Rattle.spindle_rounds.specs.declared.threads.tables.ThreadCounts.{ThreadCounts}
 use Rattle.spindle.specs.SlotLeaders.{WasLed}
 use Rattle.spindle.proofs.lock.slot_root.fn.scoped.scope.Goals as goal
 

@@ -1,0 +1,34 @@
+-- The definitions that contracts of this crate cite.
+pub mod Done
+pub mod Outputs
+pub mod Trays
+pub mod PieceRuns
+pub mod Reports
+pub mod ChunkRounds
+pub mod Leaders
+pub mod Locks
+pub mod Rounds
+pub mod Stops
+pub mod SlotPieces
+pub mod SlotRounds
+pub mod InPlace
+-- Those of the crates below that its public clauses name.
+pub use Rattle.spindle_parts.specs.Pieces
+pub use Rattle.spindle_rounds.specs.Accounts
+pub use Rattle.spindle_rounds.specs.Helpers
+pub use Rattle.spindle_rounds.specs.Holding
+pub use Rattle.spindle_rounds.specs.Leftovers
+pub use Rattle.spindle_rounds.specs.Members
+pub use Rattle.spindle_rounds.specs.Opening
+pub use Rattle.spindle_rounds.specs.PartyWork
+pub use Rattle.spindle_rounds.specs.RoundConditions
+pub use Rattle.spindle_rounds.specs.RoundSteps
+pub use Rattle.spindle_rounds.specs.Seating
+pub use Rattle.spindle_rounds.specs.Signals
+pub use Rattle.spindle_rounds.specs.SlotHands
+pub use Rattle.spindle_rounds.specs.SlotLoops
+pub use Rattle.spindle_rounds.specs.SlotMembers
+pub use Rattle.spindle_rounds.specs.SpareSeats
+pub use Rattle.spindle_rounds.specs.ThreadCounts
+pub use Rattle.spindle_rounds.specs.Working
+pub use Rattle.spindle_rounds.specs.declared.round_table.view.View

@@ -1,4 +1,0 @@
--- The lemmas of this crate.
-mod SlotRounds
-mod SlotMembers
-mod InPlace

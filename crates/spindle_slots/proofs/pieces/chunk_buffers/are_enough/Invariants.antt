@@ -1,7 +1,0 @@
--- The buffers so far are enough.
-use Rattle.std.proofs.Common.{take}
-use Rattle.spindle_slots.specs.InPlace.{HaveCapacity}
-use Rattle.spindle_slots.proofs.pieces.chunk_buffers.are_enough.Given as goal
-
-abbrev pub invariant-loop-buffer : goal.invariant-loop-buffer
-invariant-loop-buffer g l = HaveCapacity l.items (take l.buffer-index l.buffers)

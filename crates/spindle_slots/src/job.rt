@@ -1,3 +1,0 @@
-//! A kind of job that updates items in place.
-
-pub mod update;

@@ -1,8 +1,0 @@
-use Rattle.std.proofs.Common.{rules}
-use Rattle.spindle_threads.proofs.signals.OpenPlaces.close.Goals as goal
-
-pub returns-clause-step : goal.returns-clause-step
-returns-clause-step c = search rules
-
-pub returns-clause-settled : goal.returns-clause-settled
-returns-clause-settled c = search rules

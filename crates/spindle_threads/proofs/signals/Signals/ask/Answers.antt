@@ -1,5 +1,0 @@
-use Rattle.std.proofs.Common.{arith}
-use Rattle.spindle_threads.proofs.signals.Signals.ask.Goals as goal
-
-pub returns-clause-helpers : goal.returns-clause-helpers
-returns-clause-helpers c = omega arith

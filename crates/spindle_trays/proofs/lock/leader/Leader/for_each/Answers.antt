@@ -1,4 +1,0 @@
-use Rattle.spindle_trays.proofs.lock.leader.Leader.for_each.Goals as goal
-
-pub returns-clause-answer : goal.returns-clause-answer
-returns-clause-answer g c = c.in_ok-round_into.ensures.answer

@@ -1,5 +1,0 @@
--- A new tally has noted nothing, whatever is marked.
-use Rattle.spindle_trays_tests.proofs.tray_rows.tallied.Goals as goal
-
-pub tally-requires-clause-fresh : goal.tally-requires-clause-fresh
-tally-requires-clause-fresh g c = c.in_ok-tally.ensures.fresh c.args.left.now
