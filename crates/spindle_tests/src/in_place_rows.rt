@@ -5,6 +5,7 @@
 ghost use Rattle.std.specs.Prelude.{◌<◌, ◌≤◌};
 
 use crate::checks::{holds, is};
+use crate::rounds::rounds_in_place;
 use crate::sevens::seven_items;
 use spindle::prelude::*;
 use spindle_locks_tests::gates::Meetings;
@@ -56,24 +57,45 @@ fn step_often<G: Gate + Sync, H: Threads + Wait + Sync>(
     requires slots { (1 ≤ slots) × (slots ≤ 4294967295) }
     requires jobs { 0 < jobs }
 {
-    LockOf::<InPlace<Step>>::with_slots_in_place(
-        rt,
-        alloc,
-        pool,
-        4,
-        slots,
-        |leader|
-            requires { 0 < jobs }
-        {
-            for _ in 0..rounds {
-                leader.update_each(rt, alloc, jobs, list)?;
-            }
-            Ok::<(), Fault>(())
-        },
-    )?
+    rounds_in_place::<InPlace<Step>, G, H>(rt, alloc, pool, slots, jobs, rounds, list)
 }
 
-// Two hundred rounds: slots, jobs, numbers; and the jobs that they have.
+// A pool's threads; a lock's slots (0: one round has a lock of its own, in one call); the jobs that are asked for, the numbers, and the
+// jobs that a round has.
+type Row = (usize, usize, usize, usize, usize);
+
+// Plays one round, or two hundred of one lock.
+fn play<H: Threads + Wait + Abort + Sync>(rt: &H, alloc: Global, row: Row) -> Result<(), Fault> {
+    let (threads, slots, asked, count, jobs) = row;
+    let calls = Calls::new();
+    let pool = Pool::new(threads.max(1), Limits::new(), Counting { calls: &calls });
+    let (list, rounds) = if slots == 0 {
+        let list = (0..count).collect(alloc)?;
+        (
+            update_one::<InPlace<Step>, _, H>(rt, alloc, &pool, asked, list)?,
+            1,
+        )
+    } else {
+        let mut list = (0..count).collect(alloc)?;
+        step_often(
+            rt,
+            alloc,
+            &pool,
+            slots.min(16),
+            asked.max(1),
+            200,
+            &mut list,
+        )?;
+        (list, 200)
+    };
+    holds(rt, have_stepped(list.as_slice(), count, rounds));
+    let all = jobs.wrapping_mul(rounds);
+    is(rt, calls.in_all(), (all, all));
+    is(rt, calls.of_job(0).0, if jobs > 0 { rounds } else { 0 });
+    Ok(())
+}
+
+// Slots, jobs that are asked for, numbers, and the jobs that each round has.
 const STEPS: [(usize, usize, usize, usize); 12] = [
     (16, 16, 1000, 16),
     (8, 16, 13, 8),
@@ -91,29 +113,25 @@ const STEPS: [(usize, usize, usize, usize); 12] = [
 
 #[test]
 fn two_hundred_rounds_in_place_are_as_a_plain_loop(rt: HostRuntime) -> Result<(), Fault> {
-    let alloc = rt.alloc();
     for (slots, asked, count, jobs) in STEPS {
         for threads in [1, 4] {
-            let calls = Calls::new();
-            let pool = Pool::new(threads, Limits::new(), Counting { calls: &calls });
-            let mut list = (0..count).collect(alloc)?;
-            step_often(
-                &rt,
-                alloc,
-                &pool,
-                slots.max(1).min(16),
-                asked.max(1),
-                200,
-                &mut list,
-            )?;
-            holds(&rt, have_stepped(list.as_slice(), count, 200));
-            is(
-                &rt,
-                calls.in_all(),
-                (jobs.wrapping_mul(200), jobs.wrapping_mul(200)),
-            );
-            is(&rt, calls.of_job(0).0, if jobs > 0 { 200 } else { 0 });
+            play(&rt, rt.alloc(), (threads, slots, asked, count, jobs))?;
         }
+    }
+    Ok(())
+}
+
+// As many jobs as are asked for, or as the pool has threads where none is, and no more than there are items.
+#[test]
+fn one_round_in_place_has_the_jobs_asked_for(rt: HostRuntime) -> Result<(), Fault> {
+    for (threads, asked, count, jobs) in [
+        (4, 3, 7, 3),
+        (4, 0, 7, 4),
+        (1, 0, 7, 1),
+        (4, 9, 7, 7),
+        (4, 3, 0, 0),
+    ] {
+        play(&rt, rt.alloc(), (threads, 0, asked, count, jobs))?;
     }
     Ok(())
 }
@@ -130,35 +148,6 @@ fn jobs_in_place_meet(rt: HostRuntime) -> Result<(), Fault> {
     let mut list = seven_items(alloc)?;
     step_often(&rt, alloc, &meetings.pool(3), 3, 4, 1, &mut list)?;
     is(&rt, meetings.counts(), (3, 0));
-    Ok(())
-}
-
-// As many jobs as are asked for, or as the pool has threads where none is, and no more than there are items.
-#[test]
-fn one_round_in_place_has_the_jobs_asked_for(rt: HostRuntime) -> Result<(), Fault> {
-    let alloc = rt.alloc();
-    for (threads, asked, count, jobs) in [
-        (4usize, 3usize, 7usize, 3usize),
-        (4, 0, 7, 4),
-        (1, 0, 7, 1),
-        (4, 9, 7, 7),
-        (4, 3, 0, 0),
-    ] {
-        let calls = Calls::new();
-        let pool = Pool::new(threads, Limits::new(), Counting { calls: &calls });
-        let items = (0..count).collect(alloc)?;
-        let list = update_one::<InPlace<Step>, _, _>(&rt, alloc, &pool, asked, items)?;
-        holds(&rt, have_stepped(list.as_slice(), count, 1));
-        is(&rt, calls.in_all(), (jobs, jobs));
-    }
-    Ok(())
-}
-
-// One round over seven numbers, in one call.
-fn step_once<H: Threads + Wait + Abort + Sync>(rt: &H, alloc: Global) -> Result<(), Fault> {
-    let pool = Pool::new(4, Limits::new(), NoGate);
-    let list = update_one::<InPlace<Step>, _, _>(rt, alloc, &pool, 3, seven_items(alloc)?)?;
-    holds(rt, have_stepped(list.as_slice(), 7, 1));
     Ok(())
 }
 
@@ -179,8 +168,9 @@ fn refused_rounds_in_place_leave_the_items(rt: HostRuntime) -> Result<(), Fault>
         }
         holds(&rt, 0 < steps);
     }
-    if step_once(&rt, alloc).is_err() {
-        step_once(&rt, alloc)?;
+    let row = (4, 0, 3, 7, 3);
+    if play(&rt, alloc, row).is_err() {
+        play(&rt, alloc, row)?;
     }
     Ok(())
 }

@@ -1,13 +1,12 @@
 //! Rows of which items each job of a round has, with trays, with slots and in place.
 //!
 //! No clause of a round says how it is cut, nor that an item is run once, by a job that has begun and isn't done.
-ghost use Rattle.std.specs.Prelude.{◌<◌, ◌≤◌};
 
 use crate::checks::holds;
 use crate::marks::{Marks, Noted, Noting, Taking, noted_items};
-use crate::rounds::rounds_in_slots;
+use crate::rounds::{rounds_in, rounds_in_place};
 use spindle::prelude::*;
-use spindle_locks_tests::rounds::rounds_of;
+use std::process::Abort;
 use std::sync::Arc;
 
 /// Notes that its item is run, which stays as it is.
@@ -44,67 +43,37 @@ const ROWS: [(usize, &'static [usize]); 8] = [
     (6, &[0]),
 ];
 
-const KINDS: [Kind; 3] = [Kind::Trays, Kind::Slots, Kind::Place];
-
-// Which lock plays the rounds. With slots and in place they have as many jobs as slots, though eleven are asked for.
-#[derive(Clone, Copy)]
-enum Kind {
-    Trays,
-    Slots,
-    Place,
-}
-
-// Plays 25 rounds of so many jobs over the items.
-fn note_often<H: Threads + Wait + Sync>(
+// Plays 25 rounds over as many items, of so many jobs, in a lock in place, with slots, or with trays where it is to have none.
+fn play<H: Threads + Wait + Abort + Sync>(
     rt: &H,
     alloc: Global,
-    pool: &Pool<Taking>,
-    kind: Kind,
-    jobs: usize,
-    items: &mut Vec<Noted>,
-) -> Result<(), Fault>
-    requires { (1 ≤ jobs) × (jobs ≤ 4294967295) }
-{
-    match kind {
-        Kind::Trays => {
-            rounds_of::<Noting, _, _>(rt, alloc, pool, 4, jobs, 25, items)?;
-        }
-        Kind::Slots => {
-            rounds_in_slots::<Noting, _, _>(rt, alloc, pool, jobs, 11, 25, items)?;
-        }
-        Kind::Place => return note_here(rt, alloc, pool, jobs, items),
+    threads: usize,
+    lock: (bool, usize, usize),
+    wanted: &[usize],
+) -> Result<(), Fault> {
+    let (is_in_place, slots, jobs) = (lock.0, lock.1.min(10), lock.2.max(1));
+    let marks = Arc::new(alloc, Marks::new(alloc, wanted.len())?)?;
+    let pool = Pool::new(threads.max(1), Limits::new(), Taking { marks: &*marks });
+    let mut items = noted_items(alloc, &marks, wanted.len())?;
+    if is_in_place {
+        let slots = slots.max(1);
+        rounds_in_place::<InPlace<NotingHere>, _, H>(
+            rt, alloc, &pool, slots, jobs, 25, &mut items,
+        )?;
+    } else {
+        rounds_in::<Noting, _, H>(rt, alloc, &pool, 4, slots, jobs, 25, &items)?;
     }
+    holds(rt, marks.are(wanted, 25));
     Ok(())
 }
 
-fn note_here<H: Threads + Wait + Sync>(
-    rt: &H,
-    alloc: Global,
-    pool: &Pool<Taking>,
-    slots: usize,
-    items: &mut Vec<Noted>,
-) -> Result<(), Fault>
-    requires { (1 ≤ slots) × (slots ≤ 4294967295) }
-{
-    LockOf::<InPlace<NotingHere>>::with_slots_in_place(rt, alloc, pool, 4, slots, |leader| {
-        for _ in 0..25 {
-            leader.update_each(rt, alloc, 11, items)?;
-        }
-        Ok::<(), Fault>(())
-    })?
-}
-
+// With slots and in place rounds have as many jobs as slots, though eleven are asked for.
 #[test]
 fn each_job_has_the_items_of_its_piece(rt: HostRuntime) -> Result<(), Fault> {
-    let alloc = rt.alloc();
     for (jobs, wanted) in ROWS {
         for threads in [1, 4] {
-            for kind in KINDS {
-                let marks = Arc::new(alloc, Marks::new())?;
-                let pool = Pool::new(threads, Limits::new(), Taking { marks: &*marks });
-                let mut items = noted_items(alloc, &marks, wanted.len())?;
-                note_often(&rt, alloc, &pool, kind, jobs.max(1).min(10), &mut items)?;
-                holds(&rt, marks.are(wanted, 25));
+            for lock in [(false, 0, jobs), (false, jobs, 11), (true, jobs, 11)] {
+                play(&rt, rt.alloc(), threads, lock, wanted)?;
             }
         }
     }

@@ -5,8 +5,6 @@
 #![tactic(auto)]
 
 #[cfg(test)]
-mod call_rows;
-#[cfg(test)]
 mod checks;
 #[cfg(test)]
 mod free_rows;
@@ -23,9 +21,9 @@ mod nested;
 #[cfg(test)]
 mod place_rows;
 #[cfg(test)]
-mod refused_rounds;
+mod refused_numbers;
 #[cfg(test)]
-mod refused_slots;
+mod refused_rounds;
 #[cfg(test)]
 mod rounds;
 #[cfg(test)]

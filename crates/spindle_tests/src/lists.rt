@@ -49,26 +49,20 @@ pub fn three_numbers(alloc: Global) -> Result<SharedList<usize>, Fault> {
     Ok(SharedList::from_vec(alloc, numbers)?)
 }
 
-/// Seven clones of a list.
+/// Seven clones of a list; where one is to fail, the third is an empty list in its place.
 pub fn seven_clones(
     alloc: Global,
     list: &SharedList<usize>,
+    fails: bool,
 ) -> Result<Vec<SharedList<usize>>, Fault> {
     let mut items = Vec::with_capacity(alloc, 7)?;
-    for _ in 0..7 {
-        items.push(list.clone()?)?;
-    }
-    Ok(items)
-}
-
-/// Seven such clones, with an empty list in the place of the third.
-pub fn six_clones(
-    alloc: Global,
-    list: &SharedList<usize>,
-) -> Result<Vec<SharedList<usize>>, Fault> {
-    let mut items = seven_clones(alloc, list)?;
-    if let Some(item) = items.get_mut(2) {
-        *item = SharedList::from_vec(alloc, Vec::new(alloc))?;
+    for number in 0..7 {
+        let is_empty = fails && number == 2;
+        items.push(if is_empty {
+            SharedList::from_vec(alloc, Vec::new(alloc))?
+        } else {
+            list.clone()?
+        })?;
     }
     Ok(items)
 }

@@ -12,65 +12,53 @@ use std::sync::atomic::{AtomicUsize, Ordering};
 // No job has begun that isn't done; and no job has had the item.
 const NONE: usize = usize::MAX;
 
-/// What was noted of ten items: the job that has each, and how often it was run; and how often a note was wrong.
+/// What was noted of items: the job that has each, and how often it was run; and how often a note was wrong.
 #[derive(Drop)]
 pub struct Marks {
     running: AtomicUsize,
-    jobs: [AtomicUsize; 10],
-    runs: [AtomicUsize; 10],
+    items: Vec<(AtomicUsize, AtomicUsize)>,
     faults: AtomicUsize,
 }
 
 impl Marks {
-    /// Nothing has run.
-    pub fn new() -> Marks {
-        Marks {
-            running: AtomicUsize::new(NONE),
-            jobs: ten_words(NONE),
-            runs: ten_words(0),
-            faults: AtomicUsize::new(0),
+    /// Nothing has run of so many items.
+    pub fn new(alloc: Global, count: usize) -> Result<Marks, Fault> {
+        let mut items = Vec::with_capacity(alloc, count)?;
+        for _ in 0..count {
+            items.push((AtomicUsize::new(NONE), AtomicUsize::new(0)))?;
         }
+        Ok(Marks {
+            running: AtomicUsize::new(NONE),
+            items,
+            faults: AtomicUsize::new(0),
+        })
     }
 
-    /// Whether these jobs have the first items, each of which was run so often, and no note was wrong: no item was run where no job had
-    /// begun, nor by another job than before, and the gate was called in order.
+    /// Whether these jobs have the items, each of which was run so often, and no note was wrong: no item was run where no job had begun,
+    /// nor by another job than before, and the gate was called in order.
     pub fn are(&self, wanted: &[usize], runs: usize) -> bool {
-        let (jobs, all_runs) = (&self.jobs[..], &self.runs[..]);
-        for item in 0..wanted.len().min(10) {
-            if jobs[item].load(Ordering::SeqCst) != wanted[item]
-                || all_runs[item].load(Ordering::SeqCst) != runs
-            {
+        for (item, job) in self.items.iter().zip(wanted) {
+            if item.0.load(Ordering::SeqCst) != *job || item.1.load(Ordering::SeqCst) != runs {
                 return false;
             }
         }
-        self.faults.load(Ordering::SeqCst) == 0
+        self.items.len() == wanted.len() && self.faults.load(Ordering::SeqCst) == 0
     }
 
     // Notes that an item is run.
     fn note(&self, item: usize) {
-        let (jobs, runs) = (&self.jobs[..], &self.runs[..]);
         let job = self.running.load(Ordering::SeqCst);
-        let before = jobs[item.min(9)].swap(job, Ordering::SeqCst);
-        runs[item.min(9)].fetch_add(1, Ordering::SeqCst);
+        let before = match self.items.get(item) {
+            Some(item) => {
+                item.1.fetch_add(1, Ordering::SeqCst);
+                item.0.swap(job, Ordering::SeqCst)
+            }
+            None => job,
+        };
         if job == NONE || before != NONE && before != job {
             self.faults.fetch_add(1, Ordering::SeqCst);
         }
     }
-}
-
-fn ten_words(value: usize) -> [AtomicUsize; 10] {
-    [
-        AtomicUsize::new(value),
-        AtomicUsize::new(value),
-        AtomicUsize::new(value),
-        AtomicUsize::new(value),
-        AtomicUsize::new(value),
-        AtomicUsize::new(value),
-        AtomicUsize::new(value),
-        AtomicUsize::new(value),
-        AtomicUsize::new(value),
-        AtomicUsize::new(value),
-    ]
 }
 
 /// A gate that lets one job through at a time, so that an item which is run has the job that runs.
@@ -106,11 +94,6 @@ impl Model for Noted {
 }
 
 impl Noted {
-    /// The item of this number, noted there.
-    pub fn new(marks: Arc<Marks>, number: usize) -> Noted {
-        Noted { marks, number }
-    }
-
     /// Notes that it is run.
     pub fn note(&self) {
         let marks: &Marks = &*self.marks;
@@ -118,11 +101,12 @@ impl Noted {
     }
 }
 
-/// The first so many items.
+/// Items of so many numbers, noted there.
 pub fn noted_items(alloc: Global, marks: &Arc<Marks>, count: usize) -> Result<Vec<Noted>, Fault> {
     let mut items = Vec::with_capacity(alloc, count)?;
     for number in 0..count {
-        items.push(Noted::new(marks.clone()?, number))?;
+        let marks = marks.clone()?;
+        items.push(Noted { marks, number })?;
     }
     Ok(items)
 }

@@ -1,4 +1,4 @@
 //! Rows of locks that jobs open: inputs with the outputs that they must give, and what a refused allocation leaves there.
 
-pub mod inner_rounds;
-mod slot_rows;
+mod doubles;
+mod lock_rows;

@@ -1,60 +1,75 @@
 //! Rows of where jobs run, and of threads that are there at once, in locks with trays and in locks with slots.
 //!
 //! No clause says which number a job's thread has, when a thread is there, that helpers run jobs beside their leader, or that as many
-//! start as may and no more. Here jobs that wait for each other meet.
+//! start as may and no more; nor how many jobs a call has that opens a lock for one round, and on how many threads. Here jobs that wait
+//! for each other meet.
 ghost use Rattle.std.specs.Prelude.{◌<◌, ◌≤◌};
 
 use crate::checks::{holds, is};
-use crate::rounds::rounds_in_slots;
+use crate::rounds::rounds_in;
 use crate::staying::{Staying, all_see, each_ran, runs_of};
 use spindle::prelude::*;
 use spindle_locks_tests::gates::Meetings;
-use spindle_locks_tests::rounds::{Seen, rounds_of};
+use spindle_locks_tests::jobs::{Calls, Counting};
+use spindle_locks_tests::rounds::Seen;
 use std::process::Abort;
 
-// Where the jobs of so many rounds run, over so many items, and what their leader sees. A lock with slots has a slot a job.
+// Where the jobs of so many rounds run, over so many items, and what their leader sees. A lock without slots has trays.
 fn places_of<G: Gate + Sync, H: Threads + Wait + Sync>(
     rt: &H,
     alloc: Global,
     pool: &Pool<G>,
-    has_slots: bool,
     most: usize,
+    slots: usize,
     jobs: usize,
     count: usize,
     rounds: usize,
 ) -> Result<(Vec<Seen>, Vec<Seen>), Fault>
     requires most { 0 < most }
-    requires jobs { (1 ≤ jobs) × (jobs ≤ 4294967295) }
+    requires slots { slots ≤ 4294967295 }
+    requires jobs { 0 < jobs }
 {
     let items = Vec::from_elem(alloc, 0, count)?;
-    if has_slots {
-        return rounds_in_slots::<Staying, _, _>(rt, alloc, pool, jobs, jobs, rounds, &items);
-    }
-    rounds_of::<Staying, _, _>(rt, alloc, pool, most, jobs, rounds, &items)
+    rounds_in::<Staying, _, _>(rt, alloc, pool, most, slots, jobs, rounds, &items)
 }
 
-// A hundred rounds in a lock of so many threads at most, of a pool of so many that may start so many helpers: the number that the jobs'
-// thread has, and the threads of the lock. A leader has no number between rounds, and none in a round of one job.
+// A lock's slots (0: it has trays), its pool's threads and how many helpers that may start, threads and jobs that are asked for, and
+// items; the number that the jobs' thread has, and the lock's threads.
+type Row = (
+    usize,
+    usize,
+    usize,
+    usize,
+    usize,
+    usize,
+    Option<usize>,
+    usize,
+);
+
+const ROWS: [Row; 9] = [
+    (0, 4, 0, 16, 1, 2, None, 4),
+    (0, 4, 3, 16, 1, 2, None, 4),
+    (0, 16, 16, 1, 2, 2, Some(0), 1),
+    (0, 16, 0, 16, 8, 1, None, 16),
+    (0, 16, 0, 4, 2, 2, Some(0), 4),
+    (0, 40000, 0, 40000, 1, 1, None, 32767),
+    (0, 1, 1, 1, 1, 1, None, 1),
+    (1, 4, 0, 4, 1, 2, None, 4),
+    (2, 4, 0, 4, 2, 2, Some(0), 4),
+];
+
+// A hundred rounds of one lock. A leader has no number between rounds, and none in a round of one job.
 #[test]
 fn a_leader_has_a_number_in_a_published_round_alone(rt: HostRuntime) -> Result<(), Fault> {
-    for (has_slots, threads, starts, most, jobs, count, number, lock_threads) in [
-        (false, 4usize, 0usize, 16usize, 1usize, 2usize, None, 4usize),
-        (false, 4, 3, 16, 1, 2, None, 4),
-        (false, 16, 16, 1, 2, 2, Some(0), 1),
-        (false, 16, 0, 16, 8, 1, None, 16),
-        (false, 16, 0, 4, 2, 2, Some(0), 4),
-        (false, 40000, 0, 40000, 1, 1, None, 32767),
-        (false, 1, 1, 1, 1, 1, None, 1),
-        (true, 4, 0, 4, 1, 2, None, 4),
-        (true, 4, 0, 4, 2, 2, Some(0), 4),
-    ] {
-        let pool = Pool::with_starts(threads, Limits::new(), NoGate, starts);
+    for (slots, threads, starts, most, jobs, count, number, lock_threads) in ROWS {
+        let pool = Pool::with_starts(threads.max(1), Limits::new(), NoGate, starts);
         is(
             &rt,
             (pool.current_num_threads(), pool.current_thread_index()),
             (threads, None),
         );
-        let (places, after) = places_of(&rt, rt.alloc(), &pool, has_slots, most, jobs, count, 100)?;
+        let (slots, most, jobs) = (slots.min(64), most.max(1), jobs.max(1));
+        let (places, after) = places_of(&rt, rt.alloc(), &pool, most, slots, jobs, count, 100)?;
         let all = count.wrapping_mul(100);
         is(&rt, (places.len(), runs_of(&places, number)), (all, all));
         is(&rt, (after.len(), runs_of(&after, None)), (100, 100));
@@ -69,7 +84,7 @@ fn a_leader_has_a_number_in_a_published_round_alone(rt: HostRuntime) -> Result<(
 fn play<H: Threads + Wait + Abort + Sync>(
     rt: &H,
     alloc: Global,
-    has_slots: bool,
+    most_slots: usize,
     row: (usize, usize, usize),
 ) -> Result<(), Fault> {
     let (threads, starts, rounds) = row;
@@ -77,7 +92,8 @@ fn play<H: Threads + Wait + Abort + Sync>(
     let threads = threads.max(1);
     let jobs = threads.min(starts.wrapping_add(1)).max(1).min(64);
     let pool = Pool::with_starts(threads, Limits::new(), meetings.of_jobs(jobs), starts);
-    let (places, after) = places_of(rt, alloc, &pool, has_slots, threads, jobs, jobs, rounds)?;
+    let slots = jobs.min(most_slots);
+    let (places, after) = places_of(rt, alloc, &pool, threads, slots, jobs, jobs, rounds)?;
     is(rt, meetings.counts(), (jobs.wrapping_mul(rounds), 0));
     is(rt, (after.len(), runs_of(&after, None)), (rounds, rounds));
     holds(rt, each_ran(&places, jobs, rounds));
@@ -96,7 +112,7 @@ fn jobs_of_each_round_meet(rt: HostRuntime) -> Result<(), Fault> {
         (4, 1, 20),
         (4, 2, 20),
     ] {
-        play(&rt, rt.alloc(), false, row)?;
+        play(&rt, rt.alloc(), 0, row)?;
     }
     Ok(())
 }
@@ -104,7 +120,7 @@ fn jobs_of_each_round_meet(rt: HostRuntime) -> Result<(), Fault> {
 #[test]
 fn jobs_in_slots_meet(rt: HostRuntime) -> Result<(), Fault> {
     for row in [(2, 1, 50), (4, 3, 50), (4, 2, 3), (8, 7, 3)] {
-        play(&rt, rt.alloc(), true, row)?;
+        play(&rt, rt.alloc(), 64, row)?;
     }
     Ok(())
 }
@@ -116,9 +132,32 @@ fn jobs_without_threads_of_their_own_cannot_meet(rt: HostRuntime) -> Result<(), 
         let meetings = Meetings::new();
         let jobs = starts.wrapping_add(2).max(1).min(64);
         let pool = Pool::with_starts(threads, Limits::new(), meetings.missed_by(jobs), starts);
-        let (places, _) = places_of(&rt, rt.alloc(), &pool, false, threads, jobs, jobs, 1)?;
+        let (places, _) = places_of(&rt, rt.alloc(), &pool, threads, 0, jobs, jobs, 1)?;
         is(&rt, (places.len(), meetings.counts().0), (jobs, jobs));
         holds(&rt, 0 < meetings.counts().1);
+    }
+    Ok(())
+}
+
+// The jobs that are asked for over ten numbers in a pool of three threads, those that run, and the threads of their lock.
+const ONE_CALL: [(usize, usize, usize); 6] = [
+    (0, 3, 3),
+    (1, 1, 1),
+    (2, 2, 2),
+    (4, 4, 3),
+    (11, 10, 3),
+    (usize::MAX, 10, 3),
+];
+
+#[test]
+fn one_call_has_no_more_threads_than_jobs(rt: HostRuntime) -> Result<(), Fault> {
+    let alloc = rt.alloc();
+    for (asked, jobs, threads) in ONE_CALL {
+        let calls = Calls::new();
+        let pool = Pool::new(3, Limits::new(), Counting { calls: &calls });
+        let places = run_one::<Staying>(&rt, alloc, &pool, asked, vec![in alloc; 0; 10]?)?;
+        is(&rt, (places.len(), calls.in_all()), (10, (jobs, jobs)));
+        holds(&rt, all_see(&places, 1, threads, threads));
     }
     Ok(())
 }

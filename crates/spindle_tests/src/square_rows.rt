@@ -2,11 +2,11 @@
 //!
 //! No clause says that a round ends, however its threads idle and however few of them start, that memory which is there is used, nor that
 //! each job is announced once before it begins and once after it. That outputs stand in order is a clause; here it is seen at numbers.
-ghost use Rattle.std.specs.Prelude.{◌≡◌, ◌<◌};
+ghost use Rattle.std.specs.Prelude.{◌≡◌, ◌<◌, ◌≤◌};
 ghost use Rattle.std.proofs.Common.{rules};
 
 use crate::checks::{are, holds, is, repeat};
-use crate::rounds::rounds_in_slots;
+use crate::rounds::rounds_in;
 use spindle::lock::Opens;
 use spindle::prelude::*;
 use spindle::with_lock;
@@ -88,31 +88,14 @@ fn play<H: Threads + Wait + Abort + Sync>(rt: &H, alloc: Global, row: Row) -> Re
         numbers.push(number)?;
         squares.push((number as u128).wrapping_mul(number as u128))?;
     }
-    let found = squared(rt, alloc, &pool, slots, asked.max(1), rounds, &numbers)?;
+    let (threads, slots, jobs) = (pool.max_num_threads(), slots.min(4294967295), asked.max(1));
+    let (found, _) = rounds_in::<Square, _, _>(
+        rt, alloc, &pool, threads, slots, jobs, rounds, &numbers,
+    )?;
     repeat(rt, &found, &squares, rounds);
     let most = if slots == 0 { count } else { slots.min(count) };
     announced(rt, &calls, asked.min(most), rounds);
     Ok(())
-}
-
-// What the rounds of a lock answer, which has trays where there are no slots.
-fn squared<H: Threads + Wait + Sync>(
-    rt: &H,
-    alloc: Global,
-    pool: &Pool<Counting>,
-    slots: usize,
-    jobs: usize,
-    rounds: usize,
-    numbers: &[usize],
-) -> Result<Vec<u128>, Fault>
-    requires { 0 < jobs }
-{
-    if slots == 0 {
-        let threads = pool.max_num_threads();
-        return Ok(rounds_of::<Square, _, _>(rt, alloc, pool, threads, jobs, rounds, numbers)?.0);
-    }
-    let slots = slots.max(1).min(64);
-    Ok(rounds_in_slots::<Square, _, _>(rt, alloc, pool, slots, jobs, rounds, numbers)?.0)
 }
 
 // Fails the test in which one of so many jobs wasn't announced once in each round, before it and after it.
@@ -142,8 +125,7 @@ fn numbers_are_squared_in_slots(rt: HostRuntime) -> Result<(), Fault> {
     for row in SLOT_ROWS {
         play(&rt, rt.alloc(), row)?;
     }
-    let pool = Pool::new(4, Limits::new(), NoGate);
-    let refused = rounds_in_slots::<Square, _, _>(&rt, rt.alloc(), &pool, 4294967295, 1, 0, &[]);
+    let refused = play(&rt, rt.alloc(), (4, 4, WAIT, 0, 4294967295, 1, 0, 0));
     holds(&rt, matches!(refused, Err(Fault::Memory)));
     Ok(())
 }
