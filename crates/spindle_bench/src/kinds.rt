@@ -34,15 +34,15 @@ impl Input for List {
 }
 
 /// What jobs of a shape do. The number of a job and the numbers of its list, where it has one, tell its values after each round.
-pub trait Task: Send {
+pub trait Task {
     /// What a job over lists is given.
     type In: Input;
 
     /// What it answers.
-    type Out: PartialEq + Drop + Send;
+    type Out: PartialEq + Drop;
 
     /// What is changed in place.
-    type Item: PartialEq + Drop + Send;
+    type Item: PartialEq + Drop;
 
     /// A job over lists.
     fn answer(alloc: Global, input: &Self::In) -> Self::Out;

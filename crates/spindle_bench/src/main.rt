@@ -56,21 +56,30 @@ use crate::timing::{Machine, in_lock, in_place};
 use spindle::prelude::*;
 use std::env;
 
-// Whether POOL and SHAPE ask for rounds of a shape in this kind of lock.
-fn wants<H: Machine>(bench: &Bench<H>, kind: &str, shape: Shape) -> bool {
+// Whether POOL and SHAPE ask for rounds of the shape of this name in this kind of lock.
+fn wants<H: Machine>(bench: &Bench<H>, kind: &str, name: &str) -> bool {
     let (kinds, shapes) = (
         env::var(bench.rt, "POOL").ok(),
         env::var(bench.rt, "SHAPE").ok(),
     );
-    kinds.as_deref().is_none_or(|name| name == kind)
-        && shapes.as_deref().is_none_or(|name| name == shape.name)
+    kinds.as_deref().is_none_or(|it| it == kind) && shapes.as_deref().is_none_or(|it| it == name)
 }
 
-// Runs a shape in each of these kinds of locks that is asked for.
-fn in_each<T: Task, H: Machine>(bench: &Bench<H>, kinds: &[&str], shape: Shape) -> Ended {
+// Runs the shape of this name in each of these kinds of locks that is asked for.
+fn in_each<T: Task + Send, H: Machine>(
+    bench: &Bench<H>,
+    kinds: &[&str],
+    name: &str,
+    shape: Shape,
+) -> Ended
+where
+    T::In: Send + Sync,
+    T::Out: Send,
+    T::Item: Send,
+{
     for kind in kinds {
-        if wants(bench, kind, shape) {
-            print(bench, kind, shape, in_lock::<T, H>(bench, kind, shape)?)?;
+        if wants(bench, kind, name) {
+            print(bench, kind, name, in_lock::<T, H>(bench, kind, shape)?)?;
         }
     }
     Ok(())
@@ -78,17 +87,17 @@ fn in_each<T: Task, H: Machine>(bench: &Bench<H>, kinds: &[&str], shape: Shape) 
 
 // Runs `nested` in place all through, where it is asked for.
 fn in_nested<H: Machine>(bench: &Bench<H>, kind: &str) -> Ended {
-    let nested = shaped("nested", 2, 0, 20);
-    if wants(bench, kind, nested) {
-        let times = in_place::<InPlace<InRounds<InPlace<AddOneToPart>>>, H>(bench, nested)?;
-        print(bench, kind, nested, times)?;
+    if wants(bench, kind, "nested") {
+        let shape = shaped(2, 0, 20);
+        let times = in_place::<InPlace<InRounds<InPlace<AddOneToPart>>>, H>(bench, shape)?;
+        print(bench, kind, "nested", times)?;
     }
     Ok(())
 }
 
-// Prints the line of a shape in this kind of lock.
-fn print<H: Machine>(bench: &Bench<H>, kind: &str, shape: Shape, times: Vec<u64>) -> Ended {
-    let name = match kind {
+// Prints the line of the shape of this name in this kind of lock.
+fn print<H: Machine>(bench: &Bench<H>, kind: &str, name: &str, times: Vec<u64>) -> Ended {
+    let lock = match kind {
         "slots" => "zuflanto",
         "trays" => "zuflanto-trays",
         "place" => "zuflanto-place",
@@ -96,8 +105,8 @@ fn print<H: Machine>(bench: &Bench<H>, kind: &str, shape: Shape, times: Vec<u64>
     };
     let (at, all) = (|at: usize| times.get(at).copied().unwrap_or(0), times.len());
     let (best, median, low, high) = (at(0), at(all / 2), at(all / 10), at(all - all / 10));
-    let (of, threads) = (shape.name, bench.pool.max_num_threads());
-    println!(bench.rt; "{name} {of} {threads} {best} {median} {low} {high}")?;
+    let threads = bench.pool.max_num_threads();
+    println!(bench.rt; "{lock} {name} {threads} {best} {median} {low} {high}")?;
     Ok(())
 }
 
@@ -107,15 +116,18 @@ fn run<H: Machine>(rt: &H, way: Way) -> Ended {
     let kinds = ["slots", "trays", "place"].as_slice();
     let pool = Pool::new(threads, Limits::new(), NoGate);
     let bench = Bench { rt, pool, way };
-    in_each::<Nothing, H>(&bench, kinds, shaped("empty", threads, 0, 100))?;
-    in_each::<Stir, H>(&bench, kinds, shaped("tiny8", 8 * threads, 0, 100))?;
-    in_each::<Stir, H>(&bench, &["trays"], shaped("try8", 8 * threads, 0, 100))?;
+    let stirs = shaped(8 * threads, 0, 100);
+    let mut tries = stirs;
+    tries.may_stop = true;
+    in_each::<Nothing, H>(&bench, kinds, "empty", shaped(threads, 0, 100))?;
+    in_each::<Stir, H>(&bench, kinds, "tiny8", stirs)?;
+    in_each::<Stir, H>(&bench, &["trays"], "try8", tries)?;
     in_nested(&bench, "place")?;
     let pool = Pool::new(threads, Limits::new(), NoGate).with_patience(512);
     in_nested(&Bench { rt, pool, way }, "patient")?;
-    in_each::<AddOne, H>(&bench, kinds, shaped("stencil4k", threads, 4096, 100))?;
-    in_each::<AddOne, H>(&bench, kinds, shaped("stencil256k", threads, 262144, 10))?;
-    in_each::<Square, H>(&bench, kinds, shaped("map", 4 * threads, 4096, 100))
+    in_each::<AddOne, H>(&bench, kinds, "stencil4k", shaped(threads, 4096, 100))?;
+    in_each::<AddOne, H>(&bench, kinds, "stencil256k", shaped(threads, 262144, 10))?;
+    in_each::<Square, H>(&bench, kinds, "map", shaped(4 * threads, 4096, 100))
 }
 
 fn main(rt: HostRuntime) -> Ended {

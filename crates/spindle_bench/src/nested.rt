@@ -58,7 +58,7 @@ impl<J: Placed> Update for InRounds<J> {
         cx: &mut JobCx<UnderPieces<J, ChunkOf<J>>>,
     ) -> Vec<J::Item> {
         let threads = (cx.max_num_threads() / 2).max(1);
-        let shape = shaped("parts", PARTS, 0, 0);
+        let shape = shaped(PARTS, 0, 0);
         let mut series = Places::<J> { shape, items };
         let _played = LockOf::<J>::nested_with_slots_in_place(
             rt,

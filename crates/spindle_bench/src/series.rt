@@ -16,7 +16,7 @@ pub trait Runs: Threads + Wait + Sync {}
 impl<H: Threads + Wait + Sync> Runs for H {}
 
 /// What a job over lists is given.
-pub trait Input: Clone + Eq + Drop + Send + Sync {
+pub trait Input: Clone + Eq + Drop {
     /// What the job of this number is given in the first round, so many numbers where that is a list.
     fn input(alloc: Global, number: usize, size: usize) -> Result<Self, Fault>;
 
@@ -25,7 +25,7 @@ pub trait Input: Clone + Eq + Drop + Send + Sync {
 }
 
 /// A kind of job whose rounds answer new lists.
-pub trait Listed: Job<In: Input, Out: PartialEq + Send> + Send {
+pub trait Listed: Job<In: Input, Out: PartialEq> {
     /// What the job of this number answers after so many rounds.
     fn output(alloc: Global, number: usize, size: usize, rounds: u64) -> Result<Self::Out, Fault>;
 
@@ -36,7 +36,7 @@ pub trait Listed: Job<In: Input, Out: PartialEq + Send> + Send {
 }
 
 /// A kind of job whose rounds are played in place.
-pub trait Placed: Updates<In = (), Out = (), Item: PartialEq + Send> + Send {
+pub trait Placed: Updates<In = (), Out = (), Item: PartialEq> {
     /// The item of the job of this number after so many rounds, so many numbers where that is a list.
     fn item(alloc: Global, number: usize, size: usize, rounds: u64) -> Result<Self::Item, Fault>;
 }

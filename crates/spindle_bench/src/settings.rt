@@ -9,8 +9,6 @@ use thiserror::Error;
 /// A shape of rounds.
 #[derive(Clone, Copy)]
 pub struct Shape {
-    /// Its name in the environment and in the printed line, or that of a kind of lock.
-    pub name: &'static str,
     /// The jobs of a round.
     pub jobs: usize,
     /// The items of a round.
@@ -19,20 +17,22 @@ pub struct Shape {
     pub size: usize,
     /// The rounds of a batch.
     pub rounds: u64,
+    /// Whether rounds may stop, in a lock with trays.
+    pub may_stop: bool,
     ghost some: { 0 < jobs },
     ghost few: { jobs ≤ 4294967295 },
 }
 
 /// A shape of so many jobs a round, with an item each, and so many numbers in all of their lists.
-pub fn shaped(name: &'static str, jobs: usize, numbers: usize, rounds: u64) -> Shape
+pub fn shaped(jobs: usize, numbers: usize, rounds: u64) -> Shape
     requires { (0 < jobs) × (jobs ≤ 4294967295) }
 {
     Shape {
-        name,
         jobs,
         items: jobs,
         size: numbers / jobs,
         rounds,
+        may_stop: false,
     }
 }
 
@@ -48,14 +48,14 @@ pub fn stirred(number: u64) -> u64 {
 }
 
 /// The uneven shape of this number, for one round: up to fifty jobs, over fewer than forty items. Its size is any number.
-pub fn uneven(name: &'static str, number: u64) -> Shape {
+pub fn uneven(number: u64) -> Shape {
     let random = stirred(number);
     Shape {
-        name,
         jobs: 1 + (random >> 50) as usize % 50,
         items: (random >> 8) as usize % 40,
         size: (random % 4000000000) as usize,
         rounds: 1,
+        may_stop: false,
     }
 }
 
@@ -110,7 +110,7 @@ pub enum Stop {
     /// The clock, the words, a file or the output could not be read or written.
     #[error(transparent)]
     System(#[from] io::Error),
-    /// Rounds of this shape, or in this kind of lock, answered something wrong.
-    #[error("wrong answers: {0}")]
-    Wrong(&'static str),
+    /// Rounds answered something wrong: as a rule those of the line that would have come next.
+    #[error("wrong answers")]
+    Wrong,
 }

@@ -6,9 +6,10 @@ ghost use denote.Param.Send.{IsSync};
 
 use crate::kinds::{Does, Task};
 use crate::nested::InRounds;
-use crate::series::{Input, Listed, Lists, goes_right};
-use crate::settings::{Bench, Ended, Way, shaped, uneven};
+use crate::series::{Input, Listed, Lists, Placed, goes_right};
+use crate::settings::{Bench, Ended, Shape, Way, shaped, uneven};
 use crate::timing::{Machine, Times, in_lock, in_place, in_slots, in_trays, nanos_since};
+use spindle::lock::Nest;
 use spindle::prelude::*;
 use std::fs;
 use std::hint::spin_loop;
@@ -71,10 +72,29 @@ impl Task for Turns {
     }
 }
 
+// By itself, where a lock in place is opened in jobs of another: what `Does` does there is too much for the checker.
+impl Update for Turns {
+    type Item = u64;
+
+    type Inner = End;
+
+    ghost updated = { λ _ _. Unit {0} };
+
+    fn run<H: Threads + Wait + Sync>(_: &H, _: Global, number: u64, _: &mut JobCx<End>) -> u64 {
+        <Turns as Task>::update(number)
+    }
+}
+
+impl Placed for InPlace<Turns> {
+    fn item(alloc: Global, number: usize, size: usize, rounds: u64) -> Result<u64, Fault> {
+        <Turns as Task>::item(alloc, number, size, rounds)
+    }
+}
+
 /// Opens a lock with trays, plays the uneven round of its number there over jobs of kind J, and answers whether it went right.
 pub struct InTrays<J>(PhantomData<J>);
 
-impl<J: Listed> Job for InTrays<J> {
+impl<J: Listed<In = u64, Out = u64>> Job for InTrays<J> {
     type In = u64;
 
     type Out = bool;
@@ -89,7 +109,7 @@ impl<J: Listed> Job for InTrays<J> {
         number: &u64,
         cx: &mut JobCx<Under<J>>,
     ) -> bool {
-        let shape = uneven("inner", *number);
+        let shape = uneven(*number);
         let right = cx.with_lock(
             rt,
             alloc,
@@ -104,7 +124,7 @@ impl<J: Listed> Job for InTrays<J> {
     ghost equal_is_same = { Prim.search rules };
 }
 
-impl<J: Listed> Listed for InTrays<J> {
+impl<J: Listed<In = u64, Out = u64>> Listed for InTrays<J> {
     fn output(_: Global, _: usize, _: usize, _: u64) -> Result<bool, Fault> {
         Ok(true)
     }
@@ -113,7 +133,7 @@ impl<J: Listed> Listed for InTrays<J> {
 /// The same in a lock with slots, which are fewer than the jobs of some rounds.
 pub struct InSlots<J>(PhantomData<J>);
 
-impl<J: Listed> Job for InSlots<J> {
+impl<J: Listed<In = u64, Out = u64>> Job for InSlots<J> {
     type In = u64;
 
     type Out = bool;
@@ -128,7 +148,7 @@ impl<J: Listed> Job for InSlots<J> {
         number: &u64,
         cx: &mut JobCx<UnderSlots<J>>,
     ) -> bool {
-        let shape = uneven("inner", *number);
+        let shape = uneven(*number);
         let right = LockOf::<J>::nested_with_slots(
             rt,
             alloc,
@@ -145,19 +165,48 @@ impl<J: Listed> Job for InSlots<J> {
     ghost equal_is_same = { Prim.search rules };
 }
 
-impl<J: Listed> Listed for InSlots<J> {
+impl<J: Listed<In = u64, Out = u64>> Listed for InSlots<J> {
     fn output(_: Global, _: usize, _: usize, _: u64) -> Result<bool, Fault> {
         Ok(true)
     }
 }
 
+fn in_inner_trays<J: Listed<In = u64, Out = u64> + Send, H: Machine>(
+    bench: &Bench<H>,
+    shape: Shape,
+) -> Times
+where
+    J::Inner: Send,
+    <J::Inner as Nest>::ChildSlots: Send + Sync,
+{
+    in_trays::<InTrays<J>, H>(bench, shape)
+}
+
+fn in_inner_slots<J: Listed<In = u64, Out = u64> + Send, H: Machine>(
+    bench: &Bench<H>,
+    shape: Shape,
+) -> Times
+where
+    J::Inner: Send,
+    <J::Inner as Nest>::ChildSlots: Send + Sync,
+{
+    in_slots::<InSlots<J>, H>(bench, shape)
+}
+
+fn in_inner_place<H: Machine>(bench: &Bench<H>, shape: Shape) -> Times {
+    in_place::<InPlace<InRounds<InPlace<Turns>>>, H>(bench, shape)
+}
+
 // Plays in a lock of this kind. What its jobs do is a parameter, as in `in_lock`.
-fn play<T: Task, H: Machine>(bench: &Bench<H>, kind: &'static str) -> Times {
-    let shape = shaped(kind, SLOTS, 0, 0);
+fn play<T: Task<In = u64, Out = u64> + Send, H: Machine>(bench: &Bench<H>, kind: &str) -> Times
+where
+    T::Item: Send,
+{
+    let shape = shaped(SLOTS, 0, 0);
     match kind {
-        "trays in trays" => in_trays::<InTrays<Does<T>>, H>(bench, shape),
-        "slots in slots" => in_slots::<InSlots<Does<T>>, H>(bench, shape),
-        "place in place" => in_place::<InPlace<InRounds<InPlace<Does<T>>>>, H>(bench, shape),
+        "trays in trays" => in_inner_trays::<Does<T>, H>(bench, shape),
+        "slots in slots" => in_inner_slots::<Does<T>, H>(bench, shape),
+        "place in place" => in_inner_place(bench, shape),
         _ => in_lock::<T, H>(bench, kind, shape),
     }
 }
@@ -195,7 +244,7 @@ pub fn soak<H: Machine>(rt: &H, seconds: u64) -> Ended {
 }
 
 // Prints a kind's line. The system counts the memory in pages of 4 kB.
-fn print<H: Machine>(rt: &H, kind: &'static str, rounds: u64, worst: u64) -> Ended {
+fn print<H: Machine>(rt: &H, kind: &str, rounds: u64, worst: u64) -> Ended {
     let text = fs::read_to_string(rt, "/proc/self/statm")?;
     let pages = text.as_str().split(' ').nth(1).unwrap_or("0");
     let memory = pages.parse::<u64>().unwrap_or(0).saturating_mul(4);

@@ -31,8 +31,10 @@ impl<H: Runs + Clock + Env + Files + Print + Alloc<A = Global>> Machine for H {}
 pub type Times = Result<Vec<u64>, Stop>;
 
 /// Plays in a lock with so many slots as a round of the shape has jobs.
-pub fn in_slots<J: Listed, H: Machine>(bench: &Bench<H>, shape: Shape) -> Times
+pub fn in_slots<J: Listed + Send, H: Machine>(bench: &Bench<H>, shape: Shape) -> Times
 where
+    J::In: Send + Sync,
+    J::Out: Send,
     J::Inner: Send,
     <J::Inner as Nest>::ChildSlots: Send + Sync,
 {
@@ -48,9 +50,11 @@ where
     )?
 }
 
-/// Plays in a lock with trays; `try8` in rounds that may stop.
-pub fn in_trays<J: Listed, H: Machine>(bench: &Bench<H>, shape: Shape) -> Times
+/// Plays in a lock with trays, where rounds may stop.
+pub fn in_trays<J: Listed + Send, H: Machine>(bench: &Bench<H>, shape: Shape) -> Times
 where
+    J::In: Send + Sync,
+    J::Out: Send,
     J::Inner: Send,
     <J::Inner as Nest>::ChildSlots: Send + Sync,
 {
@@ -62,17 +66,19 @@ where
         |leader| -> Times
             requires { IsSync H.row }
         {
-            match shape.name {
-                "try8" => led::<Tries<J>, _, H>(bench, shape, leader),
-                _ => led::<Lists<J>, _, H>(bench, shape, leader),
+            if shape.may_stop {
+                led::<Tries<J>, _, H>(bench, shape, leader)
+            } else {
+                led::<Lists<J>, _, H>(bench, shape, leader)
             }
         },
     )?
 }
 
 /// Plays in a lock with so many slots as a round of the shape has jobs, in place.
-pub fn in_place<J: Placed, H: Machine>(bench: &Bench<H>, shape: Shape) -> Times
+pub fn in_place<J: Placed + Send, H: Machine>(bench: &Bench<H>, shape: Shape) -> Times
 where
+    J::Item: Send,
     J::Inner: Send,
     <J::Inner as Nest>::ChildSlots: Send + Sync,
 {
@@ -89,7 +95,12 @@ where
 }
 
 /// Plays in a lock of this kind. What its jobs do is a parameter: where a lock's kind is named, the proof takes much more.
-pub fn in_lock<T: Task, H: Machine>(bench: &Bench<H>, kind: &str, shape: Shape) -> Times {
+pub fn in_lock<T: Task + Send, H: Machine>(bench: &Bench<H>, kind: &str, shape: Shape) -> Times
+where
+    T::In: Send + Sync,
+    T::Out: Send,
+    T::Item: Send,
+{
     match kind {
         "slots" => in_slots::<Does<T>, H>(bench, shape),
         "trays" => in_trays::<Does<T>, H>(bench, shape),
@@ -107,7 +118,7 @@ fn led<S: Series, E: Plays<S>, H: Machine>(bench: &Bench<H>, shape: Shape, leade
             check::<S, E, H>(bench.rt, shape, leader)?;
             Ok(Vec::new(bench.rt.alloc()))
         }
-        Way::Soak(first, share) => soaked::<S, E, H>(bench.rt, shape.name, leader, first, share),
+        Way::Soak(first, share) => soaked::<S, E, H>(bench.rt, leader, first, share),
     }
 }
 
@@ -116,7 +127,7 @@ fn check<S: Series, E: Plays<S>, H: Machine>(rt: &H, shape: Shape, leader: &mut 
     requires { IsSync H.row }
 {
     if !goes_right::<S, E, H>(rt, rt.alloc(), leader, shape)? {
-        return Err(Stop::Wrong(shape.name));
+        return Err(Stop::Wrong);
     }
     Ok(())
 }
@@ -143,7 +154,7 @@ fn timed<S: Series, E: Plays<S>, H: Machine>(rt: &H, shape: Shape, leader: &mut 
         }
     }
     if !series.is_right(alloc, rounds)? {
-        return Err(Stop::Wrong(shape.name));
+        return Err(Stop::Wrong);
     }
     times.sort_unstable();
     Ok(times)
@@ -152,7 +163,6 @@ fn timed<S: Series, E: Plays<S>, H: Machine>(rt: &H, shape: Shape, leader: &mut 
 // Plays uneven rounds for so many nanoseconds, from the one of this number on.
 fn soaked<S: Series, E: Plays<S>, H: Machine>(
     rt: &H,
-    kind: &'static str,
     leader: &mut E,
     first: u64,
     share: u64,
@@ -161,7 +171,7 @@ fn soaked<S: Series, E: Plays<S>, H: Machine>(
 {
     let (begin, mut start, mut times) = (Instant::now(rt)?, 0u64, Vec::new(rt.alloc()));
     for number in first..first.saturating_add(UNEVEN) {
-        check::<S, E, H>(rt, uneven(kind, number), leader)?;
+        check::<S, E, H>(rt, uneven(number), leader)?;
         let end = nanos_since(rt, begin)?;
         times.push(end.saturating_sub(start)).map_err(Fault::from)?;
         if share <= end {
