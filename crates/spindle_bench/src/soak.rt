@@ -171,6 +171,7 @@ impl<J: Listed<In = u64, Out = u64>> Listed for InSlots<J> {
     }
 }
 
+// Locks whose jobs open locks over jobs of kind J. In place that is too much for the checker, so the kind is named.
 fn in_inner_trays<J: Listed<In = u64, Out = u64> + Send, H: Machine>(
     bench: &Bench<H>,
     shape: Shape,
