@@ -7,7 +7,7 @@ ghost use denote.Param.Send.{IsSync};
 use crate::kinds::{Does, Task};
 use crate::nested::InRounds;
 use crate::series::{Input, Listed, Lists, Placed, goes_right};
-use crate::settings::{Bench, Ended, Shape, Way, shaped, uneven};
+use crate::settings::{Bench, Ended, Shape, Stop, Way, shaped, uneven};
 use crate::timing::{Machine, Times, in_lock, in_place, in_slots, in_trays, nanos_since};
 use spindle::lock::Nest;
 use spindle::prelude::*;
@@ -216,32 +216,42 @@ where
 pub fn soak<H: Machine>(rt: &H, seconds: u64) -> Ended {
     let share = seconds.saturating_mul(1_000_000_000) / 36;
     for kind in KINDS {
-        let (mut rounds, mut worst) = (0u64, 0u64);
+        let mut seen = (0, 0);
         for threads in [2, 5, 64] {
             for limits in [Limits::new(), Limits { spin: 0, pause: 0 }] {
-                let begin = Instant::now(rt)?;
-                for _ in 0..u64::MAX {
-                    let left = share.saturating_sub(nanos_since(rt, begin)?);
-                    let bench = Bench {
-                        rt,
-                        pool: Pool::new(threads, limits, NoGate),
-                        way: Way::Soak(rounds, left),
-                    };
-                    for nanos in play::<Turns, H>(&bench, kind)? {
-                        rounds = rounds.saturating_add(1);
-                        worst = worst.max(nanos);
-                    }
-                    if share <= nanos_since(rt, begin)? {
-                        break;
-                    }
-                }
+                seen = in_pool(rt, kind, Pool::new(threads, limits, NoGate), share, seen)?;
             }
         }
         if 0 < seconds {
-            print(rt, kind, rounds, worst / 1000)?;
+            print(rt, kind, seen.0, seen.1 / 1000)?;
         }
     }
     Ok(())
+}
+
+// Opens locks of a kind, one after the other, for so many nanoseconds. Adds to how many rounds there were, and how long the longest took.
+fn in_pool<H: Machine>(
+    rt: &H,
+    kind: &str,
+    pool: Pool<NoGate>,
+    share: u64,
+    seen: (u64, u64),
+) -> Result<(u64, u64), Stop> {
+    let (mut rounds, mut worst) = seen;
+    let (begin, way) = (Instant::now(rt)?, Way::Check);
+    let mut bench = Bench { rt, pool, way };
+    for _ in 0..u64::MAX {
+        let past = nanos_since(rt, begin)?;
+        bench.way = Way::Soak(rounds, share.saturating_sub(past));
+        for nanos in play::<Turns, H>(&bench, kind)? {
+            rounds = rounds.saturating_add(1);
+            worst = worst.max(nanos);
+        }
+        if share <= nanos_since(rt, begin)? {
+            break;
+        }
+    }
+    Ok((rounds, worst))
 }
 
 // Prints a kind's line. The system counts the memory in pages of 4 kB.

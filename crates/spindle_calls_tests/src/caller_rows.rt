@@ -47,23 +47,28 @@ fn rounds_of_one_leader_answer_each_list(rt: HostRuntime) -> Result<(), Fault> {
 // What the callers promise, with numbers.
 #[test]
 fn callers_answer_in_full(rt: HostRuntime) -> Result<(), Fault> {
-    let alloc = rt.alloc();
     let pool = Pool::of_machine(&rt);
-    are(
-        &rt,
-        &callers::squares(&rt, vec![in alloc; 0, 1, 2, 3]?)?,
-        &[0, 1, 4, 9],
-    );
-    let numbers = vec![in alloc; 0, 1, 2, 3]?;
-    let squares = callers::squares_without_a_lock(&rt, alloc, &pool, 3, numbers)?;
+    let squares = callers::squares(&rt, vec![in rt.alloc(); 0, 1, 2, 3]?)?;
     are(&rt, &squares, &[0, 1, 4, 9]);
+    squares_and_sums(&rt, rt.alloc(), &pool)?;
+    both_lists(&rt, rt.alloc(), &pool)
+}
+
+fn squares_and_sums<H: Runs>(rt: &H, alloc: Global, pool: &Pool<NoGate>) -> Result<(), Fault> {
+    let numbers = vec![in alloc; 0, 1, 2, 3]?;
+    let squares = callers::squares_without_a_lock(rt, alloc, pool, 3, numbers)?;
+    are(rt, &squares, &[0, 1, 4, 9]);
     let numbers = vec![in alloc; 3, 1, 4, 1, 5, u32::MAX, 2]?;
-    let sums = callers::one_more_each(&rt, alloc, &pool, 3, numbers)?;
-    are(&rt, &sums, &[4, 2, 5, 2, 6, 4294967296, 3]);
+    let sums = callers::one_more_each(rt, alloc, pool, 3, numbers)?;
+    are(rt, &sums, &[4, 2, 5, 2, 6, 4294967296, 3]);
+    Ok(())
+}
+
+fn both_lists<H: Runs>(rt: &H, alloc: Global, pool: &Pool<NoGate>) -> Result<(), Fault> {
     let one = vec![in alloc; 2, 3, 5]?;
     let equal = vec![in alloc; 2, 3, 5]?;
-    let both = callers::outputs_twice::<Square, _, _>(&rt, alloc, &pool, 2, one, equal)?;
-    are(&rt, &both.0, &[4, 9, 25]);
-    are(&rt, &both.1, &[4, 9, 25]);
+    let both = callers::outputs_twice::<Square, _, _>(rt, alloc, pool, 2, one, equal)?;
+    are(rt, &both.0, &[4, 9, 25]);
+    are(rt, &both.1, &[4, 9, 25]);
     Ok(())
 }

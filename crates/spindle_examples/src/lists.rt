@@ -54,16 +54,23 @@ pub fn time<H: Machine>(rt: &H, pool: &Pool<NoGate>) -> Result<(), Stop> {
 fn maps<H: Machine>(rt: &H, pool: &Pool<NoGate>) -> Result<(), Stop> {
     let alloc = rt.alloc();
     let list = SharedList::from_vec(alloc, vec![in alloc; 102u64; NUMBERS as usize]?)?;
-    let run = list.run(0, list.len())?;
-    let task = (Shared::new(alloc, OneMore)?, run);
-    let (times, pieces) = in_lock::<MapsOf<OneMore>, _>(rt, alloc, pool, &task)?;
+    maps_in_lock(rt, pool, list.run(0, list.len())?)?;
+    maps_by_rayon(rt, pool, list.as_slice())
+}
+
+fn maps_in_lock<H: Machine>(rt: &H, pool: &Pool<NoGate>, run: ListRun<u64>) -> Result<(), Stop> {
+    let task = (Shared::new(rt.alloc(), OneMore)?, run);
+    let (times, pieces) = in_lock::<MapsOf<OneMore>, _>(rt, rt.alloc(), pool, &task)?;
     let is_right = pieces.iter().flatten().all(|x| *x == 103);
-    print(rt, pool, "map1m lock", is_right, times)?;
-    let mut times = Vec::with_capacity(alloc, CALLS)?;
+    print(rt, pool, "map1m lock", is_right, times)
+}
+
+fn maps_by_rayon<H: Machine>(rt: &H, pool: &Pool<NoGate>, list: &[u64]) -> Result<(), Stop> {
+    let mut times = Vec::with_capacity(rt.alloc(), CALLS)?;
     for _ in 0..CALLS {
         let begin = Instant::now(rt)?;
-        let more = list.as_slice().par_iter().map(|x: &u64| x.wrapping_add(1));
-        let _list: Vec<u64> = more.collect(rt, alloc)?;
+        let more = list.par_iter().map(|x: &u64| x.wrapping_add(1));
+        let _list: Vec<u64> = more.collect(rt, rt.alloc())?;
         times.push(since(rt, begin)?)?;
     }
     print(rt, pool, "map1m rayon", true, times)
@@ -158,15 +165,33 @@ fn dots<H: Machine>(rt: &H, pool: &Pool<NoGate>) -> Result<(), Stop> {
     let alloc = rt.alloc();
     let first = SharedList::from_vec(alloc, (0..NUMBERS).collect(alloc)?)?;
     let second = SharedList::from_vec(alloc, (0..NUMBERS).rev().collect(alloc)?)?;
-    let pairs = PairRun::new(&first, &second)?;
-    let (times, total) = in_lock::<PairTotalsOf<u32, u32, Products>, _>(rt, alloc, pool, &pairs)?;
-    let (first, second) = (first.as_slice(), second.as_slice());
     let mut wanted = 0u64;
-    for pair in first.iter().zip(second) {
+    for pair in first.as_slice().iter().zip(second.as_slice()) {
         wanted = wanted.wrapping_add(u64::from(*pair.0).wrapping_mul(u64::from(*pair.1)));
     }
-    print(rt, pool, "dot1m lock", total == wanted, times)?;
-    let (mut times, mut total) = (Vec::with_capacity(alloc, CALLS)?, 0);
+    dots_in_lock(rt, pool, PairRun::new(&first, &second)?, wanted)?;
+    dots_by_rayon(rt, pool, first.as_slice(), second.as_slice(), wanted)
+}
+
+fn dots_in_lock<H: Machine>(
+    rt: &H,
+    pool: &Pool<NoGate>,
+    pairs: PairRun<u32, u32>,
+    wanted: u64,
+) -> Result<(), Stop> {
+    let alloc = rt.alloc();
+    let (times, total) = in_lock::<PairTotalsOf<u32, u32, Products>, _>(rt, alloc, pool, &pairs)?;
+    print(rt, pool, "dot1m lock", total == wanted, times)
+}
+
+fn dots_by_rayon<H: Machine>(
+    rt: &H,
+    pool: &Pool<NoGate>,
+    first: &[u32],
+    second: &[u32],
+    wanted: u64,
+) -> Result<(), Stop> {
+    let (mut times, mut total) = (Vec::with_capacity(rt.alloc(), CALLS)?, 0);
     for _ in 0..CALLS {
         let begin = Instant::now(rt)?;
         total = by_rayon(rt, first, second);

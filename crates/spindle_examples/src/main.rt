@@ -95,6 +95,14 @@ fn calls<H: Threads + Wait + Sync + Print>(
         Ok(numbers) => println!(rt; "decimals {numbers:?}")?,
         Err(failed) => println!(rt; "decimals {:?}, none at {}", failed.before, failed.place)?,
     }
+    solved_and_dot(rt, alloc, pool)
+}
+
+fn solved_and_dot<H: Threads + Wait + Sync + Print>(
+    rt: &H,
+    alloc: Global,
+    pool: &Pool<NoGate>,
+) -> Result<(), Stop> {
     let values = vec![in alloc; 0u32, 1000, 400]?;
     let solved = solver::solved(rt, alloc, pool, 500, values, 100)?;
     println!(rt; "solver {solved:?}")?;
