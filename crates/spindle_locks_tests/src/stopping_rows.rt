@@ -16,7 +16,7 @@ use std::process::Abort;
 // Threads, numbers, the number that fails, and jobs; the pieces that ran and those that were skipped.
 type Row = (usize, u32, u32, usize, &'static [usize], &'static [usize]);
 
-const ROWS: [Row; 9] = [
+const ROWS: &[Row] = &[
     (1, 6, 2, 6, &[0, 1, 2], &[3, 4, 5]),
     (4, 6, 9, 6, &[0, 1, 2, 3, 4, 5], &[]),
     (1, 5, 1, 2, &[0], &[1]),
@@ -59,7 +59,7 @@ fn play<H: Threads + Wait + Abort + Sync>(rt: &H, alloc: Global, row: Row) -> Re
 #[test]
 fn a_round_stops_at_the_number_that_fails(rt: HostRuntime) -> Result<(), Fault> {
     for row in ROWS {
-        play(&rt, rt.alloc(), row)?;
+        play(&rt, rt.alloc(), *row)?;
     }
     Ok(())
 }

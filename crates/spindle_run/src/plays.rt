@@ -10,7 +10,7 @@ use std::thread::Threads;
 type Line = (&'static str, &'static str);
 
 // A helper closes by leaving: the leader has arrived, and the last member that is in goes.
-const CLOSED_BY_EXIT: [Line; 13] = [
+const CLOSED_BY_EXIT: &[Line] = &[
     ("join 0", "00010001"),
     ("join 1", "00020002"),
     ("publish 0 2", "00020002"),
@@ -27,7 +27,7 @@ const CLOSED_BY_EXIT: [Line; 13] = [
 ];
 
 // A helper comes in mid-round, waits, leaves, comes again and goes before the leader closes.
-const COMES_AND_GOES: [Line; 17] = [
+const COMES_AND_GOES: &[Line] = &[
     ("join 0", "00010001"),
     ("publish 0 2", "00010001"),
     ("join 1", "00020002"),
@@ -48,7 +48,7 @@ const COMES_AND_GOES: [Line; 17] = [
 ];
 
 // A leave is refused under a closer.
-const LEAVES_UNDER_A_CLOSER: [Line; 7] = [
+const LEAVES_UNDER_A_CLOSER: &[Line] = &[
     ("join 0", "00010001"),
     ("join 1", "00020002"),
     ("arrive 0", "00020001"),
@@ -59,7 +59,7 @@ const LEAVES_UNDER_A_CLOSER: [Line; 7] = [
 ];
 
 // One leaves while it waits, and the other closes.
-const LEAVES_WHILE_IT_WAITS: [Line; 7] = [
+const LEAVES_WHILE_IT_WAITS: &[Line] = &[
     ("join 0", "00010001"),
     ("join 1", "00020002"),
     ("arrive 0", "00020001"),
@@ -70,14 +70,14 @@ const LEAVES_WHILE_IT_WAITS: [Line; 7] = [
 ];
 
 // A sole exit ends the round.
-const EXITS_ALONE: [Line; 3] = [
+const EXITS_ALONE: &[Line] = &[
     ("join 0", "00010001"),
     ("exit 0", "80000000"),
     ("join 1", "80010001"),
 ];
 
 // The last one that is in exits, and closes.
-const LAST_ONE_EXITS: [Line; 8] = [
+const LAST_ONE_EXITS: &[Line] = &[
     ("join 0", "00010001"),
     ("join 1", "00020002"),
     ("join 2", "00030003"),
@@ -89,7 +89,7 @@ const LAST_ONE_EXITS: [Line; 8] = [
 ];
 
 // A round of one party that it stops itself.
-const STOPPED: [Line; 9] = [
+const STOPPED: &[Line] = &[
     ("join 0", "00010001"),
     ("publish-try 0 3", "00010001"),
     ("rest 0", "00010001 0"),
@@ -102,7 +102,7 @@ const STOPPED: [Line; 9] = [
 ];
 
 // A round that may not stop.
-const MAY_NOT_STOP: [Line; 4] = [
+const MAY_NOT_STOP: &[Line] = &[
     ("join 0", "00010001"),
     ("publish 0 3", "00010001"),
     ("rest 0", "00010001 0"),
@@ -110,7 +110,7 @@ const MAY_NOT_STOP: [Line; 4] = [
 ];
 
 // Another party sees the stop, and takes nothing more.
-const SEEN: [Line; 11] = [
+const SEEN: &[Line] = &[
     ("join 0", "00010001"),
     ("join 1", "00020002"),
     ("publish-try 0 8", "00020002"),
@@ -125,7 +125,7 @@ const SEEN: [Line; 11] = [
 ];
 
 // A whole published round of two parties.
-const WHOLE_ROUND: [Line; 26] = [
+const WHOLE_ROUND: &[Line] = &[
     ("join 0", "00010001"),
     ("join 1", "00020002"),
     ("publish 1 5", "refused"),
@@ -154,17 +154,17 @@ const WHOLE_ROUND: [Line; 26] = [
     ("join 2", "80030003"),
 ];
 
-const PLAYS: [&[Line]; 10] = [
-    &WHOLE_ROUND,
-    &CLOSED_BY_EXIT,
-    &COMES_AND_GOES,
-    &LEAVES_UNDER_A_CLOSER,
-    &LEAVES_WHILE_IT_WAITS,
-    &EXITS_ALONE,
-    &LAST_ONE_EXITS,
-    &STOPPED,
-    &MAY_NOT_STOP,
-    &SEEN,
+const PLAYS: &[&[Line]] = &[
+    WHOLE_ROUND,
+    CLOSED_BY_EXIT,
+    COMES_AND_GOES,
+    LEAVES_UNDER_A_CLOSER,
+    LEAVES_WHILE_IT_WAITS,
+    EXITS_ALONE,
+    LAST_ONE_EXITS,
+    STOPPED,
+    MAY_NOT_STOP,
+    SEEN,
 ];
 
 // Whether each line is answered as the play says; with a visitor, one more party comes and goes before each line at which there is
@@ -198,9 +198,9 @@ fn word_of(answer: &str) -> Option<u32> {
 #[test]
 fn each_play_is_answered_line_by_line(rt: HostRuntime) -> Result<(), Fail> {
     for play in PLAYS {
-        holds(&rt, is_answered(&rt, play, false)?);
+        holds(&rt, is_answered(&rt, *play, false)?);
     }
-    for play in [&CLOSED_BY_EXIT[..], &COMES_AND_GOES[..]] {
+    for play in [CLOSED_BY_EXIT, COMES_AND_GOES] {
         holds(&rt, is_answered(&rt, play, true)?);
     }
     Ok(())

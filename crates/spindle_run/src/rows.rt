@@ -14,7 +14,7 @@ const LINE_2: Result<(), Stop> = Err(Stop::Line(2));
 
 const LINE_3: Result<(), Stop> = Err(Stop::Line(3));
 
-const RUNS: [Row; 45] = [
+const RUNS: &[Row] = &[
     // Lists that are cut, with the lengths of their pieces.
     Row("cut|10|4", b"", "3 3 2 2\n", OK),
     Row("cut|3|8", b"", "1 1 1\n", OK),
@@ -68,7 +68,7 @@ const RUNS: [Row; 45] = [
 ];
 
 // Words of no command, too few or too many, and numbers out of their ranges.
-const BAD_WORDS: [Row; 66] = [
+const BAD_WORDS: &[Row] = &[
     Row("", b"", "", BAD),
     Row("cut", b"", "", BAD),
     Row("cut|5", b"", "", BAD),
@@ -138,7 +138,7 @@ const BAD_WORDS: [Row; 66] = [
 ];
 
 // Lines of steps, of which the last may end with the input.
-const LINES: [Row; 15] = [
+const LINES: &[Row] = &[
     Row("steps", b"", "", OK),
     Row("steps", b"join 0", "00010001\n", OK),
     Row("steps", b"join 0\n", "00010001\n", OK),
@@ -179,7 +179,7 @@ const LINES: [Row; 15] = [
 ];
 
 // Lines that are no step.
-const BAD_LINES: [Row; 30] = [
+const BAD_LINES: &[Row] = &[
     Row("steps", b"\n", "", LINE_1),
     Row("steps", b" ", "", LINE_1),
     Row("steps", b"join", "", LINE_1),
@@ -214,7 +214,7 @@ const BAD_LINES: [Row; 30] = [
 
 #[test]
 fn each_run_writes_its_row_and_ends_as_it_says(rt: HostRuntime) -> Result<(), Fail> {
-    for rows in [&RUNS[..], &BAD_WORDS[..], &LINES[..], &BAD_LINES[..]] {
+    for rows in [RUNS, BAD_WORDS, LINES, BAD_LINES] {
         play(&rt, rows)?;
     }
     Ok(())

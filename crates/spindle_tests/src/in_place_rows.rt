@@ -96,7 +96,7 @@ fn play<H: Threads + Wait + Abort + Sync>(rt: &H, alloc: Global, row: Row) -> Re
 }
 
 // Slots, jobs that are asked for, numbers, and the jobs that each round has.
-const STEPS: [(usize, usize, usize, usize); 12] = [
+const STEPS: &[(usize, usize, usize, usize)] = &[
     (16, 16, 1000, 16),
     (8, 16, 13, 8),
     (8, 16, 8, 8),
@@ -113,7 +113,8 @@ const STEPS: [(usize, usize, usize, usize); 12] = [
 
 #[test]
 fn two_hundred_rounds_in_place_are_as_a_plain_loop(rt: HostRuntime) -> Result<(), Fault> {
-    for (slots, asked, count, jobs) in STEPS {
+    for step in STEPS {
+        let (slots, asked, count, jobs) = *step;
         for threads in [1, 4] {
             play(&rt, rt.alloc(), (threads, slots, asked, count, jobs))?;
         }

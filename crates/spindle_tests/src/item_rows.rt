@@ -32,7 +32,7 @@ impl Update for NotingHere {
 
 // Jobs, and the number of the job that has each of the items. A list of n items for j jobs is cut into the least of both numbers of
 // pieces; the first n modulo that many are longer by one than the others.
-const ROWS: [(usize, &'static [usize]); 8] = [
+const ROWS: &[(usize, &'static [usize])] = &[
     (4, &[0, 0, 0, 1, 1, 1, 2, 2, 3, 3]),
     (7, &[0, 0, 1, 1, 2, 2, 3, 4, 5, 6]),
     (3, &[0, 0, 0, 1, 1, 2, 2]),
@@ -70,7 +70,8 @@ fn play<H: Threads + Wait + Abort + Sync>(
 // With slots and in place rounds have as many jobs as slots, though eleven are asked for.
 #[test]
 fn each_job_has_the_items_of_its_piece(rt: HostRuntime) -> Result<(), Fault> {
-    for (jobs, wanted) in ROWS {
+    for row in ROWS {
+        let (jobs, wanted) = *row;
         for threads in [1, 4] {
             for lock in [(false, 0, jobs), (false, jobs, 11), (true, jobs, 11)] {
                 play(&rt, rt.alloc(), threads, lock, wanted)?;

@@ -46,7 +46,7 @@ type Row = (
     usize,
 );
 
-const ROWS: [Row; 9] = [
+const ROWS: &[Row] = &[
     (0, 4, 0, 16, 1, 2, None, 4),
     (0, 4, 3, 16, 1, 2, None, 4),
     (0, 16, 16, 1, 2, 2, Some(0), 1),
@@ -61,7 +61,8 @@ const ROWS: [Row; 9] = [
 // A hundred rounds of one lock. A leader has no number between rounds, and none in a round of one job.
 #[test]
 fn a_leader_has_a_number_in_a_published_round_alone(rt: HostRuntime) -> Result<(), Fault> {
-    for (slots, threads, starts, most, jobs, count, number, lock_threads) in ROWS {
+    for row in ROWS {
+        let (slots, threads, starts, most, jobs, count, number, lock_threads) = *row;
         let pool = Pool::with_starts(threads.max(1), Limits::new(), NoGate, starts);
         is(
             &rt,
@@ -140,7 +141,7 @@ fn jobs_without_threads_of_their_own_cannot_meet(rt: HostRuntime) -> Result<(), 
 }
 
 // The jobs that are asked for over ten numbers in a pool of three threads, those that run, and the threads of their lock.
-const ONE_CALL: [(usize, usize, usize); 6] = [
+const ONE_CALL: &[(usize, usize, usize)] = &[
     (0, 3, 3),
     (1, 1, 1),
     (2, 2, 2),
@@ -152,7 +153,8 @@ const ONE_CALL: [(usize, usize, usize); 6] = [
 #[test]
 fn one_call_has_no_more_threads_than_jobs(rt: HostRuntime) -> Result<(), Fault> {
     let alloc = rt.alloc();
-    for (asked, jobs, threads) in ONE_CALL {
+    for call in ONE_CALL {
+        let (asked, jobs, threads) = *call;
         let calls = Calls::new();
         let pool = Pool::new(3, Limits::new(), Counting { calls: &calls });
         let places = run_one::<Staying>(&rt, alloc, &pool, asked, vec![in alloc; 0; 10]?)?;

@@ -24,7 +24,7 @@ const WAIT: (u32, u32) = (65536, 8);
 // No thread makes a turn before it sleeps.
 const SLEEP: (u32, u32) = (0, 0);
 
-const ROWS: [Row; 22] = [
+const ROWS: &[Row] = &[
     (4, 0, WAIT, 1, 0, 4, 0, 10),
     (4, 1, WAIT, 1, 0, 4, 0, 10),
     (4, 2, WAIT, 1, 0, 4, 0, 10),
@@ -50,7 +50,7 @@ const ROWS: [Row; 22] = [
     (2, 0, SLEEP, 1, 0, 2, 5, 2),
 ];
 
-const SLOT_ROWS: [Row; 22] = [
+const SLOT_ROWS: &[Row] = &[
     (4, 4, WAIT, 1, 3, 8, 0, 10),
     (4, 4, WAIT, 1, 1, 8, 0, 10),
     (4, 4, WAIT, 1, 3, 8, 0, 0),
@@ -111,7 +111,7 @@ fn announced(rt: &impl Abort, calls: &Calls, jobs: usize, rounds: usize) {
 #[test]
 fn numbers_are_squared_in_each_round(rt: HostRuntime) -> Result<(), Fault> {
     for row in ROWS {
-        play(&rt, rt.alloc(), row)?;
+        play(&rt, rt.alloc(), *row)?;
     }
     for _ in 0..1000 {
         play(&rt, rt.alloc(), (2, 2, WAIT, 1, 0, 2, 3, 2))?;
@@ -123,7 +123,7 @@ fn numbers_are_squared_in_each_round(rt: HostRuntime) -> Result<(), Fault> {
 #[test]
 fn numbers_are_squared_in_slots(rt: HostRuntime) -> Result<(), Fault> {
     for row in SLOT_ROWS {
-        play(&rt, rt.alloc(), row)?;
+        play(&rt, rt.alloc(), *row)?;
     }
     let refused = play(&rt, rt.alloc(), (4, 4, WAIT, 0, 4294967295, 1, 0, 0));
     holds(&rt, matches!(refused, Err(Fault::Memory)));

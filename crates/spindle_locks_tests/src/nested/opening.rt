@@ -148,7 +148,7 @@ const WAIT: usize = 3000000000;
 // A helper that could come would come.
 const IN_VAIN: usize = 100000;
 
-const ROWS: [Row; 6] = [
+const ROWS: &[Row] = &[
     // More locks one after the other than there are slots for them.
     (2, 2, 1, 8, (2, WAIT, 2, 0), 1, (2, 2, 2)),
     // Two jobs that have met each open a lock, so both locks stand at once, each in a slot of its own. A leader that has no job
@@ -163,7 +163,7 @@ const ROWS: [Row; 6] = [
 // Two kinds of jobs: in the first row three of four threads come to a lock of a job of a job, since the fourth may be a leader that has
 // no job. A job that runs directly in another has no slots, so the lock that it opens has its leader alone; in one job three helpers
 // are idle meanwhile, in two jobs two.
-const TWO_KINDS: [Row; 3] = [
+const TWO_KINDS: &[Row] = &[
     (4, 4, 1, 8, (3, WAIT, 3, 3), 1, (3, 3, 6)),
     (4, 4, 1, 1, (4, IN_VAIN, 1, 0), 2, (1, 4, 1)),
     (4, 4, 2, 1, (4, IN_VAIN, 1, 0), 2, (1, 4, 1)),
@@ -171,7 +171,7 @@ const TWO_KINDS: [Row; 3] = [
 
 // Three kinds of jobs, and a fourth in the locks that the third opens. In the first row two of the four threads may be leaders that have
 // no job.
-const THREE_KINDS: [Row; 3] = [
+const THREE_KINDS: &[Row] = &[
     (4, 4, 1, 8, (2, WAIT, 2, 3), 1, (2, 2, 17)),
     (2, 2, 2, 20, (2, 0, 3, 2), 3, (0, 2, 11)),
     (8, 8, 3, 20, (3, 0, 3, 2), 3, (0, 3, 11)),
@@ -206,7 +206,7 @@ where
 
 #[test]
 fn helpers_come_to_locks_of_each_size(rt: HostRuntime) -> Result<(), Fault> {
-    play::<Opening, _>(&rt, rt.alloc(), ROWS.as_slice())
+    play::<Opening, _>(&rt, rt.alloc(), ROWS)
 }
 
 // The same one and two kinds of job further up.
@@ -218,8 +218,8 @@ where
     K::Inner: Send,
     <K::Inner as Nest>::ChildSlots: Send + Sync,
 {
-    play::<Above<K>, H>(rt, alloc, TWO_KINDS.as_slice())?;
-    play::<Above<Above<K>>, H>(rt, alloc, THREE_KINDS.as_slice())
+    play::<Above<K>, H>(rt, alloc, TWO_KINDS)?;
+    play::<Above<Above<K>>, H>(rt, alloc, THREE_KINDS)
 }
 
 #[test]

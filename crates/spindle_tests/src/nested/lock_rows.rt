@@ -171,22 +171,22 @@ impl<J: Updates<In = (), Out = (), Item = Seen, Inner = End> + Send> Nested for 
 type Row = (usize, u32, usize, usize, Ask, usize);
 
 // One lock after the other, more than there are child slots.
-const ROUNDS: [Row; 4] = [
+const ROUNDS: &[Row] = &[
     (2, 65536, 8, 1, (2, 2, MOST_ROUNDS), 2),
     (4, 65536, 8, 1, (2, 2, MOST_ROUNDS), 2),
     (4, 65536, 8, 1, (3, 3, MOST_ROUNDS), 3),
     (4, 65536, 8, 1, (4, 4, MOST_ROUNDS), 4),
 ];
 
-const CALL: [Row; 1] = [(3, 65536, 0, 1, (3, 3, MOST_ROUNDS), 3)];
+const CALL: &[Row] = &[(3, 65536, 0, 1, (3, 3, MOST_ROUNDS), 3)];
 
-const MANY: [Row; 3] = [
+const MANY: &[Row] = &[
     (1, 65536, 1, 1, (4, 3, 2), 1),
     (4, 65536, 200, 4, (2, 2, 1), 2),
     (3, 0, 2500, 4, (2, 2, 1), 2),
 ];
 
-const REFUSED: [Row; 3] = [
+const REFUSED: &[Row] = &[
     (2, 65536, 1, 2, (2, 1, 1), 2),
     (2, 65536, 1, 2, (2, 3, 1), 2),
     (2, 65536, 1, 2, (2, 7, 1), 2),
@@ -254,21 +254,21 @@ fn play_each<H: Threads + Wait + Abort + Sync>(
 
 #[test]
 fn helpers_run_jobs_of_rounds_in_a_job(rt: HostRuntime) -> Result<(), Fault> {
-    play_each(&rt, rt.alloc(), ROUNDS.as_slice(), false)
+    play_each(&rt, rt.alloc(), ROUNDS, false)
 }
 
 #[test]
 fn helpers_run_rounds_in_the_only_job_of_a_call(rt: HostRuntime) -> Result<(), Fault> {
-    play_each(&rt, rt.alloc(), CALL.as_slice(), false)
+    play_each(&rt, rt.alloc(), CALL, false)
 }
 
 #[test]
 fn helpers_run_jobs_of_locks_with_slots_in_jobs(rt: HostRuntime) -> Result<(), Fault> {
-    play_each(&rt, rt.alloc(), ROUNDS.as_slice(), false)?;
-    play_each(&rt, rt.alloc(), MANY.as_slice(), false)
+    play_each(&rt, rt.alloc(), ROUNDS, false)?;
+    play_each(&rt, rt.alloc(), MANY, false)
 }
 
 #[test]
 fn refused_lock_with_slots_in_a_job_opens_when_asked_again(rt: HostRuntime) -> Result<(), Fault> {
-    play_each(&rt, rt.alloc(), REFUSED.as_slice(), true)
+    play_each(&rt, rt.alloc(), REFUSED, true)
 }
