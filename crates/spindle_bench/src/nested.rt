@@ -16,7 +16,10 @@ const PARTS: usize = 4;
 const ROUNDS: u64 = 16;
 
 /// A part of a list. In place it is moved as one pointer, where a list is moved as three words and more.
-pub type Part = Box<[u64; 64]>;
+#[derive(PartialEq, Drop)]
+pub struct Part {
+    numbers: Box<[u64; 64]>,
+}
 
 /// Adds one to each number of a part.
 pub struct AddOneToPart;
@@ -29,14 +32,15 @@ impl Update for AddOneToPart {
     ghost updated = { λ _ _. Unit {0} };
 
     fn run<H: Threads + Wait + Sync>(_: &H, _: Global, mut part: Part, _: &mut JobCx<End>) -> Part {
-        add_one(&mut *part);
+        add_one(&mut *part.numbers);
         part
     }
 }
 
 impl Placed for InPlace<AddOneToPart> {
     fn item(alloc: Global, _: usize, _: usize, rounds: u64) -> Result<Part, Fault> {
-        Ok(Box::new(alloc, [rounds; 64])?)
+        let numbers = Box::new(alloc, [rounds; 64])?;
+        Ok(Part { numbers })
     }
 }
 
