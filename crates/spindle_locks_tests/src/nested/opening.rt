@@ -22,10 +22,12 @@ use std::thread;
 
 /// What a job is asked for: a lock of so many threads, for which it waits so many turns at most, and a round of so many units there. A
 /// kind above has it with so many quiet ones beside it, which wait for no thread.
-pub type Ask = (usize, usize, usize, usize);
+#[derive(Clone, Copy, PartialEq, Eq)]
+pub struct Ask(usize, usize, usize, usize);
 
 /// How many threads came to the lock, how many it has at most, and how many units were answered there.
-pub type Answer = (usize, usize, usize);
+#[derive(Clone, Copy, PartialEq, Eq)]
+pub struct Answer(usize, usize, usize);
 
 /// Opens the lock that it is asked for; all three numbers are 0 where it was refused.
 pub struct Opening;
@@ -45,7 +47,7 @@ impl Job for Opening {
         ask: &Ask,
         cx: &mut JobCx<Under<Idle>>,
     ) -> Answer {
-        let (threads, turns, units, _) = *ask;
+        let Ask(threads, turns, units, _) = *ask;
         let answer = cx.with_lock(
             rt,
             alloc,
@@ -54,7 +56,7 @@ impl Job for Opening {
                 requires { IsSync H.row }
             { lead(rt, alloc, leader, turns, units) },
         );
-        answer.unwrap_or((0, 0, 0))
+        answer.unwrap_or(Answer(0, 0, 0))
     }
 
     ghost equal_is_same = { Prim.search rules };
@@ -83,11 +85,11 @@ where
     }
     let there = leader.current_num_threads();
     let Ok(items) = Vec::from_elem(alloc, (), units) else {
-        return (there, most, 0);
+        return Answer(there, most, 0);
     };
     match leader.for_each(rt, alloc, units.max(1), items) {
-        Ok(answers) => (there, most, answers.len()),
-        Err(_) => (there, most, 0),
+        Ok(answers) => Answer(there, most, answers.len()),
+        Err(_) => Answer(there, most, 0),
     }
 }
 
@@ -112,14 +114,14 @@ impl<K: Job<In = Ask, Out = Answer>> Job for Above<K> {
         ask: &Ask,
         cx: &mut JobCx<Under<K>>,
     ) -> Answer {
-        let quiet = (1, 0, 1, ask.3);
+        let quiet = Ask(1, 0, 1, ask.3);
         let Ok(mut asks) = Vec::from_elem(alloc, quiet, ask.3.min(1000) + 1) else {
-            return (0, 0, 0);
+            return Answer(0, 0, 0);
         };
         asks[0] = *ask;
         match cx.for_each(rt, alloc, asks.len().max(1), asks) {
             Ok(answers) => in_all(&answers),
-            Err(_) => (0, 0, 0),
+            Err(_) => Answer(0, 0, 0),
         }
     }
 
@@ -129,13 +131,13 @@ impl<K: Job<In = Ask, Out = Answer>> Job for Above<K> {
 // The threads of the first, and the units of all.
 fn in_all(answers: &[Answer]) -> Answer {
     let Some(first) = answers.first() else {
-        return (0, 0, 0);
+        return Answer(0, 0, 0);
     };
     let mut units = 0usize;
     for answer in answers {
         units = units.wrapping_add(answer.2);
     }
-    (first.0, first.1, units)
+    Answer(first.0, first.1, units)
 }
 
 // A pool's threads, a lock's at most, jobs and rounds of it; what is asked for, and how many jobs ask for it; what each answers: threads
@@ -150,31 +152,31 @@ const IN_VAIN: usize = 100000;
 
 const ROWS: &[Row] = &[
     // More locks one after the other than there are slots for them.
-    (2, 2, 1, 8, (2, WAIT, 2, 0), 1, (2, 2, 2)),
+    (2, 2, 1, 8, Ask(2, WAIT, 2, 0), 1, Answer(2, 2, 2)),
     // Two jobs that have met each open a lock, so both locks stand at once, each in a slot of its own. A leader that has no job
     // waits for the round's end, so there are two helpers more.
-    (5, 5, 2, 8, (2, WAIT, 3, 0), 2, (2, 2, 3)),
-    (4, 4, 1, 8, (4, WAIT, 4, 0), 1, (4, 4, 4)),
-    (4, 4, 1, 8, (3, WAIT, 3, 0), 1, (3, 3, 3)),
-    (1, 4, 1, 1, (4, WAIT, 3, 0), 1, (1, 1, 3)),
-    (16, 4, 2, 1, (4, 0, 4, 0), 4, (0, 4, 4)),
+    (5, 5, 2, 8, Ask(2, WAIT, 3, 0), 2, Answer(2, 2, 3)),
+    (4, 4, 1, 8, Ask(4, WAIT, 4, 0), 1, Answer(4, 4, 4)),
+    (4, 4, 1, 8, Ask(3, WAIT, 3, 0), 1, Answer(3, 3, 3)),
+    (1, 4, 1, 1, Ask(4, WAIT, 3, 0), 1, Answer(1, 1, 3)),
+    (16, 4, 2, 1, Ask(4, 0, 4, 0), 4, Answer(0, 4, 4)),
 ];
 
 // Two kinds of jobs: in the first row three of four threads come to a lock of a job of a job, since the fourth may be a leader that has
 // no job. A job that runs directly in another has no slots, so the lock that it opens has its leader alone; in one job three helpers
 // are idle meanwhile, in two jobs two.
 const TWO_KINDS: &[Row] = &[
-    (4, 4, 1, 8, (3, WAIT, 3, 3), 1, (3, 3, 6)),
-    (4, 4, 1, 1, (4, IN_VAIN, 1, 0), 2, (1, 4, 1)),
-    (4, 4, 2, 1, (4, IN_VAIN, 1, 0), 2, (1, 4, 1)),
+    (4, 4, 1, 8, Ask(3, WAIT, 3, 3), 1, Answer(3, 3, 6)),
+    (4, 4, 1, 1, Ask(4, IN_VAIN, 1, 0), 2, Answer(1, 4, 1)),
+    (4, 4, 2, 1, Ask(4, IN_VAIN, 1, 0), 2, Answer(1, 4, 1)),
 ];
 
 // Three kinds of jobs, and a fourth in the locks that the third opens. In the first row two of the four threads may be leaders that have
 // no job.
 const THREE_KINDS: &[Row] = &[
-    (4, 4, 1, 8, (2, WAIT, 2, 3), 1, (2, 2, 17)),
-    (2, 2, 2, 20, (2, 0, 3, 2), 3, (0, 2, 11)),
-    (8, 8, 3, 20, (3, 0, 3, 2), 3, (0, 3, 11)),
+    (4, 4, 1, 8, Ask(2, WAIT, 2, 3), 1, Answer(2, 2, 17)),
+    (2, 2, 2, 20, Ask(2, 0, 3, 2), 3, Answer(0, 2, 11)),
+    (8, 8, 3, 20, Ask(3, 0, 3, 2), 3, Answer(0, 3, 11)),
 ];
 
 // Plays rows. The kind of job is a parameter, which hides from a check what lies below it.
@@ -195,7 +197,7 @@ where
         let (most, jobs) = (most.max(1), jobs.max(1));
         let (answers, _) = rounds_of::<K, _, _>(rt, alloc, &pool, most, jobs, rounds, &asks)?;
         is(rt, answers.len(), asks.len().wrapping_mul(rounds));
-        for (there, most, units) in answers {
+        for Answer(there, most, units) in answers {
             is(rt, (most, units), (wanted.1, wanted.2));
             let some_are = wanted.0 == 0 && 0 < there && there <= most;
             holds(rt, there == wanted.0 || some_are);
