@@ -202,17 +202,6 @@ fn tallied<H: Wait + Abort>(
     Ok(tally.finish::<Trying>(&pieces, left))
 }
 
-// The same by the marks themselves.
-fn told<H: Wait + Abort>(
-    rt: &H,
-    alloc: Global,
-    fails: bool,
-    back: Back,
-    left: [bool; 5],
-) -> Result<Result<Report<Item>, usize>, Fail> {
-    tallied(rt, alloc, fails, back, &left)
-}
-
 type Numbers = &'static [usize];
 
 // Whether the first item fails, the pieces that are brought back, and the marks; the pieces that ran and those that were skipped, or
@@ -270,7 +259,7 @@ fn each_piece_ran_or_was_skipped_or_is_lost(rt: HostRuntime) -> Result<(), Fail>
 
 fn play_tallied<H: Wait + Abort>(rt: &H, alloc: Global, row: Row) -> Result<(), Fail> {
     let (fails, back, left, ran, skipped, lost) = row;
-    match told(rt, alloc, fails, back, left)? {
+    match tallied(rt, alloc, fails, back, &left)? {
         Ok(report) => {
             these_ran(rt, &report, ran);
             are(rt, &report.skipped, skipped);
