@@ -4,26 +4,34 @@
 //! Clauses say what these calls answer. These rows show what no clause says: that a list comes out again exactly where no clone and
 //! no run of it is left, and that memory is refused only where it was; and each call once with its answer.
 
+ghost use Rattle.std.specs.Prelude.{◌≡◌, ◌∷◌, IfOk, []};
+
 use crate::checks::{are, holds, is};
 use spindle_parts::fault::Fault;
 use spindle_parts::lists::{ListRun, SharedList, gathered, joined_strips, tell_neighbours};
-use std::alloc::Global;
+use std::alloc::{AllocError, Global};
 use std::process::Abort;
 
-fn five(alloc: Global) -> Result<SharedList<u32>, Fault> {
+fn five(alloc: Global) -> Result<SharedList<u32>, Fault>
+    ensures { IfOk result (λ list. list ≡ 1 ∷ 2 ∷ 3 ∷ 4 ∷ 5 ∷ []) }
+{
     let numbers = vec![in alloc; 1, 2, 3, 4, 5]?;
     Ok(SharedList::from_vec(alloc, numbers)?)
 }
 
 // Fails the test in which these aren't two runs, of which the last has these items.
-fn end_with(rt: &impl Abort, runs: &[ListRun<u32>], items: &[u32]) {
-    assert!(rt; runs.len() == 2);
-    are(rt, runs[1].as_slice(), items);
-    is(
-        rt,
-        (runs[1].len(), runs[1].is_empty()),
-        (items.len(), items.is_empty()),
-    );
+fn end_with(
+    rt: &impl Abort,
+    runs: Result<Vec<ListRun<u32>>, Fault>,
+    items: &[u32],
+) -> Result<(), Fault> {
+    let runs = runs?;
+    is(rt, runs.len(), 2);
+    for run in runs.iter().skip(1) {
+        are(rt, run.as_slice(), items);
+        is(rt, (run.len(), run.is_empty()), (items.len(), items.is_empty()));
+    }
+    Ok(())
 }
 
 // Fails the test in which the list comes out while a clone of it is left; answers it as it was.
@@ -48,14 +56,17 @@ fn stays_with_a_run(rt: &impl Abort, list: SharedList<u32>) -> Result<SharedList
     Ok(list)
 }
 
+// Whether a run equals another one, which may be refused.
+fn equals(run: &ListRun<u32>, other: Result<ListRun<u32>, AllocError>) -> Result<bool, Fault> {
+    Ok(*run == other?)
+}
+
 #[test]
 fn runs_of_the_same_items_are_equal(rt: HostRuntime) -> Result<(), Fault> {
-    let alloc = rt.alloc();
-    let list = SharedList::from_vec(alloc, vec![in alloc; 1u32, 2, 3, 1, 2]?)?;
-    holds(
-        &rt,
-        list.run(0, 2)? == list.run(3, 5)? && list.run(0, 2)? != list.run(1, 3)?,
-    );
+    let list = SharedList::from_vec(rt.alloc(), vec![in rt.alloc(); 1u32, 2, 3, 1, 2]?)?;
+    let run = list.run(0, 2)?;
+    holds(&rt, equals(&run, list.run(3, 5))?);
+    holds(&rt, !equals(&run, list.run(1, 3))?);
     Ok(())
 }
 
@@ -93,25 +104,24 @@ fn refused_list_is_lent_when_asked_again(rt: HostRuntime) {
 #[test]
 fn a_list_and_its_runs_are_shared_out(rt: HostRuntime) -> Result<(), Fault> {
     let alloc = rt.alloc();
-    let list = SharedList::from_vec(alloc, vec![in alloc; 1u32, 2, 3, 4, 5]?)?;
-    end_with(&rt, &list.share_out(alloc, &[5, 0])?, &[]);
-    end_with(&rt, &list.share_out_evenly(alloc, 2)?, &[4, 5]);
+    let list = five(alloc)?;
+    end_with(&rt, list.share_out(alloc, &[5, 0]), &[])?;
+    end_with(&rt, list.share_out_evenly(alloc, 2), &[4, 5])?;
     let run = list.run(2, 5)?;
-    end_with(&rt, &run.share_out(alloc, &[1, 2])?, &[4, 5]);
-    end_with(&rt, &run.share_out_evenly(alloc, 2)?, &[5]);
-    Ok(())
+    end_with(&rt, run.share_out(alloc, &[1, 2]), &[4, 5])?;
+    end_with(&rt, run.share_out_evenly(alloc, 2), &[5])
 }
 
 #[test]
 fn chunks_have_what_stands_around_them(rt: HostRuntime) -> Result<(), Fault> {
     let chunks = five(rt.alloc())?.share_out_overlapping(rt.alloc(), 2, 1)?;
-    assert!(rt; chunks.len() == 3);
-    are(&rt, chunks[1].as_slice(), &[2, 3, 4, 5]);
-    is(&rt, (chunks[1].from(), chunks[1].to()), (1, 3));
-    holds(
-        &rt,
-        chunks[1].clone()? == chunks[1] && chunks[0] != chunks[1],
-    );
+    let [first, second, _] = chunks.as_slice() else {
+        panic!(rt; "not three chunks");
+    };
+    are(&rt, second.as_slice(), &[2, 3, 4, 5]);
+    is(&rt, (second.from(), second.to()), (1, 3));
+    let clone = second.clone()?;
+    is(&rt, (clone == *second, first == second), (true, false));
     Ok(())
 }
 
