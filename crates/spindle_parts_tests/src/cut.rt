@@ -71,18 +71,13 @@ fn have_lists(rt: &impl Abort, alloc: Global, count: u64, want: &[&[u64]]) -> Re
     };
     is(rt, (pieces.len(), lists.len()), (0, want.len()));
     for (list, numbers) in lists.iter().zip(want) {
-        has_numbers(rt, list, numbers);
+        is(rt, list.len(), numbers.len());
+        for (piece, number) in list.iter().zip(*numbers) {
+            is(rt, piece.number as u64, *number);
+            are(rt, &piece.items, &[*number]);
+        }
     }
     Ok(())
-}
-
-/// Fails the test in which a list has other pieces than those of these numbers.
-fn has_numbers(rt: &impl Abort, list: &[Piece<u64>], numbers: &[u64]) {
-    is(rt, list.len(), numbers.len());
-    for (piece, number) in list.iter().zip(numbers) {
-        is(rt, piece.number as u64, *number);
-        are(rt, &piece.items, &[*number]);
-    }
 }
 
 /// Each thread gets a run of the pieces, and one of those left over.

@@ -19,9 +19,10 @@ use std::test::Fail;
 
 mod parties;
 
-/// The barrier word, and how many parties it says are members.
-fn shown(init: &BarrierInit<Bare>) -> (u64, usize) {
-    (init.peek(BARRIER), init.current_num_threads())
+/// Fails the test in which the barrier word is another than wanted, or says that other than so many parties are members.
+fn shows(rt: &impl Abort, init: &BarrierInit<Bare>, word: u64, members: usize) {
+    is(rt, init.peek(BARRIER), word);
+    is(rt, init.current_num_threads(), members);
 }
 
 #[test]
@@ -29,18 +30,18 @@ fn the_last_to_arrive_ends_the_round(rt: HostRuntime) -> Result<(), Fail> {
     let (init, mut seat) = BarrierInit::new(rt.alloc())?;
     let other = init.new_seat(&mut seat);
     let mut zero = join(&rt, &init, seat, 0);
-    is(&rt, shown(&init), (0x0001_0001, 1));
+    shows(&rt, &init, 0x0001_0001, 1);
     let mut one = join(&rt, &init, other, 1);
-    is(&rt, shown(&init), (0x0002_0002, 2));
+    shows(&rt, &init, 0x0002_0002, 2);
     arrive(&rt, &mut zero);
-    is(&rt, shown(&init), (0x0002_0001, 2));
+    shows(&rt, &init, 0x0002_0001, 2);
     arrive_last(&rt, &mut one);
-    is(&rt, shown(&init), (0x0002_0000, 2));
+    shows(&rt, &init, 0x0002_0000, 2);
     holds(&rt, matches!(zero.try_leave(), Leave::Closing(_)));
     one.clear();
-    is(&rt, shown(&init), (0x0002_0000, 2));
+    shows(&rt, &init, 0x0002_0000, 2);
     holds(&rt, matches!(one.end(), AfterEnd::Next(_)));
-    is(&rt, shown(&init), (0x8002_0002, 2));
+    shows(&rt, &init, 0x8002_0002, 2);
     Ok(())
 }
 
@@ -50,16 +51,16 @@ fn a_leave_before_the_last_arrival_stands(rt: HostRuntime) -> Result<(), Fail> {
     let other = init.new_seat(&mut seat);
     let mut zero = join(&rt, &init, seat, 0);
     let mut one = join(&rt, &init, other, 1);
-    is(&rt, shown(&init), (0x0002_0002, 2));
+    shows(&rt, &init, 0x0002_0002, 2);
     arrive(&rt, &mut zero);
-    is(&rt, shown(&init), (0x0002_0001, 2));
+    shows(&rt, &init, 0x0002_0001, 2);
     holds(&rt, matches!(zero.try_leave(), Leave::Left(_)));
-    is(&rt, shown(&init), (0x0001_0001, 1));
+    shows(&rt, &init, 0x0001_0001, 1);
     arrive_last(&rt, &mut one);
-    is(&rt, shown(&init), (0x0001_0000, 1));
+    shows(&rt, &init, 0x0001_0000, 1);
     one.clear();
     holds(&rt, matches!(one.end(), AfterEnd::Next(_)));
-    is(&rt, shown(&init), (0x8001_0001, 1));
+    shows(&rt, &init, 0x8001_0001, 1);
     Ok(())
 }
 
@@ -103,17 +104,17 @@ fn a_sole_party_that_exits_ends_the_round(rt: HostRuntime) -> Result<(), Fail> {
     let Ok(mut sole) = init.barrier(&rt, seat, 0) else {
         return Err(Fail::new("the only party was refused"));
     };
-    is(&rt, shown(&init), (0x0001_0001, 1));
+    shows(&rt, &init, 0x0001_0001, 1);
     sole.wait(&rt);
-    is(&rt, shown(&init), (0x8001_0001, 1));
+    shows(&rt, &init, 0x8001_0001, 1);
     let ExitStatus::Remain(sole) = sole.wait_and_clear_while(&rt, || 1) else {
         return Err(Fail::new("the closer has left"));
     };
-    is(&rt, shown(&init), (0x0001_0001, 1));
+    shows(&rt, &init, 0x0001_0001, 1);
     drop(sole.exit(&rt));
-    is(&rt, shown(&init), (0x8000_0000, 0));
+    shows(&rt, &init, 0x8000_0000, 0);
     let _one = join(&rt, &init, other, 1);
-    is(&rt, shown(&init), (0x8001_0001, 1));
+    shows(&rt, &init, 0x8001_0001, 1);
     Ok(())
 }
 
