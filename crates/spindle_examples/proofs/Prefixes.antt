@@ -3,7 +3,7 @@ use Rattle.std.proofs.Common.{◌≡◌, ℕ, suc, ◌+◌, List, [], ◌∷◌,
 use Rattle.std.proofs.lemmas.List.Sums.{sum_by-append, sum_by-cons}
 use Rattle.spindle.specs.Pieces.{joined}
 use Rattle.spindle.proofs.ListLaws.{joined_snoc}
-use Rattle.spindle_examples.specs.Prefix.{running, answers_to, continued}
+use Rattle.spindle_examples.specs.Prefix.{asked_of, running, answers_to, continued}
 use Rattle.spindle_examples.specs.Wrapping.{wrapped}
 use Rattle.spindle_examples.proofs.Numbers.{same_values}
 use Rattle.spindle_examples.proofs.Wrapped.{wrapped_part, wrapped_parts}
@@ -54,12 +54,12 @@ running-wrapped start xs =
 
 -- one run more
 pub continued_snoc : (start : ℕ) (runs : List (List ℕ)) (run : List ℕ) → continued start (runs ++ run ∷ [])
-    ≡ continued start runs ++ (Some (wrapped (start + sum (joined runs))), run) ∷ []
-continued_snoc start [] run = let none : start ≡ start + sum [] = omega arith in ap (λ k. (Some (wrapped k), run) ∷ []) none
+    ≡ continued start runs ++ asked_of (Some (wrapped (start + sum (joined runs)))) run ∷ []
+continued_snoc start [] run = let none : start ≡ start + sum [] = omega arith in ap (λ k. asked_of (Some (wrapped k)) run ∷ []) none
 continued_snoc start (r ∷ runs) run =
     let more : start + sum r + sum (joined runs) ≡ start + sum (r ++ joined runs) = omega (arith, sum_by-append (λ k. k) r (joined runs)) in
-    ap (λ l. (Some (wrapped start), r) ∷ l)
-    (continued_snoc (start + sum r) runs run ∙ ap (λ k. continued (start + sum r) runs ++ (Some (wrapped k), run) ∷ []) more)
+    ap (λ l. asked_of (Some (wrapped start)) r ∷ l)
+    (continued_snoc (start + sum r) runs run ∙ ap (λ k. continued (start + sum r) runs ++ asked_of (Some (wrapped k)) run ∷ []) more)
 
 -- what the second round answers are the sums of the whole table
 pub joined_sums : (start : ℕ) (runs : List (List ℕ)) → answers_to (continued start runs) ≡ running start (joined runs)
@@ -70,7 +70,7 @@ joined_sums start (run ∷ runs) =
     ∙ sym (running-append start run (joined runs))
 
 -- what the first round answers are the runs' totals
-pub joined_totals : (runs : List (List ℕ)) → answers_to (map (λ run. (None, run)) runs) ≡ map (λ run. wrapped (sum run)) runs
+pub joined_totals : (runs : List (List ℕ)) → answers_to (map (asked_of None) runs) ≡ map (λ run. wrapped (sum run)) runs
 joined_totals [] = refl
 joined_totals (run ∷ runs) = ap (λ l. wrapped (sum run) ∷ l) (joined_totals runs)
 

@@ -2,6 +2,7 @@
 use Rattle.std.specs.Prelude.{ℕ, ◌+◌, List, [], ◌∷◌, Option, Some, None, length, map, sum, take}
 use Rattle.spindle.specs.Pieces.{joined, counted}
 use Rattle.spindle_examples.specs.Wrapping.{wrapped}
+use Rattle.spindle_examples.specs.declared.sums.Asked.{Asked}
 
 -- the sum from a start up to each place
 abbrev pub running : (start : ℕ) → List ℕ → List ℕ
@@ -16,11 +17,19 @@ abbrev pub sums_of : Option ℕ → List ℕ → List ℕ
 sums_of None run = wrapped (sum run) ∷ []
 sums_of (Some start) run = running start run
 
+-- a run with a start, or with none
+abbrev pub asked_of : Option ℕ → List ℕ → Asked
+asked_of start run = record { start = start; run = run }
+
+-- what answers it
+abbrev pub answer_to : Asked → List ℕ
+answer_to asked = sums_of asked.start asked.run
+
 -- what a round answers: of each run what it is asked for, one behind the other
-abbrev pub answers_to : List (Option ℕ × List ℕ) → List ℕ
-answers_to asked = joined (map (λ (run : Option ℕ × List ℕ). sums_of run.0 run.1) asked)
+abbrev pub answers_to : List Asked → List ℕ
+answers_to asked = joined (map answer_to asked)
 
 -- each run with its start, which for the first is this, and for each other the sum of the runs before it
-abbrev pub continued : (start : ℕ) → List (List ℕ) → List (Option ℕ × List ℕ)
+abbrev pub continued : (start : ℕ) → List (List ℕ) → List Asked
 continued start [] = []
-continued start (run ∷ runs) = (Some (wrapped start), run) ∷ continued (start + sum run) runs
+continued start (run ∷ runs) = asked_of (Some (wrapped start)) run ∷ continued (start + sum run) runs

@@ -32,14 +32,33 @@ use crate::batch::Order;
 use crate::checked::Checked;
 use crate::chomp::Board;
 use crate::evaluator::{Evaluate, Recurse};
+use crate::lists::Machine;
 use crate::stop::Stop;
-use spindle::SharedList;
 use spindle::lock::{NoGate, Pool};
-use std::alloc::Global;
+use spindle::{Fault, SharedList};
+use std::alloc::{AllocError, Global};
 use std::env;
+use std::fmt::Debug;
 use std::io::Print;
-use std::sync::Wait;
-use std::thread::Threads;
+
+/// An order with a bill.
+const MANY: Order = Order {
+    count: 3,
+    price: 250,
+};
+
+/// An order that comes to too much.
+const DEAR: Order = Order {
+    count: 65536,
+    price: 65536,
+};
+
+/// A game's first board.
+const BOARD: Board = Board {
+    top: 4,
+    middle: 3,
+    bottom: 3,
+};
 
 fn main(rt: HostRuntime) -> Result<(), Stop> {
     let alloc = rt.alloc();
@@ -47,125 +66,105 @@ fn main(rt: HostRuntime) -> Result<(), Stop> {
     if env::args(&rt)?.nth(1).as_deref() == Some("lists") {
         return lists::time(&rt, &pool);
     }
-    batches(&rt, alloc, &pool)?;
-    calls(&rt, alloc, &pool)?;
-    greatest(&rt)?;
-    sums_and_product(&rt, alloc, &pool)?;
-    passes_and_ranks(&rt, alloc, &pool)?;
-    game(&rt, alloc, &pool)?;
+    batches(&rt, &pool)?;
+    read_decimals(&rt, &pool)?;
+    show(&rt, "solver", solved(&rt, &pool))?;
+    show(&rt, "dot", dot(&rt, &pool))?;
+    show(&rt, "runs", greatest_sum(&rt))?;
+    show(&rt, "prefix", prefix_sums(&rt, &pool))?;
+    show(&rt, "product", matrix_product(&rt, &pool))?;
+    show(&rt, "stencil", smoothed(&rt, &pool))?;
+    show(&rt, "ranks", ranks_of_keys(&rt, &pool))?;
+    show(&rt, "evaluator", winning_bites(&rt, &pool))?;
     if env::var(&rt, "TRACE").is_ok() {
         trace::print(&rt, alloc)?;
     }
     Ok(())
 }
 
-// Two batches of orders: one in which each order has its bill, and one that stops where an order comes to too much.
-fn batches<H: Threads + Wait + Sync + Print>(
-    rt: &H,
-    alloc: Global,
-    pool: &Pool<NoGate>,
+// A line: an example's name, and what it answers.
+fn show<T: Debug + Drop>(
+    rt: &impl Print,
+    name: &str,
+    answer: Result<T, Fault>,
 ) -> Result<(), Stop> {
-    let many = Order {
-        count: 3,
-        price: 250,
-    };
-    let dear = Order {
-        count: 65536,
-        price: 65536,
-    };
-    let bills = batch::bills(rt, alloc, pool, 2, vec![in alloc; many, dear, many]?)?;
-    println!(rt; "batch {bills:?}")?;
-    for last in [many, dear] {
-        match checked::check_orders(rt, alloc, pool, 3, vec![in alloc; many, many, last]?)? {
-            Checked::Amounts(amounts) => println!(rt; "checked {amounts:?}")?,
-            Checked::Stopped(piece, _) => println!(rt; "checked, and stopped at {piece}")?,
-        }
+    let answer = answer?;
+    println!(rt; "{name} {answer:?}")?;
+    Ok(())
+}
+
+// Two batches of orders: one in which each order has its bill, and one that stops where an order comes to too much.
+fn batches(rt: &impl Machine, pool: &Pool<NoGate>) -> Result<(), Stop> {
+    let orders = vec![in rt.alloc(); MANY, DEAR, MANY]?;
+    show(rt, "batch", batch::bills(rt, rt.alloc(), pool, 2, orders))?;
+    check_batch(rt, pool, MANY)?;
+    check_batch(rt, pool, DEAR)
+}
+
+fn check_batch(rt: &impl Machine, pool: &Pool<NoGate>, last: Order) -> Result<(), Stop> {
+    let orders = vec![in rt.alloc(); MANY, MANY, last]?;
+    match checked::check_orders(rt, rt.alloc(), pool, 3, orders)? {
+        Checked::Amounts(amounts) => println!(rt; "checked {amounts:?}")?,
+        Checked::Stopped(piece, _) => println!(rt; "checked, and stopped at {piece}")?,
     }
     Ok(())
 }
 
-// Calls over whole lists.
-fn calls<H: Threads + Wait + Sync + Print>(
-    rt: &H,
-    alloc: Global,
-    pool: &Pool<NoGate>,
-) -> Result<(), Stop> {
+// Texts, of which one is no decimal.
+fn read_decimals(rt: &impl Machine, pool: &Pool<NoGate>) -> Result<(), Stop> {
+    let alloc = rt.alloc();
     let texts = vec![in alloc; format!(in alloc; "12")?, format!(in alloc; "7x")?]?;
     match decimals::numbers(rt, alloc, pool, texts)? {
         Ok(numbers) => println!(rt; "decimals {numbers:?}")?,
         Err(failed) => println!(rt; "decimals {:?}, none at {}", failed.before, failed.place)?,
     }
-    solved_and_dot(rt, alloc, pool)
+    Ok(())
 }
 
-fn solved_and_dot<H: Threads + Wait + Sync + Print>(
-    rt: &H,
-    alloc: Global,
-    pool: &Pool<NoGate>,
-) -> Result<(), Stop> {
-    let values = vec![in alloc; 0u32, 1000, 400]?;
-    let solved = solver::solved(rt, alloc, pool, 500, values, 100)?;
-    println!(rt; "solver {solved:?}")?;
-    let numbers = SharedList::from_vec(alloc, vec![in alloc; 1u32, 2, 3]?)?;
-    let dot = vectors::dot(rt, alloc, pool, &numbers, &numbers)?;
-    println!(rt; "dot {dot}")?;
-    Ok(())
+fn solved(rt: &impl Machine, pool: &Pool<NoGate>) -> Result<Option<Vec<u32>>, Fault> {
+    let values = vec![in rt.alloc(); 0u32, 1000, 400]?;
+    solver::solved(rt, rt.alloc(), pool, 500, values, 100)
+}
+
+fn dot(rt: &impl Machine, pool: &Pool<NoGate>) -> Result<u64, Fault> {
+    let numbers = SharedList::from_vec(rt.alloc(), vec![in rt.alloc(); 1u32, 2, 3]?)?;
+    vectors::dot(rt, rt.alloc(), pool, &numbers, &numbers)
 }
 
 // The greatest sum of a run of four thousand values, which are split.
-fn greatest<H: Threads + Wait + AllocGlobal + Sync + Print>(rt: &H) -> Result<(), Stop> {
-    let alloc = rt.alloc();
+fn greatest_sum(rt: &impl Machine) -> Result<Option<i64>, Fault> {
     let values = (0..4000u32).map(|at| i64::from(at % 8) - 3);
-    let values = SharedList::from_vec(alloc, values.collect(alloc)?)?;
-    let greatest = runs::greatest_sum(rt, values.run(0, values.len())?)?;
-    println!(rt; "runs {greatest:?}")?;
-    Ok(())
+    let values = SharedList::from_vec(rt.alloc(), values.collect(rt.alloc())?)?;
+    runs::greatest_sum(rt, values.run(0, values.len())?)
 }
 
-// Sums up to each value of a table, and the product of two matrices.
-fn sums_and_product<H: Threads + Wait + Sync + Print>(
-    rt: &H,
-    alloc: Global,
-    pool: &Pool<NoGate>,
-) -> Result<(), Stop> {
-    let table = vec![in alloc; 3u64, 1, 4, 1, 5, 9, 2, 6]?;
-    let sums = prefix::summed(rt, alloc, pool, 3, table)?;
-    println!(rt; "prefix {sums:?}")?;
-    let rows = vec![in alloc; vec![in alloc; 1u64, 2, 3]?, vec![in alloc; 4u64, 5, 6]?]?;
-    let columns = vec![in alloc; 1u64, 0, 1, 0, 2, 2]?;
-    let entries = product::multiplied(rt, alloc, pool, rows, columns.as_slice())?;
-    println!(rt; "product {entries:?}")?;
-    Ok(())
+fn prefix_sums(rt: &impl Machine, pool: &Pool<NoGate>) -> Result<Vec<u64>, Fault> {
+    let table = vec![in rt.alloc(); 3u64, 1, 4, 1, 5, 9, 2, 6]?;
+    prefix::summed(rt, rt.alloc(), pool, 3, table)
 }
 
-// Passes over values, and keys looked up in a table.
-fn passes_and_ranks<H: Threads + Wait + Sync + Print>(
-    rt: &H,
-    alloc: Global,
-    pool: &Pool<NoGate>,
-) -> Result<(), Stop> {
-    let heat = vec![in alloc; 0u32, 0, 0, 0, 4096, 0, 0, 0, 0]?;
-    let smooth = stencil::smoothed(rt, alloc, pool, 4, heat, 8)?;
-    println!(rt; "stencil {smooth:?}")?;
-    let limits = vec![in alloc; 50u32, 20, 90, 20]?;
-    let keys = vec![in alloc; 21u32, 20, 90, 100]?;
-    let ranks = ranks::ranks(rt, alloc, pool, limits, keys)?;
-    println!(rt; "ranks {ranks:?}")?;
-    Ok(())
+fn matrix_product(rt: &impl Machine, pool: &Pool<NoGate>) -> Result<Vec<u64>, Fault> {
+    let rows = rows(rt.alloc())?;
+    product::multiplied(rt, rt.alloc(), pool, rows, &[1, 0, 1, 0, 2, 2])
+}
+
+fn rows(alloc: Global) -> Result<Vec<Vec<u64>>, AllocError> {
+    Ok(vec![in alloc; vec![in alloc; 1u64, 2, 3]?, vec![in alloc; 4u64, 5, 6]?]?)
+}
+
+fn smoothed(rt: &impl Machine, pool: &Pool<NoGate>) -> Result<Vec<u32>, Fault> {
+    let heat = vec![in rt.alloc(); 0u32, 0, 0, 0, 4096, 0, 0, 0, 0]?;
+    stencil::smoothed(rt, rt.alloc(), pool, 4, heat, 8)
+}
+
+// Keys looked up in a table.
+fn ranks_of_keys(rt: &impl Machine, pool: &Pool<NoGate>) -> Result<Vec<usize>, Fault> {
+    let table = vec![in rt.alloc(); 50u32, 20, 90, 20]?;
+    let keys = vec![in rt.alloc(); 21u32, 20, 90, 100]?;
+    ranks::ranks(rt, rt.alloc(), pool, table, keys)
 }
 
 // The bites that win a game, whose jobs are of three kinds, each under the next.
-fn game<H: Threads + Wait + Sync + Print>(
-    rt: &H,
-    alloc: Global,
-    pool: &Pool<NoGate>,
-) -> Result<(), Stop> {
-    let board = Board {
-        top: 4,
-        middle: 3,
-        bottom: 3,
-    };
-    let bites = evaluator::won_by::<Evaluate<Evaluate<Recurse>>, _, _>(rt, alloc, pool, board)?;
-    println!(rt; "evaluator {bites:?}")?;
-    Ok(())
+fn winning_bites(rt: &impl Machine, pool: &Pool<NoGate>) -> Result<Vec<usize>, Fault> {
+    evaluator::won_by::<Evaluate<Evaluate<Recurse>>, _, _>(rt, rt.alloc(), pool, BOARD)
 }

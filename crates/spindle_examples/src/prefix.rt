@@ -1,10 +1,10 @@
 //! Prefix sums of a table in two rounds of one lock. The first round sums each run of the table; then each run's start is known,
 //! the sum of the runs before it, and the second round sums within each run from there.
 ghost use Rattle.std.specs.Prelude.{◌≡◌, ◌<◌, IfOk, None, map, sum};
-ghost use Rattle.spindle_examples.specs.Prefix.{prefix_sums, answers_to, continued};
+ghost use Rattle.spindle_examples.specs.Prefix.{asked_of, prefix_sums, answers_to, continued};
 ghost use Rattle.spindle_examples.specs.Wrapping.{wrapped};
 
-use crate::sums::Sums;
+use crate::sums::{Asked, Sums};
 use spindle::prelude::*;
 
 // One round: what is asked of each run, one behind the other.
@@ -12,42 +12,40 @@ fn ask<G: Gate, H: Threads + Wait + Sync>(
     rt: &H,
     alloc: Global,
     leader: &mut Leader<Sums, G>,
-    runs: Vec<(Option<u64>, ListRun<u64>)>,
+    asked: Vec<Asked>,
 ) -> Result<Vec<u64>, Fault>
-    ensures { IfOk result (λ sums. sums.items ≡ answers_to runs.items) }
+    ensures { IfOk result (λ sums. sums.items ≡ answers_to asked.items) }
 {
-    let jobs = runs.len();
-    let answers = leader.for_each(rt, alloc, jobs, runs)?;
+    let jobs = asked.len();
+    let answers = leader.for_each(rt, alloc, jobs, asked)?;
     Ok(gathered(alloc, answers)??)
 }
 
 // Each run, to be asked for its total.
-fn unstarted(
-    alloc: Global,
-    runs: &[ListRun<u64>],
-) -> Result<Vec<(Option<u64>, ListRun<u64>)>, AllocError>
-    ensures { IfOk result (λ asked. asked.items ≡ map (λ run. (None, run)) runs.now) }
+fn unstarted(alloc: Global, runs: &[ListRun<u64>]) -> Result<Vec<Asked>, AllocError>
+    ensures { IfOk result (λ asked. asked.items ≡ map (asked_of None) runs.now) }
 {
     let mut asked = Vec::new(alloc);
     for run in runs {
-        asked.push((None, run.clone()?))?;
+        let run = run.clone()?;
+        asked.push(Asked { start: None, run })?;
     }
     Ok(asked)
 }
 
 // Each run with its start, where these are the totals of the runs.
-fn started(
-    alloc: Global,
-    runs: &[ListRun<u64>],
-    totals: &[u64],
-) -> Result<Vec<(Option<u64>, ListRun<u64>)>, AllocError>
+fn started(alloc: Global, runs: &[ListRun<u64>], totals: &[u64]) -> Result<Vec<Asked>, AllocError>
     requires { totals.now ≡ map (λ run. wrapped (sum run)) runs.now }
     ensures { IfOk result (λ asked. asked.items ≡ continued 0 runs.now) }
 {
     let mut asked = Vec::new(alloc);
     let mut start = 0u64;
     for at in 0..runs.len() {
-        asked.push((Some(start), runs[at].clone()?))?;
+        let run = runs[at].clone()?;
+        asked.push(Asked {
+            start: Some(start),
+            run,
+        })?;
         start = start.wrapping_add(totals[at]);
     }
     Ok(asked)

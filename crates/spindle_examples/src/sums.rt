@@ -1,32 +1,38 @@
 //! What a job makes of a run of a table: its total, or the sums from a start up to each place, in 64 bits.
 ghost use Rattle.std.specs.Prelude.{◌≡◌, IfOk, sum};
 ghost use Rattle.std.proofs.Common.{rules};
-ghost use Rattle.spindle_examples.specs.Prefix.{running, sums_of};
+ghost use Rattle.spindle_examples.specs.Prefix.{running, answer_to};
 ghost use Rattle.spindle_examples.specs.Wrapping.{wrapped};
 
 use spindle::prelude::*;
 
-/// Sums a run of the table: with a start, up to each place; with none, its total alone.
+/// A run of the table, with a start where its sums up to each place are asked for; with none, its total alone is.
+#[derive(Clone, PartialEq, Eq, Drop)]
+pub struct Asked {
+    pub start: Option<u64>,
+    pub run: ListRun<u64>,
+}
+
+/// Sums a run of the table as asked.
 pub struct Sums;
 
 impl Job for Sums {
-    type In = (Option<u64>, ListRun<u64>);
+    type In = Asked;
 
     type Out = Result<Vec<u64>, AllocError>;
 
     type Inner = End;
 
-    ghost meets = { λ asked answer.
-        IfOk answer (λ sums. sums.items ≡ sums_of asked.0 asked.1) };
+    ghost meets = { λ asked answer. IfOk answer (λ sums. sums.items ≡ answer_to asked) };
 
     fn run<H: Threads + Wait + Sync>(
         _rt: &H,
         alloc: Global,
-        input: &(Option<u64>, ListRun<u64>),
+        asked: &Asked,
         _cx: &mut JobCx<End>,
     ) -> Result<Vec<u64>, AllocError> {
-        let values = input.1.as_slice();
-        match input.0 {
+        let values = asked.run.as_slice();
+        match asked.start {
             Some(start) => running_sums(alloc, start, values),
             None => Ok(vec![in alloc; total(values)]?),
         }

@@ -82,9 +82,7 @@ fn nested<H: Threads + Wait + Sync>(
 ) -> Result<Vec<Result<Vec<Span>, Fault>>, Fault> {
     let pool = Pool::new(4, Limits::new(), NoGate);
     let locks = Clocked::new(alloc)?.copies(alloc, LOCKS)?;
-    LockOf::<OpensLock>::with_lock(rt, alloc, &pool, 4, |leader| {
-        leader.for_each(rt, alloc, LOCKS, locks)
-    })?
+    run_one::<OpensLock>(rt, alloc, &pool, LOCKS, locks)
 }
 
 /// Prints a line for each job: its number, its thread, and the events of its begin and its end. A nested round has a line before.

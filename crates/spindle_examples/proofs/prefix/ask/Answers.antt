@@ -1,13 +1,12 @@
 -- The answers of the runs, one behind the other.
-use Rattle.std.proofs.Common.{ℕ, List, Option, subst}
+use Rattle.std.proofs.Common.{subst}
 use Rattle.std.specs.declared.alloc.AllocError.{AllocError}
 use Rattle.spindle.specs.Gathered.{IsGathered}
 use Rattle.spindle.proofs.GatheredLists.{gathered_values}
-use Rattle.spindle_examples.specs.Prefix.{sums_of}
+use Rattle.spindle_examples.specs.Prefix.{answer_to}
 use Rattle.spindle_examples.proofs.prefix.ask.Goals as goal
 
 pub returns : goal.returns
 returns g c =
-    let sums : Option ℕ × List ℕ → List ℕ = λ asked. sums_of asked.0 asked.1 in
     let all = subst (λ r. IsGathered c.in_ok-answers.answers.items r) c.in_ok-branch.was c.in_ok-gathered.ensures.answers in
-    gathered_values {E = AllocError} sums c.args.runs.items c.in_ok-answers.answers.items c.in_ok-branch.field-0 c.in_ok-answers.ensures.answer all
+    gathered_values {E = AllocError} answer_to c.args.asked.items c.in_ok-answers.answers.items c.in_ok-branch.field-0 c.in_ok-answers.ensures.answer all

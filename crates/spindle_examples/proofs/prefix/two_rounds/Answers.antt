@@ -1,6 +1,6 @@
 -- The first round answers the runs' totals, and so the second the sums of the whole table.
 use Rattle.std.proofs.Common.{rules, ◌≡◌, ℕ, List, None, IfOk, Vec, Global, map, sum, ap, sym, subst, ◌∙◌}
-use Rattle.spindle_examples.specs.Prefix.{running, prefix_sums, answers_to, continued}
+use Rattle.spindle_examples.specs.Prefix.{asked_of, running, prefix_sums, answers_to, continued}
 use Rattle.spindle_examples.specs.Wrapping.{wrapped}
 use Rattle.spindle_examples.proofs.Prefixes.{joined_sums, joined_totals}
 use Rattle.spindle_examples.proofs.prefix.two_rounds.Goals as goal
@@ -11,7 +11,7 @@ started-requires g c =
     c.as_slice-3.ensures.value
     ∙ c.in_ok-totals.ensures
     ∙ ap answers_to c.in_ok-unstarted.ensures
-    ∙ ap (λ (runs : List (List ℕ)). answers_to (map (λ run. (None, run)) runs)) c.as_slice.ensures.value
+    ∙ ap (λ (runs : List (List ℕ)). answers_to (map (asked_of None) runs)) c.as_slice.ensures.value
     ∙ joined_totals c.in_ok-runs.runs.items
     ∙ ap (map total) (sym c.as_slice-2.ensures.value)
 
