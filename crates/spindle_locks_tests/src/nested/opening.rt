@@ -211,8 +211,21 @@ fn helpers_come_to_locks_of_each_size(rt: HostRuntime) -> Result<(), Fault> {
     play::<Opening, _>(&rt, rt.alloc(), ROWS)
 }
 
-// The same one and two kinds of job further up.
+// The same one kind of job further up.
 fn play_above<K: Job<In = Ask, Out = Answer> + Send, H: Threads + Wait + Abort + Sync>(
+    rt: &H,
+    alloc: Global,
+    rows: &[Row],
+) -> Result<(), Fault>
+where
+    K::Inner: Send,
+    <K::Inner as Nest>::ChildSlots: Send + Sync,
+{
+    play::<Above<K>, H>(rt, alloc, rows)
+}
+
+// The same one and two kinds further up, each named where the one below it is hidden.
+fn play_far_above<K: Job<In = Ask, Out = Answer> + Send, H: Threads + Wait + Abort + Sync>(
     rt: &H,
     alloc: Global,
 ) -> Result<(), Fault>
@@ -220,11 +233,11 @@ where
     K::Inner: Send,
     <K::Inner as Nest>::ChildSlots: Send + Sync,
 {
-    play::<Above<K>, H>(rt, alloc, TWO_KINDS)?;
-    play::<Above<Above<K>>, H>(rt, alloc, THREE_KINDS)
+    play_above::<K, H>(rt, alloc, TWO_KINDS)?;
+    play_above::<Above<K>, H>(rt, alloc, THREE_KINDS)
 }
 
 #[test]
 fn helpers_come_to_locks_of_jobs_of_jobs(rt: HostRuntime) -> Result<(), Fault> {
-    play_above::<Opening, _>(&rt, rt.alloc())
+    play_far_above::<Opening, _>(&rt, rt.alloc())
 }
