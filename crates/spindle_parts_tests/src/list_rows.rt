@@ -29,7 +29,11 @@ fn end_with(
     is(rt, runs.len(), 2);
     for run in runs.iter().skip(1) {
         are(rt, run.as_slice(), items);
-        is(rt, (run.len(), run.is_empty()), (items.len(), items.is_empty()));
+        is(
+            rt,
+            (run.len(), run.is_empty()),
+            (items.len(), items.is_empty()),
+        );
     }
     Ok(())
 }
