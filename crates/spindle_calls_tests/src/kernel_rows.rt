@@ -136,9 +136,9 @@ fn refused_update_has_run_no_job(rt: HostRuntime) -> Result<(), Fault> {
     Ok(())
 }
 
-// Adds the numbers of a pair.
+/// Adds the numbers of a pair.
 #[derive(Drop)]
-struct Sum;
+pub struct Sum;
 
 impl Kernel for Sum {
     type In = (u32, u32);
@@ -165,8 +165,8 @@ fn pairs_go_as_far_as_both_lists(rt: HostRuntime) -> Result<(), Fault> {
     Ok(())
 }
 
-// The second number of the last pair whose second isn't 0, or 0: which comes later counts.
-struct LastSecond;
+/// The second number of the last pair whose second isn't 0, or 0: which comes later counts.
+pub struct LastSecond;
 
 impl Combine for LastSecond {
     ghost use Rattle.spindle_calls_tests.specs.Last.{later, later_associative};

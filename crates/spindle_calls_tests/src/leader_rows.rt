@@ -1,28 +1,13 @@
-//! Rows of a leader that maps a list round after round.
+//! Rows of leaders that go over pairs round after round.
 //!
 //! No clause says that memory which is there is used, nor how many pieces there are.
-ghost use Rattle.std.specs.Prelude.{◌≡◌, ◌+◌};
+ghost use Rattle.std.specs.Prelude.{◌≡◌};
 
 use crate::checks::{are, is};
+use crate::kernel_rows::{LastSecond, Sum};
 use crate::leaders::{Led, LedBy, Runs, in_place};
 use spindle::kernels::{Again, Mapping, Source};
 use spindle::prelude::*;
-
-// Adds one to a number.
-#[derive(Drop)]
-struct OneMore;
-
-impl Kernel for OneMore {
-    type In = u32;
-
-    type Out = u64;
-
-    ghost computes = { λ _ x y. y ≡ x + 1 };
-
-    fn compute(&self, x: &u32) -> u64 {
-        u64::from(*x) + 1
-    }
-}
 
 // A list, and what the lists of pieces become that have served before. The kernel has no name here, for the checker's sake.
 impl<K: Kernel + Again, S: Source<Item = K::In>> Led for InPlace<Mapping<K, S>> {
@@ -43,13 +28,34 @@ impl<K: Kernel + Again, S: Source<Item = K::In>> Led for InPlace<Mapping<K, S>> 
     }
 }
 
+// Two totals.
+impl Led for PairTotalsOf<u32, u32, LastSecond> {
+    type Task = PairRun<u32, u32>;
+
+    type Answer = (u32, u32);
+
+    fn lead<H: Runs>(
+        rt: &H,
+        alloc: Global,
+        leader: &mut LedBy<Self>,
+        pairs: &PairRun<u32, u32>,
+    ) -> Result<(u32, u32), Fault> {
+        let one = leader.reduce(rt, alloc, pairs)?;
+        Ok((one, leader.reduce(rt, alloc, pairs)?))
+    }
+}
+
 #[test]
-fn a_leader_maps_a_list_again(rt: HostRuntime) -> Result<(), Fault> {
+fn a_leader_goes_over_pairs_again(rt: HostRuntime) -> Result<(), Fault> {
     let alloc = rt.alloc();
-    let list = SharedList::from_vec(alloc, vec![in alloc; 3, 1, 4, 1, u32::MAX]?)?;
-    let task = (Shared::new(alloc, OneMore)?, list.run(0, list.len())?);
-    let (sums, pieces) = in_place::<MapsOf<OneMore>, _>(&rt, alloc, 5, &task)?;
-    let wanted = [4, 2, 5, 2, 4294967296];
+    let first = SharedList::from_vec(alloc, vec![in alloc; 3, 1, 4, 1, 5, 9]?)?;
+    let second = SharedList::from_vec(alloc, vec![in alloc; 100, 200, 300, 400, 500]?)?;
+    let pairs = PairRun::new(&first, &second)?;
+    let totals = in_place::<PairTotalsOf<u32, u32, LastSecond>, _>(&rt, alloc, 5, &pairs)?;
+    is(&rt, totals, (500, 500));
+    let task = (Shared::new(alloc, Sum)?, pairs);
+    let (sums, pieces) = in_place::<PairMapsOf<u32, u32, Sum>, _>(&rt, alloc, 5, &task)?;
+    let wanted = [103, 201, 304, 401, 505];
     are(&rt, &sums, &wanted);
     is(&rt, pieces.len(), 5);
     let all = pieces.iter().flatten();

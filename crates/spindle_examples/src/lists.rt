@@ -42,6 +42,9 @@ impl Kernel for OneMore {
     }
 }
 
+/// What calls took in nanoseconds, and what the last of them answered.
+type Timed<T> = Result<(Vec<u64>, T), Stop>;
+
 /// Times all calls.
 pub fn time<H: Machine>(rt: &H, pool: &Pool<NoGate>) -> Result<(), Stop> {
     maps(rt, pool)?;
@@ -56,87 +59,105 @@ fn maps<H: Machine>(rt: &H, pool: &Pool<NoGate>) -> Result<(), Stop> {
 }
 
 fn maps_in_lock<H: Machine>(rt: &H, pool: &Pool<NoGate>, run: ListRun<u64>) -> Result<(), Stop> {
-    let kernel = Shared::new(rt.alloc(), OneMore)?;
-    let mut task = (kernel, run, Vec::new(rt.alloc()));
-    let times = in_lock::<MapsOf<OneMore>, _>(rt, pool, &mut task)?;
-    let is_right = task.2.iter().flatten().all(|x| *x == 103);
+    let task = (Shared::new(rt.alloc(), OneMore)?, run);
+    let (times, pieces) = in_lock::<MapsOf<OneMore>, _>(rt, rt.alloc(), pool, &task)?;
+    let is_right = pieces.iter().flatten().all(|x| *x == 103);
     print(rt, pool, "map1m lock", is_right, times)
 }
 
 fn maps_by_rayon<H: Machine>(rt: &H, pool: &Pool<NoGate>, list: &[u64]) -> Result<(), Stop> {
-    let times = timed(rt, || -> Result<(), Stop> {
+    let mut times = Vec::with_capacity(rt.alloc(), CALLS)?;
+    for _ in 0..CALLS {
+        let begin = Instant::now(rt)?;
         let more = list.par_iter().map(|x: &u64| x.wrapping_add(1));
         let _list: Vec<u64> = more.collect(rt, rt.alloc())?;
-        Ok(())
-    })?;
+        times.push(since(rt, begin)?)?;
+    }
     print(rt, pool, "map1m rayon", true, times)
 }
 
-/// A kind of job in place, and the call of its leader that is timed. A lock is opened by no kind's name, for the checker's sake.
+/// A kind of job in place, and the calls of its leader that are timed. A lock is opened by no kind's name, for the checker's sake.
 trait Led: Updates<In = (), Out = (), Inner = End> {
-    /// What the call is given, and what it leaves.
+    /// What the calls are given.
     type Task: Drop;
 
-    /// Calls the leader once.
+    /// What each answers.
+    type Answer: Drop;
+
+    /// Times all calls.
     fn lead<H: Machine>(
         rt: &H,
+        alloc: Global,
         leader: &mut SlotLeader<Self, NoGate, PlaceLeaderState<Self>>,
-        task: &mut Self::Task,
-    ) -> Result<(), Stop>
+        task: &Self::Task,
+    ) -> Timed<Self::Answer>
         requires { IsSync H.row };
 }
 
 // Times the calls of a leader whose lock stays open.
 fn in_lock<J: Led + Send, H: Machine>(
     rt: &H,
+    alloc: Global,
     pool: &Pool<NoGate>,
-    task: &mut J::Task,
-) -> Result<Vec<u64>, Stop>
+    task: &J::Task,
+) -> Timed<J::Answer>
 where
     J::Item: Send,
 {
     let threads = pool.max_num_threads();
     LockOf::<J>::with_slots_in_place(
         rt,
-        rt.alloc(),
+        alloc,
         pool,
         threads,
         threads.min(1024) * 4,
-        |leader| -> Result<Vec<u64>, Stop>
+        |leader| -> Timed<J::Answer>
             requires { IsSync H.row }
-        {
-            timed(
-                rt,
-                || -> Result<(), Stop>
-                    requires { IsSync H.row }
-                { J::lead(rt, leader, task) },
-            )
-        },
+        { J::lead(rt, alloc, leader, task) },
     )?
 }
 
 impl<K: Kernel + Again, S: Source<Item = K::In>> Led for InPlace<Mapping<K, S>> {
-    type Task = (K, S, Vec<Vec<K::Out>>);
+    type Task = (K, S);
+
+    type Answer = Vec<Vec<K::Out>>;
 
     fn lead<H: Machine>(
         rt: &H,
+        alloc: Global,
         leader: &mut SlotLeader<Self, NoGate, PlaceLeaderState<Self>>,
-        task: &mut (K, S, Vec<Vec<K::Out>>),
-    ) -> Result<(), Stop> {
-        Ok(leader.map_into(rt, rt.alloc(), &task.0, &task.1, &mut task.2)?)
+        task: &(K, S),
+    ) -> Timed<Vec<Vec<K::Out>>> {
+        let mut times = Vec::with_capacity(alloc, CALLS)?;
+        let mut pieces = Vec::new(alloc);
+        for _ in 0..CALLS {
+            let begin = Instant::now(rt)?;
+            leader.map_into(rt, alloc, &task.0, &task.1, &mut pieces)?;
+            times.push(since(rt, begin)?)?;
+        }
+        Ok((times, pieces))
     }
 }
 
 impl<C: Combine, S: Source<Item = C::Item>> Led for InPlace<Folds<C, S>> {
-    type Task = (S, C::Total);
+    type Task = S;
+
+    type Answer = C::Total;
 
     fn lead<H: Machine>(
         rt: &H,
+        alloc: Global,
         leader: &mut SlotLeader<Self, NoGate, PlaceLeaderState<Self>>,
-        task: &mut (S, C::Total),
-    ) -> Result<(), Stop> {
-        task.1 = leader.reduce(rt, rt.alloc(), &task.0)?;
-        Ok(())
+        source: &S,
+    ) -> Timed<C::Total> {
+        let mut times = Vec::with_capacity(alloc, CALLS)?;
+        let mut total = C::neutral();
+        for _ in 0..CALLS {
+            let begin = Instant::now(rt)?;
+            total = leader.reduce(rt, alloc, source)?;
+            times.push(since(rt, begin)?)?;
+        }
+        Ok((times, total))
     }
 }
 
@@ -144,7 +165,10 @@ fn dots<H: Machine>(rt: &H, pool: &Pool<NoGate>) -> Result<(), Stop> {
     let alloc = rt.alloc();
     let first = SharedList::from_vec(alloc, (0..NUMBERS).collect(alloc)?)?;
     let second = SharedList::from_vec(alloc, (0..NUMBERS).rev().collect(alloc)?)?;
-    let wanted = by_rayon(rt, first.as_slice(), second.as_slice());
+    let mut wanted = 0u64;
+    for pair in first.as_slice().iter().zip(second.as_slice()) {
+        wanted = wanted.wrapping_add(u64::from(*pair.0).wrapping_mul(u64::from(*pair.1)));
+    }
     dots_in_lock(rt, pool, PairRun::new(&first, &second)?, wanted)?;
     dots_by_rayon(rt, pool, first.as_slice(), second.as_slice(), wanted)
 }
@@ -155,9 +179,9 @@ fn dots_in_lock<H: Machine>(
     pairs: PairRun<u32, u32>,
     wanted: u64,
 ) -> Result<(), Stop> {
-    let mut task = (pairs, 0);
-    let times = in_lock::<PairTotalsOf<u32, u32, Products>, _>(rt, pool, &mut task)?;
-    print(rt, pool, "dot1m lock", task.1 == wanted, times)
+    let alloc = rt.alloc();
+    let (times, total) = in_lock::<PairTotalsOf<u32, u32, Products>, _>(rt, alloc, pool, &pairs)?;
+    print(rt, pool, "dot1m lock", total == wanted, times)
 }
 
 fn dots_by_rayon<H: Machine>(
@@ -167,11 +191,12 @@ fn dots_by_rayon<H: Machine>(
     second: &[u32],
     wanted: u64,
 ) -> Result<(), Stop> {
-    let mut total = 0;
-    let times = timed(rt, || -> Result<(), Stop> {
+    let (mut times, mut total) = (Vec::with_capacity(rt.alloc(), CALLS)?, 0);
+    for _ in 0..CALLS {
+        let begin = Instant::now(rt)?;
         total = by_rayon(rt, first, second);
-        Ok(())
-    })?;
+        times.push(since(rt, begin)?)?;
+    }
     print(rt, pool, "dot1m rayon", total == wanted, times)
 }
 
@@ -183,20 +208,11 @@ fn by_rayon<H: Machine>(rt: &H, first: &[u32], second: &[u32]) -> u64 {
         .reduce(rt, || 0, |x: u64, y: u64| x.wrapping_add(y))
 }
 
-// What so many calls take, in nanoseconds.
-fn timed<H: Machine, F: FnMut() -> Result<(), Stop>>(rt: &H, mut call: F) -> Result<Vec<u64>, Stop>
-    requires { F.IsAlwaysCallable call }
-{
-    let mut times = Vec::with_capacity(rt.alloc(), CALLS)?;
-    for _ in 0..CALLS {
-        let begin = Instant::now(rt)?;
-        call()?;
-        times.push(u64::from(begin.elapsed(rt)?.subsec_nanos()))?;
-    }
-    Ok(times)
+// The nanoseconds since then.
+fn since<H: Clock>(rt: &H, begin: Instant) -> Result<u64, Stop> {
+    Ok(u64::from(begin.elapsed(rt)?.subsec_nanos()))
 }
 
-// Prints the best and the middle of these times, those of the first three calls left out.
 fn print<H: Machine>(
     rt: &H,
     pool: &Pool<NoGate>,
@@ -209,8 +225,12 @@ fn print<H: Machine>(
     }
     let mut times = times.split_off(3.min(times.len()))?;
     times.sort_unstable();
-    let best = times.first().copied().unwrap_or(0);
-    let median = times.get(50).copied().unwrap_or(0);
-    println!(rt; "{name} {} {best} {median}", pool.max_num_threads())?;
+    let (best, median) = (times.first().copied(), times.get(50).copied());
+    println!(rt;
+        "{name} {} {} {}",
+        pool.max_num_threads(),
+        best.unwrap_or(0),
+        median.unwrap_or(0)
+    )?;
     Ok(())
 }

@@ -3,7 +3,6 @@
 //!
 //! Clauses say what these calls answer. These rows show what no clause says: that a list comes out again exactly where no clone and
 //! no run of it is left, and that memory is refused only where it was; and each call once with its answer.
-
 ghost use Rattle.std.specs.Prelude.{◌≡◌, ◌∷◌, IfOk, []};
 
 use crate::checks::{are, holds, is};
