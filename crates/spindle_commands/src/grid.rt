@@ -62,7 +62,7 @@ impl Job for AddOneByChunks {
 }
 
 /// What a grid is made of, and by how many threads and jobs.
-#[derive(Clone, Copy, Debug, PartialEq, Eq)]
+#[derive(Clone, Copy)]
 pub struct Plan {
     /// The numbers of a column.
     pub rows: u32,

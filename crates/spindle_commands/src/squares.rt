@@ -8,7 +8,7 @@ use spindle::prelude::*;
 use spindle::{with_lock, with_slots};
 
 /// What a round is made of, and by how many threads and jobs.
-#[derive(Clone, Copy, Debug, PartialEq, Eq)]
+#[derive(Clone, Copy)]
 pub struct RoundPlan {
     /// The numbers below it are the round's items.
     pub count: u32,

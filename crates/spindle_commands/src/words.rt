@@ -22,7 +22,7 @@ const MOST_CHUNKS: u32 = 4096;
 const MOST_THREADS: u32 = 64;
 
 /// A command with its numbers.
-#[derive(Clone, Copy, Debug, PartialEq, Eq)]
+#[derive(Clone, Copy)]
 pub enum Command {
     /// Prints the lengths of the pieces of `len` items for `jobs` jobs.
     Cut { len: u32, jobs: u32 },
