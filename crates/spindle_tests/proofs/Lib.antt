@@ -1,1 +1,3 @@
--- The lemmas of this crate.
+-- The lemmas of callers.
+pub mod Answering
+pub mod Trails

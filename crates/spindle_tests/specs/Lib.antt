@@ -1,1 +1,4 @@
 -- The definitions that contracts of this crate cite.
+pub mod Callers
+pub mod Last
+pub mod Halves

@@ -1,7 +1,7 @@
 -- What follows from answers that hold place by place.
 use Rattle.std.proofs.Common.{◌≡◌, List, [], ◌∷◌, refl}
 use Rattle.std.specs.List.{AllZip}
-use Rattle.spindle_calls_tests.specs.Callers.{IsFunction}
+use Rattle.spindle_tests.specs.Callers.{IsFunction}
 
 -- two lists of answers to the same items, where each item has one answer
 pub AllZip-function : {A B : Type 0} (R : A → B → Type 0) → IsFunction R → (xs : List A) (ys zs : List B) → AllZip R xs ys → AllZip R xs zs → ys ≡ zs

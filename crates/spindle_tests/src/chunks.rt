@@ -97,7 +97,7 @@ fn first_odd(chunk: &[u32]) -> Option<u32> {
 pub struct LastOdd;
 
 impl Combine for LastOdd {
-    ghost use Rattle.spindle_calls_tests.specs.Last.{later, odd_or_0, later_associative};
+    ghost use Rattle.spindle_tests.specs.Last.{later, odd_or_0, later_associative};
     ghost use Rattle.std.proofs.Common.{refl};
 
     type Item = u32;

@@ -1,8 +1,8 @@
 -- A number of which two seats' trails told would have begun twice.
 use Rattle.std.proofs.Common.{ℕ, subst, arith}
-use Rattle.spindle_calls_tests.specs.Callers.{TellsOf}
-use Rattle.spindle_calls_tests.proofs.Trails.{told_twice}
-use Rattle.spindle_calls_tests.proofs.callers.jobs_differ.Goals as goal
+use Rattle.spindle_tests.specs.Callers.{TellsOf}
+use Rattle.spindle_tests.proofs.Trails.{told_twice}
+use Rattle.spindle_tests.proofs.callers.jobs_differ.Goals as goal
 
 pub returns : goal.returns
 returns g c = λ threads s rule p q v w r j k apart at_p at_q by_v by_w same.

@@ -3,7 +3,7 @@ use Rattle.std.proofs.Common.{◌≡◌, ◌*◌, rules, ℕ, Vec, Global}
 use Rattle.std.specs.List.{AllZip}
 use Rattle.std.proofs.lemmas.Result.{IfOk-weaker}
 use Rattle.std.proofs.lemmas.Slice.Zip.{AllZip-map}
-use Rattle.spindle_calls_tests.proofs.callers.squares.Goals as goal
+use Rattle.spindle_tests.proofs.callers.squares.Goals as goal
 
 pub returns : goal.returns
 returns g c =

@@ -7,7 +7,7 @@ use Rattle.spindle_parts.specs.State.{times}
 use Rattle.spindle_rounds.specs.declared.round_table.view.View.{View}
 use Rattle.spindle_rounds.specs.RoundShown.{Deed, Began, deeds_of}
 use Rattle.spindle_rounds.specs.RoundTrails.{begun_by, told, told_by_all}
-use Rattle.spindle_calls_tests.specs.Callers.{TellsOf}
+use Rattle.spindle_tests.specs.Callers.{TellsOf}
 
 times_cat : (k : ℕ) (xs ys : List ℕ) → times k (xs ++ ys) ≡ times k xs + times k ys
 times_cat k [] ys = omega arith

@@ -3,7 +3,7 @@ use Rattle.std.proofs.Common.{ℕ, ◌+◌, ◌∙◌, map, ap, subst, rules}
 use Rattle.std.specs.declared.alloc.AllocError.{AllocError}
 use Rattle.spindle_parts.specs.Gathered.{IsGathered}
 use Rattle.spindle_parts.proofs.GatheredLists.{gathered_map}
-use Rattle.spindle_calls_tests.proofs.callers.one_more_each.Goals as goal
+use Rattle.spindle_tests.proofs.callers.one_more_each.Goals as goal
 
 pub returns : goal.returns
 returns g c =

@@ -4,7 +4,7 @@ ghost use Rattle.std.specs.Prelude.{◌≡◌, ◌+◌, ◌*◌, ◌<◌, ◌≤
 ghost use Rattle.std.specs.List.{AllZip};
 ghost use Rattle.std.proofs.Common.{rules};
 ghost use Rattle.spindle_locks.specs.Rounds.{job_count};
-ghost use Rattle.spindle_calls_tests.specs.Callers.{IsFunction, PublishedTwice, JobsDiffer};
+ghost use Rattle.spindle_tests.specs.Callers.{IsFunction, PublishedTwice, JobsDiffer};
 
 use crate::chunks::AddOne;
 use spindle::for_each;

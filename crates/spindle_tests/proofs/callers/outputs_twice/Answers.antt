@@ -1,8 +1,8 @@
 -- Both lists of outputs answer the same items.
 use Rattle.std.proofs.Common.{subst, List}
 use Rattle.std.specs.List.{AllZip}
-use Rattle.spindle_calls_tests.proofs.Answering.{AllZip-function}
-use Rattle.spindle_calls_tests.proofs.callers.outputs_twice.Goals as goal
+use Rattle.spindle_tests.proofs.Answering.{AllZip-function}
+use Rattle.spindle_tests.proofs.callers.outputs_twice.Goals as goal
 
 pub returns : goal.returns
 returns g c =

@@ -3,7 +3,7 @@ use Rattle.std.proofs.Common.{ℕ, ◌∙◌, ◌∷◌, false, arith, vec_len}
 use Rattle.spindle_locks.specs.Rounds.{job_count}
 use Rattle.spindle_rounds.specs.RoundShown.{Showed}
 use Rattle.spindle_rounds.specs.RoundSteps.{round_of}
-use Rattle.spindle_calls_tests.proofs.callers.two_rounds.Goals as goal
+use Rattle.spindle_tests.proofs.callers.two_rounds.Goals as goal
 
 pub returns-clause-rounds : goal.returns-clause-rounds
 returns-clause-rounds g c =

@@ -169,7 +169,7 @@ fn pairs_go_as_far_as_both_lists(rt: HostRuntime) -> Result<(), Fault> {
 pub struct LastSecond;
 
 impl Combine for LastSecond {
-    ghost use Rattle.spindle_calls_tests.specs.Last.{later, later_associative};
+    ghost use Rattle.spindle_tests.specs.Last.{later, later_associative};
     ghost use Rattle.std.proofs.Common.{refl};
 
     type Item = (u32, u32);

@@ -1,3 +1,0 @@
--- The lemmas of the examples.
-pub mod Answering
-pub mod Trails
