@@ -42,9 +42,6 @@ impl Kernel for OneMore {
     }
 }
 
-/// What calls took in nanoseconds, and what the last of them answered.
-type Timed<T> = Result<(Vec<u64>, T), Stop>;
-
 /// Times all calls.
 pub fn time<H: Machine>(rt: &H, pool: &Pool<NoGate>) -> Result<(), Stop> {
     maps(rt, pool)?;
@@ -59,105 +56,86 @@ fn maps<H: Machine>(rt: &H, pool: &Pool<NoGate>) -> Result<(), Stop> {
 }
 
 fn maps_in_lock<H: Machine>(rt: &H, pool: &Pool<NoGate>, run: ListRun<u64>) -> Result<(), Stop> {
-    let task = (Shared::new(rt.alloc(), OneMore)?, run);
-    let (times, pieces) = in_lock::<MapsOf<OneMore>, _>(rt, rt.alloc(), pool, &task)?;
-    let is_right = pieces.iter().flatten().all(|x| *x == 103);
+    let kernel = Shared::new(rt.alloc(), OneMore)?;
+    let mut task = (kernel, run, Vec::new(rt.alloc()));
+    let times = in_lock::<MapsOf<OneMore>, _>(rt, pool, &mut task)?;
+    let is_right = task.2.iter().flatten().all(|x| *x == 103);
     print(rt, pool, "map1m lock", is_right, times)
 }
 
 fn maps_by_rayon<H: Machine>(rt: &H, pool: &Pool<NoGate>, list: &[u64]) -> Result<(), Stop> {
-    let mut times = Vec::with_capacity(rt.alloc(), CALLS)?;
-    for _ in 0..CALLS {
-        let begin = Instant::now(rt)?;
+    let times = timed(rt, || -> Result<Vec<u64>, Stop> {
         let more = list.par_iter().map(|x: &u64| x.wrapping_add(1));
-        let _list: Vec<u64> = more.collect(rt, rt.alloc())?;
-        times.push(since(rt, begin)?)?;
-    }
+        Ok(more.collect(rt, rt.alloc())?)
+    })?;
     print(rt, pool, "map1m rayon", true, times)
 }
 
-/// A kind of job in place, and the calls of its leader that are timed. A lock is opened by no kind's name, for the checker's sake.
+/// A kind of job in place, and the call of its leader that is timed. A lock is opened by no kind's name, for the checker's sake.
 trait Led: Updates<In = (), Out = (), Inner = End> {
-    /// What the calls are given.
+    /// What the call is given, and what it leaves.
     type Task: Drop;
 
-    /// What each answers.
-    type Answer: Drop;
-
-    /// Times all calls.
+    /// Calls the leader once.
     fn lead<H: Machine>(
         rt: &H,
-        alloc: Global,
         leader: &mut SlotLeader<Self, NoGate, PlaceLeaderState<Self>>,
-        task: &Self::Task,
-    ) -> Timed<Self::Answer>
+        task: &mut Self::Task,
+    ) -> Result<(), Stop>
         requires { IsSync H.row };
 }
 
 // Times the calls of a leader whose lock stays open.
 fn in_lock<J: Led + Send, H: Machine>(
     rt: &H,
-    alloc: Global,
     pool: &Pool<NoGate>,
-    task: &J::Task,
-) -> Timed<J::Answer>
+    task: &mut J::Task,
+) -> Result<Vec<u64>, Stop>
 where
     J::Item: Send,
 {
     let threads = pool.max_num_threads();
     LockOf::<J>::with_slots_in_place(
         rt,
-        alloc,
+        rt.alloc(),
         pool,
         threads,
         threads.min(1024) * 4,
-        |leader| -> Timed<J::Answer>
+        |leader| -> Result<Vec<u64>, Stop>
             requires { IsSync H.row }
-        { J::lead(rt, alloc, leader, task) },
+        {
+            timed(
+                rt,
+                || -> Result<(), Stop>
+                    requires { IsSync H.row }
+                { J::lead(rt, leader, task) },
+            )
+        },
     )?
 }
 
 impl<K: Kernel + Again, S: Source<Item = K::In>> Led for InPlace<Mapping<K, S>> {
-    type Task = (K, S);
-
-    type Answer = Vec<Vec<K::Out>>;
+    type Task = (K, S, Vec<Vec<K::Out>>);
 
     fn lead<H: Machine>(
         rt: &H,
-        alloc: Global,
         leader: &mut SlotLeader<Self, NoGate, PlaceLeaderState<Self>>,
-        task: &(K, S),
-    ) -> Timed<Vec<Vec<K::Out>>> {
-        let mut times = Vec::with_capacity(alloc, CALLS)?;
-        let mut pieces = Vec::new(alloc);
-        for _ in 0..CALLS {
-            let begin = Instant::now(rt)?;
-            leader.map_into(rt, alloc, &task.0, &task.1, &mut pieces)?;
-            times.push(since(rt, begin)?)?;
-        }
-        Ok((times, pieces))
+        task: &mut (K, S, Vec<Vec<K::Out>>),
+    ) -> Result<(), Stop> {
+        Ok(leader.map_into(rt, rt.alloc(), &task.0, &task.1, &mut task.2)?)
     }
 }
 
 impl<C: Combine, S: Source<Item = C::Item>> Led for InPlace<Folds<C, S>> {
-    type Task = S;
-
-    type Answer = C::Total;
+    type Task = (S, C::Total);
 
     fn lead<H: Machine>(
         rt: &H,
-        alloc: Global,
         leader: &mut SlotLeader<Self, NoGate, PlaceLeaderState<Self>>,
-        source: &S,
-    ) -> Timed<C::Total> {
-        let mut times = Vec::with_capacity(alloc, CALLS)?;
-        let mut total = C::neutral();
-        for _ in 0..CALLS {
-            let begin = Instant::now(rt)?;
-            total = leader.reduce(rt, alloc, source)?;
-            times.push(since(rt, begin)?)?;
-        }
-        Ok((times, total))
+        task: &mut (S, C::Total),
+    ) -> Result<(), Stop> {
+        task.1 = leader.reduce(rt, rt.alloc(), &task.0)?;
+        Ok(())
     }
 }
 
@@ -179,9 +157,9 @@ fn dots_in_lock<H: Machine>(
     pairs: PairRun<u32, u32>,
     wanted: u64,
 ) -> Result<(), Stop> {
-    let alloc = rt.alloc();
-    let (times, total) = in_lock::<PairTotalsOf<u32, u32, Products>, _>(rt, alloc, pool, &pairs)?;
-    print(rt, pool, "dot1m lock", total == wanted, times)
+    let mut task = (pairs, 0);
+    let times = in_lock::<PairTotalsOf<u32, u32, Products>, _>(rt, pool, &mut task)?;
+    print(rt, pool, "dot1m lock", task.1 == wanted, times)
 }
 
 fn dots_by_rayon<H: Machine>(
@@ -191,12 +169,11 @@ fn dots_by_rayon<H: Machine>(
     second: &[u32],
     wanted: u64,
 ) -> Result<(), Stop> {
-    let (mut times, mut total) = (Vec::with_capacity(rt.alloc(), CALLS)?, 0);
-    for _ in 0..CALLS {
-        let begin = Instant::now(rt)?;
+    let mut total = 0;
+    let times = timed(rt, || -> Result<(), Stop> {
         total = by_rayon(rt, first, second);
-        times.push(since(rt, begin)?)?;
-    }
+        Ok(())
+    })?;
     print(rt, pool, "dot1m rayon", total == wanted, times)
 }
 
@@ -208,11 +185,23 @@ fn by_rayon<H: Machine>(rt: &H, first: &[u32], second: &[u32]) -> u64 {
         .reduce(rt, || 0, |x: u64, y: u64| x.wrapping_add(y))
 }
 
-// The nanoseconds since then.
-fn since<H: Clock>(rt: &H, begin: Instant) -> Result<u64, Stop> {
-    Ok(u64::from(begin.elapsed(rt)?.subsec_nanos()))
+// What so many calls take, in nanoseconds. What one answers is let go once the clock was read.
+fn timed<T: Drop, H: Machine, F: FnMut() -> Result<T, Stop>>(
+    rt: &H,
+    mut call: F,
+) -> Result<Vec<u64>, Stop>
+    requires { F.IsAlwaysCallable call }
+{
+    let mut times = Vec::with_capacity(rt.alloc(), CALLS)?;
+    for _ in 0..CALLS {
+        let begin = Instant::now(rt)?;
+        let _answer = call()?;
+        times.push(u64::from(begin.elapsed(rt)?.subsec_nanos()))?;
+    }
+    Ok(times)
 }
 
+// Prints the best and the middle of these times, those of the first three calls left out.
 fn print<H: Machine>(
     rt: &H,
     pool: &Pool<NoGate>,
@@ -225,12 +214,8 @@ fn print<H: Machine>(
     }
     let mut times = times.split_off(3.min(times.len()))?;
     times.sort_unstable();
-    let (best, median) = (times.first().copied(), times.get(50).copied());
-    println!(rt;
-        "{name} {} {} {}",
-        pool.max_num_threads(),
-        best.unwrap_or(0),
-        median.unwrap_or(0)
-    )?;
+    let best = times.first().copied().unwrap_or(0);
+    let median = times.get(50).copied().unwrap_or(0);
+    println!(rt; "{name} {} {best} {median}", pool.max_num_threads())?;
     Ok(())
 }
