@@ -7,6 +7,7 @@ use spindle::lock::{PlaysInPlace, PlaysPieces, Updates};
 use spindle::prelude::*;
 use spindle_locks_tests::rounds::Seen;
 use std::hint::spin_loop;
+use std::thread;
 
 /// How often rounds are played until each thread runs a job.
 pub const MOST_ROUNDS: usize = 10000;
@@ -44,20 +45,28 @@ impl Job for Staying {
 
 /// What such a job does.
 pub fn stay(turns: usize, cx: &JobCx<End>) -> Seen {
-    for _ in 0..turns {
+    for turn in 0..turns {
         if cx.current_num_threads() == cx.max_num_threads() {
             break;
         }
-        spin_loop();
+        take_turn(turn);
     }
-    for _ in 0..turns {
-        spin_loop();
+    for turn in 0..turns {
+        take_turn(turn);
     }
     (
         cx.current_thread_index(),
         cx.current_num_threads(),
         cx.max_num_threads(),
     )
+}
+
+// A turn of a job that stays. Where processors are few the other threads have theirs meanwhile.
+fn take_turn(turn: usize) {
+    if turn % 2000 == 0 {
+        thread::yield_now();
+    }
+    spin_loop();
 }
 
 /// Stays as `Staying` does, for as many turns as its item says in the place of the threads that are there. The item becomes where it ran.

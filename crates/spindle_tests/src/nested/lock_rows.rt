@@ -172,10 +172,10 @@ type Row = (usize, u32, usize, usize, Ask, usize);
 
 // One lock after the other, more than there are child slots.
 const ROUNDS: &[Row] = &[
-    (2, 65536, 8, 1, (2, 2, MOST_ROUNDS), 2),
-    (4, 65536, 8, 1, (2, 2, MOST_ROUNDS), 2),
-    (4, 65536, 8, 1, (3, 3, MOST_ROUNDS), 3),
-    (4, 65536, 8, 1, (4, 4, MOST_ROUNDS), 4),
+    (2, 65536, 5, 1, (2, 2, MOST_ROUNDS), 2),
+    (4, 65536, 5, 1, (2, 2, MOST_ROUNDS), 2),
+    (4, 65536, 5, 1, (3, 3, MOST_ROUNDS), 3),
+    (4, 65536, 5, 1, (4, 4, MOST_ROUNDS), 4),
 ];
 
 const CALL: &[Row] = &[(3, 65536, 0, 1, (3, 3, MOST_ROUNDS), 3)];
