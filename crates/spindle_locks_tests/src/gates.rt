@@ -13,9 +13,6 @@ const MOST_TURNS: usize = 3000000000;
 /// A thread waits for others that don't come for so many turns.
 const TURNS_IN_VAIN: usize = 1000000;
 
-/// After so many of them it gives its core to the others.
-const TURNS_BEFORE_A_YIELD: usize = 1000;
-
 /// How many jobs have begun at a gate where they meet, and how many of them waited for the others in vain.
 #[derive(Drop)]
 pub struct Meetings {
@@ -97,10 +94,7 @@ pub fn await_turn(word: &AtomicUsize, free: usize, taken: usize, missed: &Atomic
         if let Ok(_) = word.compare_exchange(free, taken, Ordering::SeqCst, Ordering::SeqCst) {
             return;
         }
-        if turn % TURNS_BEFORE_A_YIELD == 0 {
-            thread::yield_now();
-        }
-        spin_loop();
+        take_turn(turn);
     }
     missed.fetch_add(1, Ordering::SeqCst);
 }
@@ -114,10 +108,15 @@ fn await_for(turns: usize, count: &AtomicUsize, wanted: usize, missed: &AtomicUs
         if missed.load(Ordering::SeqCst) > 0 {
             break;
         }
-        if turn % TURNS_BEFORE_A_YIELD == 0 {
-            thread::yield_now();
-        }
-        spin_loop();
+        take_turn(turn);
     }
     missed.fetch_add(1, Ordering::SeqCst);
+}
+
+/// The turn of this number of a thread that waits, or stays. Where processors are few the other threads have theirs meanwhile.
+pub fn take_turn(turn: usize) {
+    if turn % 1000 == 0 {
+        thread::yield_now();
+    }
+    spin_loop();
 }

@@ -5,9 +5,8 @@ ghost use denote.Param.Send.{IsSync};
 
 use spindle::lock::{PlaysInPlace, PlaysPieces, Updates};
 use spindle::prelude::*;
+use spindle_locks_tests::gates::take_turn;
 use spindle_locks_tests::rounds::Seen;
-use std::hint::spin_loop;
-use std::thread;
 
 /// How often rounds are played until each thread runs a job.
 pub const MOST_ROUNDS: usize = 10000;
@@ -59,14 +58,6 @@ pub fn stay(turns: usize, cx: &JobCx<End>) -> Seen {
         cx.current_num_threads(),
         cx.max_num_threads(),
     )
-}
-
-// A turn of a job that stays. Where processors are few the other threads have theirs meanwhile.
-fn take_turn(turn: usize) {
-    if turn % 2000 == 0 {
-        thread::yield_now();
-    }
-    spin_loop();
 }
 
 /// Stays as `Staying` does, for as many turns as its item says in the place of the threads that are there. The item becomes where it ran.

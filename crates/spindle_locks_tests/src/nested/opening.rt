@@ -6,7 +6,7 @@ ghost use Rattle.std.proofs.Common.{rules};
 ghost use denote.Param.Send.{IsSync};
 
 use crate::checks::{holds, is};
-use crate::gates::Meetings;
+use crate::gates::{Meetings, take_turn};
 use crate::jobs::Idle;
 use crate::rounds::rounds_of;
 use spindle_locks::job::gate::NoGate;
@@ -15,10 +15,8 @@ use spindle_locks::lock::nested::Under;
 use spindle_locks::lock::workspace::Opens;
 use spindle_locks::prelude::*;
 use spindle_rounds::threads::limits::Limits;
-use std::hint::spin_loop;
 use std::marker::PhantomData;
 use std::process::Abort;
-use std::thread;
 
 /// What a job is asked for: a lock of so many threads, for which it waits so many turns at most, and a round of so many units there. A
 /// kind above has it with so many quiet ones beside it, which wait for no thread.
@@ -78,10 +76,7 @@ where
         if leader.current_num_threads() == most {
             break;
         }
-        if turn % 1000 == 0 {
-            thread::yield_now();
-        }
-        spin_loop();
+        take_turn(turn);
     }
     let there = leader.current_num_threads();
     let Ok(items) = Vec::from_elem(alloc, (), units) else {
