@@ -1,9 +1,7 @@
 //! The kinds of jobs of the shapes, but of `nested`: each over lists and in place; and what their values ought to be.
 ghost use Rattle.std.specs.Prelude.{◌≡◌};
-ghost use Rattle.std.proofs.Common.{rules};
 
 use crate::series::{Input, Listed, Placed};
-use crate::settings::stirred;
 use spindle::prelude::*;
 use std::marker::PhantomData;
 
@@ -14,11 +12,9 @@ const OWN_PAGES: usize = 4194304;
 /// So many numbers stand between a place 16 bytes behind the beginning of a cache line and the next line.
 const BEFORE_A_LINE: usize = 6;
 
-impl Input for usize {
-    ghost equal_is_same = { Prim.search rules };
-
-    fn input(_: Global, number: usize, _: usize) -> Result<usize, Fault> {
-        Ok(number)
+impl Input for u64 {
+    fn input(_: Global, number: usize, size: usize) -> Result<u64, Fault> {
+        Ok(number.saturating_add(size) as u64)
     }
 }
 
@@ -26,8 +22,6 @@ impl Input for usize {
 type List = SharedList<u64>;
 
 impl Input for List {
-    ghost equal_is_same = { Prim.search rules };
-
     fn input(alloc: Global, number: usize, size: usize) -> Result<List, Fault> {
         Ok(SharedList::from_vec(alloc, list(alloc, number, size, 0)?)?)
     }
@@ -113,52 +107,63 @@ impl<T: Task> Placed for InPlace<Does<T>> {
 pub struct Nothing;
 
 impl Task for Nothing {
-    type In = usize;
+    type In = u64;
 
     type Out = ();
 
-    type Item = usize;
+    type Item = u64;
 
-    fn answer(_: Global, _number: &usize) {}
+    fn answer(_: Global, _number: &u64) {}
 
-    fn update(number: usize) -> usize {
+    fn update(number: u64) -> u64 {
         number
-    }
-
-    fn item(_: Global, number: usize, _: usize, _: u64) -> Result<usize, Fault> {
-        Ok(number)
     }
 
     fn output(_: Global, _: usize, _: usize, _: u64) -> Result<(), Fault> {
         Ok(())
     }
+
+    fn item(_: Global, number: usize, _: usize, _: u64) -> Result<u64, Fault> {
+        Ok(number as u64)
+    }
+}
+
+/// 26 turns of a xorshift generator from the number and one more: about 50 ns in which no step overlaps another.
+pub fn stirred(number: u64) -> u64 {
+    let mut x = number.wrapping_add(1);
+    for _ in 0..26 {
+        x ^= x << 13;
+        x ^= x >> 7;
+        x ^= x << 17;
+    }
+    x
 }
 
 /// Stirs its number by dependent arithmetic; in place it writes down beside it what comes out.
 pub struct Stir;
 
 impl Task for Stir {
-    type In = usize;
+    type In = u64;
 
     type Out = u64;
 
     type Item = (u64, u64);
 
-    fn answer(_: Global, number: &usize) -> u64 {
-        stirred(*number as u64)
+    fn answer(_: Global, number: &u64) -> u64 {
+        stirred(*number)
     }
 
     fn update(pair: (u64, u64)) -> (u64, u64) {
         (pair.0, stirred(pair.0))
     }
 
+    fn output(_: Global, number: usize, _: usize, _: u64) -> Result<u64, Fault> {
+        Ok(stirred(number as u64))
+    }
+
     fn item(_: Global, number: usize, _: usize, rounds: u64) -> Result<(u64, u64), Fault> {
         let number = number as u64;
         Ok((number, stirred(number).wrapping_mul(rounds.min(1))))
-    }
-
-    fn output(_: Global, number: usize, _: usize, _: u64) -> Result<u64, Fault> {
-        Ok(stirred(number as u64))
     }
 }
 
@@ -209,11 +214,7 @@ impl Task for AddOne {
     }
 
     fn next(alloc: Global, _: &Vec<List>, sums: Vec<Self::Out>) -> Result<Vec<List>, Fault> {
-        let mut next = Vec::with_capacity(alloc, sums.len())?;
-        for list in sums {
-            next.push(list?)?;
-        }
-        Ok(next)
+        sums.into_iter().collect(alloc)?
     }
 }
 
@@ -242,10 +243,10 @@ impl Task for Square {
 
     fn item(alloc: Global, number: usize, size: usize, rounds: u64) -> Result<Self::Item, Fault> {
         let numbers = List::input(alloc, number, size)?;
-        let mut squares = vec![in alloc; 0u64; size]?;
-        if rounds > 0 {
-            squares = Square::answer(alloc, &numbers)?;
-        }
+        let squares = match rounds {
+            0 => vec![in alloc; 0u64; size]?,
+            _ => Square::answer(alloc, &numbers)?,
+        };
         Ok((numbers, squares))
     }
 

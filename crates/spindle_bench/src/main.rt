@@ -44,28 +44,29 @@ ghost use Rattle.std.specs.Prelude.{◌≡◌};
 mod kinds;
 mod nested;
 mod series;
-mod settings;
 mod soak;
 mod timing;
 
-use crate::kinds::{AddOne, Nothing, Square, Stir, Task};
+use crate::kinds::{AddOne, Does, Nothing, Square, Stir, Task};
 use crate::nested::{AddOneToPart, InRounds};
-use crate::settings::{Bench, Ended, Shape, Stop, Way, shaped, threads};
 use crate::soak::soak;
-use crate::timing::{Machine, in_lock, in_place};
+use crate::timing::{Bench, Ended, Machine, Shape, Way, in_place, in_slots, in_trays, shaped};
 use spindle::prelude::*;
 use std::env;
+use std::num::NonZeroU16;
+
+/// No batch begins after so many nanoseconds.
+const END: u64 = 850_000_000;
 
 // Whether POOL and SHAPE ask for rounds of the shape of this name in this kind of lock.
 fn wants<H: Machine>(bench: &Bench<H>, kind: &str, name: &str) -> bool {
-    let (kinds, shapes) = (
-        env::var(bench.rt, "POOL").ok(),
-        env::var(bench.rt, "SHAPE").ok(),
-    );
-    kinds.as_deref().is_none_or(|it| it == kind) && shapes.as_deref().is_none_or(|it| it == name)
+    let pool = env::var(bench.rt, "POOL").ok();
+    let shape = env::var(bench.rt, "SHAPE").ok();
+    pool.as_deref().is_none_or(|it| it == kind) && shape.as_deref().is_none_or(|it| it == name)
 }
 
-// Runs the shape of this name in each of these kinds of locks that is asked for.
+// Runs the shape of this name in each of these kinds of locks that is asked for. What its jobs do is a parameter: where a lock's kind is
+// named, the proof takes much more.
 fn in_each<T: Task + Send, H: Machine>(
     bench: &Bench<H>,
     kinds: &[&str],
@@ -79,7 +80,12 @@ where
 {
     for kind in kinds {
         if wants(bench, kind, name) {
-            print(bench, kind, name, in_lock::<T, H>(bench, kind, shape)?)?;
+            let times = match *kind {
+                "slots" => in_slots::<Does<T>, H>(bench, shape)?,
+                "trays" => in_trays::<Does<T>, H>(bench, shape)?,
+                _ => in_place::<InPlace<Does<T>>, H>(bench, shape)?,
+            };
+            print(bench, kind, name, times)?;
         }
     }
     Ok(())
@@ -112,7 +118,8 @@ fn print<H: Machine>(bench: &Bench<H>, kind: &str, name: &str, times: Vec<u64>) 
 
 // Runs each shape in each kind of lock.
 fn run<H: Machine>(rt: &H, way: Way) -> Ended {
-    let threads = threads(rt)?;
+    let text = env::var(rt, "THREADS").ok();
+    let threads = usize::from(text.as_deref().unwrap_or("4").parse::<NonZeroU16>()?.get());
     let kinds = ["slots", "trays", "place"].as_slice();
     let pool = Pool::new(threads, Limits::new(), NoGate);
     let bench = Bench { rt, pool, way };
@@ -135,13 +142,10 @@ fn main(rt: HostRuntime) -> Ended {
     let (word, seconds) = (words.next(), words.next());
     match word.as_deref().unwrap_or("") {
         "check" => {
-            run(&rt, Way::Check)?;
+            run(&rt, Way::Batches(0))?;
             soak(&rt, 0)
         }
-        "soak" => match seconds.as_deref().unwrap_or("0").parse::<u64>() {
-            Ok(seconds) => soak(&rt, seconds),
-            Err(_) => Err(Stop::Seconds),
-        },
-        _ => run(&rt, Way::Time),
+        "soak" => soak(&rt, seconds.as_deref().unwrap_or("15").parse::<u64>()?),
+        _ => run(&rt, Way::Batches(END)),
     }
 }

@@ -3,8 +3,8 @@ ghost use Rattle.std.specs.Prelude.{◌≡◌};
 ghost use denote.Param.Send.{IsSync};
 
 use crate::kinds::add_one;
-use crate::series::{Placed, Places, Plays, items};
-use crate::settings::shaped;
+use crate::series::{Done, Placed, Places, Plays, items};
+use crate::timing::shaped;
 use spindle::lock::{ChunkOf, UnderPieces};
 use spindle::prelude::*;
 use std::marker::PhantomData;
@@ -16,10 +16,7 @@ const PARTS: usize = 4;
 const ROUNDS: u64 = 16;
 
 /// A part of a list. In place it is moved as one pointer, where a list is moved as three words and more.
-#[derive(PartialEq, Drop)]
-pub struct Part {
-    numbers: Box<[u64; 64]>,
-}
+pub type Part = Box<[u64; 64]>;
 
 /// Adds one to each number of a part.
 pub struct AddOneToPart;
@@ -32,15 +29,14 @@ impl Update for AddOneToPart {
     ghost updated = { λ _ _. Unit {0} };
 
     fn run<H: Threads + Wait + Sync>(_: &H, _: Global, mut part: Part, _: &mut JobCx<End>) -> Part {
-        add_one(&mut *part.numbers);
+        add_one(&mut *part);
         part
     }
 }
 
 impl Placed for InPlace<AddOneToPart> {
     fn item(alloc: Global, _: usize, _: usize, rounds: u64) -> Result<Part, Fault> {
-        let numbers = Box::new(alloc, [rounds; 64])?;
-        Ok(Part { numbers })
+        Ok(Box::new(alloc, [rounds; 64])?)
     }
 }
 
@@ -70,7 +66,7 @@ impl<J: Placed> Update for InRounds<J> {
             cx,
             threads,
             PARTS,
-            |leader| -> Result<(), Fault>
+            |leader| -> Done
                 requires { IsSync H.row }
             { leader.play_all(rt, alloc, &mut series, ROUNDS) },
         );

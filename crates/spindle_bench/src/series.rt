@@ -1,8 +1,9 @@
 //! Series of rounds: what stands before the first, how the next one is played, and what ought to stand then.
-ghost use Rattle.std.specs.Prelude.{◌≡◌, ◌<◌, true};
+ghost use Rattle.std.specs.Prelude.{◌≡◌, ◌<◌};
 ghost use denote.Param.Send.{IsSync};
 
-use crate::settings::Shape;
+use crate::timing::Shape;
+use spindle::EqualIsSame;
 use spindle::lock::{Opens, PlaysInPlace, Updates};
 use spindle::prelude::*;
 use std::mem;
@@ -16,12 +17,9 @@ pub trait Runs: Threads + Wait + Sync {}
 impl<H: Threads + Wait + Sync> Runs for H {}
 
 /// What a job over lists is given.
-pub trait Input: Clone + Eq + Drop {
+pub trait Input: Clone + EqualIsSame + Drop {
     /// What the job of this number is given in the first round, so many numbers where that is a list.
     fn input(alloc: Global, number: usize, size: usize) -> Result<Self, Fault>;
-
-    /// Equal inputs are the same value.
-    ghost equal_is_same: { (x y : Self) → Self.eq x y ≡ true → x ≡ y };
 }
 
 /// A kind of job whose rounds answer new lists.
@@ -67,27 +65,10 @@ pub trait Plays<S> {
     }
 }
 
-/// Plays a batch of rounds of this shape, and tells whether what came out is right.
-pub fn goes_right<S: Series, E: Plays<S>, H: Runs>(
-    rt: &H,
-    alloc: Global,
-    leader: &mut E,
-    shape: Shape,
-) -> Result<bool, Fault>
-    requires { IsSync H.row }
-{
-    let mut series = S::new(alloc, shape)?;
-    leader.play_all(rt, alloc, &mut series, shape.rounds)?;
-    series.is_right(alloc, shape.rounds)
-}
-
 // What the jobs of a shape answer after so many rounds.
 fn outputs<J: Listed>(alloc: Global, shape: Shape, rounds: u64) -> Result<Vec<J::Out>, Fault> {
-    let mut outputs = Vec::new(alloc);
-    for number in 0..shape.items {
-        outputs.push(J::output(alloc, number, shape.size, rounds)?)?;
-    }
-    Ok(outputs)
+    let outputs = (0..shape.items).map(|number| J::output(alloc, number, shape.size, rounds));
+    outputs.collect(alloc)?
 }
 
 /// Rounds that answer new lists.
@@ -100,10 +81,8 @@ pub struct Lists<J: Job> {
 
 impl<J: Listed> Series for Lists<J> {
     fn new(alloc: Global, shape: Shape) -> Result<Lists<J>, Fault> {
-        let mut first = Vec::new(alloc);
-        for number in 0..shape.items {
-            first.push(J::In::input(alloc, number, shape.size)?)?;
-        }
+        let first = (0..shape.items).map(|number| J::In::input(alloc, number, shape.size));
+        let first = first.collect::<Result<Vec<J::In>, Fault>>(alloc)??;
         let outputs = outputs::<J>(alloc, shape, 0)?;
         Ok(Lists {
             shape,
@@ -121,32 +100,25 @@ impl<J: Listed, E: RunsRounds<J>> Plays<Lists<J>> for E {
     fn play<H: Runs>(&mut self, rt: &H, alloc: Global, lists: &mut Lists<J>) -> Done {
         let outputs = mem::replace(&mut lists.outputs, Vec::new(alloc));
         let mut inputs = J::next(alloc, &lists.first, outputs)?;
-        let jobs = lists.shape.jobs;
-        self.for_each_into(rt, alloc, jobs, &mut inputs, &mut lists.outputs)
+        self.for_each_into(rt, alloc, lists.shape.jobs, &mut inputs, &mut lists.outputs)
     }
 }
 
 /// Rounds over one list that may stop, into one report.
 #[derive(Drop)]
 pub struct Tries<J: Job> {
-    shape: Shape,
-    first: Vec<J::In>,
+    lists: Lists<J>,
     report: Report<J::Out>,
 }
 
 impl<J: Listed> Series for Tries<J> {
     fn new(alloc: Global, shape: Shape) -> Result<Tries<J>, Fault> {
-        let first = Lists::<J>::new(alloc, shape)?.first;
-        let report = Report::new(alloc);
-        Ok(Tries {
-            shape,
-            first,
-            report,
-        })
+        let (lists, report) = (Lists::new(alloc, shape)?, Report::new(alloc));
+        Ok(Tries { lists, report })
     }
 
     fn is_right(&self, alloc: Global, rounds: u64) -> Result<bool, Fault> {
-        let wanted = outputs::<J>(alloc, self.shape, rounds)?;
+        let wanted = outputs::<J>(alloc, self.lists.shape, rounds)?;
         let mut ran = self.report.ran.iter().zip(&wanted);
         let right = ran.all(|(piece, wanted)| matches!(piece.1.as_slice(), [x] if x == wanted));
         Ok(right && self.report.ran.len() == wanted.len())
@@ -155,8 +127,7 @@ impl<J: Listed> Series for Tries<J> {
 
 impl<'a, J: Opens<L>, G: Gate, L> Plays<Tries<J>> for Leader<'a, J, G, L> {
     fn play<H: Runs>(&mut self, rt: &H, alloc: Global, all: &mut Tries<J>) -> Done {
-        let inputs = all.first.clone()?;
-        let jobs = all.shape.jobs;
+        let (inputs, jobs) = (all.lists.first.clone()?, all.lists.shape.jobs);
         self.try_for_each_into(rt, alloc, jobs, inputs, &mut all.report)
     }
 }
@@ -188,11 +159,8 @@ pub fn items<J: Placed>(
     size: usize,
     rounds: u64,
 ) -> Result<Vec<J::Item>, Fault> {
-    let mut items = Vec::new(alloc);
-    for number in 0..count {
-        items.push(J::item(alloc, number, size, rounds)?)?;
-    }
-    Ok(items)
+    let items = (0..count).map(|number| J::item(alloc, number, size, rounds));
+    items.collect(alloc)?
 }
 
 impl<'a, J: PlaysInPlace<P>, G: Gate, P> Plays<Places<J>> for SlotLeader<'a, J, G, P> {

@@ -4,11 +4,13 @@ ghost use Rattle.std.specs.Prelude.{◌≡◌};
 ghost use Rattle.std.proofs.Common.{rules};
 ghost use denote.Param.Send.{IsSync};
 
-use crate::kinds::{Does, Task};
+use crate::kinds::{Does, Task, stirred};
 use crate::nested::InRounds;
-use crate::series::{Input, Listed, Lists, Placed, goes_right};
-use crate::settings::{Bench, Ended, Shape, Stop, Way, shaped, uneven};
-use crate::timing::{Machine, Times, in_lock, in_place, in_slots, in_trays, nanos_since};
+use crate::series::{Input, Listed, Lists, Placed, Plays, Runs, Series};
+use crate::timing::{
+    Bench, Ended, Machine, Shape, Stop, Times, Way, in_place, in_slots, in_trays, nanos_since,
+    shaped,
+};
 use spindle::lock::Nest;
 use spindle::prelude::*;
 use std::fs;
@@ -26,19 +28,64 @@ const KINDS: [&str; 6] = [
     "place in place",
 ];
 
+/// At most so many uneven rounds are played in a lock.
+const UNEVEN: u64 = 50;
+
 /// The slots of a lock with slots, which are fewer than the jobs of some of its rounds.
 const SLOTS: usize = 25;
 
-/// Triples its number, and takes uneven numbers of turns for it.
-pub struct Turns;
-
-impl Input for u64 {
-    ghost equal_is_same = { Prim.search rules };
-
-    fn input(_: Global, number: usize, size: usize) -> Result<u64, Fault> {
-        Ok(number.saturating_add(size) as u64)
+// The uneven shape of this number, for one round: up to fifty jobs, over fewer than forty items. Its size is any number.
+fn uneven(number: u64) -> Shape {
+    let random = stirred(number);
+    Shape {
+        jobs: 1 + (random >> 50) as usize % 50,
+        items: (random >> 8) as usize % 40,
+        size: (random % 4000000000) as usize,
+        rounds: 1,
+        may_stop: false,
     }
 }
+
+// Plays the uneven round of this number, and tells whether what came out is right.
+fn goes_right<S: Series, E: Plays<S>, H: Runs>(
+    rt: &H,
+    alloc: Global,
+    leader: &mut E,
+    number: u64,
+) -> Result<bool, Fault>
+    requires { IsSync H.row }
+{
+    let mut series = S::new(alloc, uneven(number))?;
+    leader.play(rt, alloc, &mut series)?;
+    series.is_right(alloc, 1)
+}
+
+/// Plays uneven rounds for so many nanoseconds, from the one of this number on.
+pub fn soaked<S: Series, E: Plays<S>, H: Machine>(
+    rt: &H,
+    first: u64,
+    share: u64,
+    leader: &mut E,
+) -> Times
+    requires { IsSync H.row }
+{
+    let (begin, mut start, mut times) = (Instant::now(rt)?, 0u64, Vec::new(rt.alloc()));
+    for number in first..first.saturating_add(UNEVEN) {
+        if !goes_right::<S, E, H>(rt, rt.alloc(), leader, number)? {
+            return Err(Stop::Wrong);
+        }
+        let end = nanos_since(rt, begin)?;
+        times.push(end.saturating_sub(start)).map_err(Fault::from)?;
+        if share <= end {
+            break;
+        }
+        start = end;
+    }
+    Ok(times)
+}
+
+/// Triples its number, and takes uneven numbers of turns for it.
+pub struct Turns;
 
 impl Task for Turns {
     type In = u64;
@@ -109,14 +156,13 @@ impl<J: Listed<In = u64, Out = u64>> Job for InTrays<J> {
         number: &u64,
         cx: &mut JobCx<Under<J>>,
     ) -> bool {
-        let shape = uneven(*number);
         let right = cx.with_lock(
             rt,
             alloc,
             3,
             |leader| -> Result<bool, Fault>
                 requires { IsSync H.row }
-            { goes_right::<Lists<J>, _, H>(rt, alloc, leader, shape) },
+            { goes_right::<Lists<J>, _, H>(rt, alloc, leader, *number) },
         );
         matches!(right, Ok(Ok(true)))
     }
@@ -148,7 +194,6 @@ impl<J: Listed<In = u64, Out = u64>> Job for InSlots<J> {
         number: &u64,
         cx: &mut JobCx<UnderSlots<J>>,
     ) -> bool {
-        let shape = uneven(*number);
         let right = LockOf::<J>::nested_with_slots(
             rt,
             alloc,
@@ -157,7 +202,7 @@ impl<J: Listed<In = u64, Out = u64>> Job for InSlots<J> {
             4,
             |leader| -> Result<bool, Fault>
                 requires { IsSync H.row }
-            { goes_right::<Lists<J>, _, H>(rt, alloc, leader, shape) },
+            { goes_right::<Lists<J>, _, H>(rt, alloc, leader, *number) },
         );
         matches!(right, Ok(Ok(true)))
     }
@@ -198,7 +243,7 @@ fn in_inner_place<H: Machine>(bench: &Bench<H>, shape: Shape) -> Times {
     in_place::<InPlace<InRounds<InPlace<Turns>>>, H>(bench, shape)
 }
 
-// Plays in a lock of this kind. What its jobs do is a parameter, as in `in_lock`.
+// Plays in a lock of this kind. What its jobs do is a parameter, as in `main.rt`.
 fn play<T: Task<In = u64, Out = u64> + Send, H: Machine>(bench: &Bench<H>, kind: &str) -> Times
 where
     T::Item: Send,
@@ -208,7 +253,9 @@ where
         "trays in trays" => in_inner_trays::<Does<T>, H>(bench, shape),
         "slots in slots" => in_inner_slots::<Does<T>, H>(bench, shape),
         "place in place" => in_inner_place(bench, shape),
-        _ => in_lock::<T, H>(bench, kind, shape),
+        "trays" => in_trays::<Does<T>, H>(bench, shape),
+        "slots" => in_slots::<Does<T>, H>(bench, shape),
+        _ => in_place::<InPlace<Does<T>>, H>(bench, shape),
     }
 }
 
@@ -238,11 +285,11 @@ fn in_pool<H: Machine>(
     seen: (u64, u64),
 ) -> Result<(u64, u64), Stop> {
     let (mut rounds, mut worst) = seen;
-    let (begin, way) = (Instant::now(rt)?, Way::Check);
+    let (begin, way) = (Instant::now(rt)?, Way::Uneven(0, 0));
     let mut bench = Bench { rt, pool, way };
     for _ in 0..u64::MAX {
         let past = nanos_since(rt, begin)?;
-        bench.way = Way::Soak(rounds, share.saturating_sub(past));
+        bench.way = Way::Uneven(rounds, share.saturating_sub(past));
         for nanos in play::<Turns, H>(&bench, kind)? {
             rounds = rounds.saturating_add(1);
             worst = worst.max(nanos);

@@ -1,26 +1,92 @@
-//! Rounds in each kind of lock, checked: batches against the clock, one batch, or uneven rounds; and how long they took.
+//! Rounds of a shape in each kind of lock, checked: batches against the clock, or uneven rounds; and how long they took.
 ghost use Rattle.std.specs.Prelude.{◌≡◌, ◌*◌, ◌<◌, ◌≤◌};
 ghost use denote.Param.Send.{IsSync};
 
-use crate::kinds::{Does, Task};
-use crate::series::{Listed, Lists, Placed, Places, Plays, Runs, Series, Tries, goes_right};
-use crate::settings::{Bench, Ended, Shape, Stop, Way, uneven};
+use crate::series::{Listed, Lists, Placed, Places, Plays, Runs, Series, Tries};
+use crate::soak::soaked;
 use spindle::lock::Nest;
 use spindle::prelude::*;
+use std::io;
+use std::num::ParseIntError;
 use std::rt::{Clock, Env, Files};
 use std::time::Instant;
+use thiserror::Error;
 
 /// Batches that begin within so many nanoseconds warm up.
 const WARM_UP: u64 = 50_000_000;
 
-/// No batch begins after so many.
-const END: u64 = 850_000_000;
-
 /// At most so many batches count.
 const BATCHES: usize = 300;
 
-/// At most so many uneven rounds are played in a lock.
-const UNEVEN: u64 = 50;
+/// A shape of rounds.
+#[derive(Clone, Copy)]
+pub struct Shape {
+    /// The jobs of a round.
+    pub jobs: usize,
+    /// The items of a round.
+    pub items: usize,
+    /// The numbers of an item's list, where it has one.
+    pub size: usize,
+    /// The rounds of a batch.
+    pub rounds: u64,
+    /// Whether rounds may stop, in a lock with trays.
+    pub may_stop: bool,
+    ghost some: { 0 < jobs },
+    ghost few: { jobs ≤ 4294967295 },
+}
+
+/// A shape of so many jobs a round, with an item each, and so many numbers in all of their lists.
+pub fn shaped(jobs: usize, numbers: usize, rounds: u64) -> Shape
+    requires { (0 < jobs) × (jobs ≤ 4294967295) }
+{
+    Shape {
+        jobs,
+        items: jobs,
+        size: numbers / jobs,
+        rounds,
+        may_stop: false,
+    }
+}
+
+/// What is played in a lock.
+#[derive(Clone, Copy)]
+pub enum Way {
+    /// Batches of rounds of a shape against the clock, of which none begins after so many nanoseconds.
+    Batches(u64),
+    /// Uneven rounds, from the one of this number on, for so many nanoseconds.
+    Uneven(u64, u64),
+}
+
+/// What to play, and on what.
+#[derive(Drop)]
+pub struct Bench<'a, H> {
+    /// The runtime.
+    pub rt: &'a H,
+    /// The pool that locks are opened from.
+    pub pool: Pool<NoGate>,
+    /// What is played in them.
+    pub way: Way,
+}
+
+/// Whether it went well.
+pub type Ended = Result<(), Stop>;
+
+/// Why the program stops early.
+#[derive(Debug, Drop, Error)]
+pub enum Stop {
+    /// THREADS says something else, or the word behind `soak`.
+    #[error("how many threads, or seconds? {0}")]
+    Number(#[from] ParseIntError),
+    /// A lock or a round was refused.
+    #[error(transparent)]
+    Refused(#[from] Fault),
+    /// The clock, the words, a file or the output could not be read or written.
+    #[error(transparent)]
+    System(#[from] io::Error),
+    /// Rounds answered something wrong: as a rule those of the line that would have come next.
+    #[error("wrong answers")]
+    Wrong,
+}
 
 /// What the program needs of its runtime.
 pub trait Machine: Runs + Clock + Env + Files + Print + Alloc<A = Global> {}
@@ -67,10 +133,9 @@ where
             requires { IsSync H.row }
         {
             if shape.may_stop {
-                led::<Tries<J>, _, H>(bench, shape, leader)
-            } else {
-                led::<Lists<J>, _, H>(bench, shape, leader)
+                return led::<Tries<J>, _, H>(bench, shape, leader);
             }
+            led::<Lists<J>, _, H>(bench, shape, leader)
         },
     )?
 }
@@ -94,46 +159,18 @@ where
     )?
 }
 
-/// Plays in a lock of this kind. What its jobs do is a parameter: where a lock's kind is named, the proof takes much more.
-pub fn in_lock<T: Task + Send, H: Machine>(bench: &Bench<H>, kind: &str, shape: Shape) -> Times
-where
-    T::In: Send + Sync,
-    T::Out: Send,
-    T::Item: Send,
-{
-    match kind {
-        "slots" => in_slots::<Does<T>, H>(bench, shape),
-        "trays" => in_trays::<Does<T>, H>(bench, shape),
-        _ => in_place::<InPlace<Does<T>>, H>(bench, shape),
-    }
-}
-
 // Plays what is asked for with the leader of a lock.
 fn led<S: Series, E: Plays<S>, H: Machine>(bench: &Bench<H>, shape: Shape, leader: &mut E) -> Times
     requires { IsSync H.row }
 {
     match bench.way {
-        Way::Time => timed::<S, E, H>(bench.rt, shape, leader),
-        Way::Check => {
-            check::<S, E, H>(bench.rt, shape, leader)?;
-            Ok(Vec::new(bench.rt.alloc()))
-        }
-        Way::Soak(first, share) => soaked::<S, E, H>(bench.rt, leader, first, share),
+        Way::Batches(end) => time::<S, E, H>(bench.rt, shape, end, leader),
+        Way::Uneven(first, share) => soaked::<S, E, H>(bench.rt, first, share, leader),
     }
 }
 
-// Plays a batch of rounds.
-fn check<S: Series, E: Plays<S>, H: Machine>(rt: &H, shape: Shape, leader: &mut E) -> Ended
-    requires { IsSync H.row }
-{
-    if !goes_right::<S, E, H>(rt, rt.alloc(), leader, shape)? {
-        return Err(Stop::Wrong);
-    }
-    Ok(())
-}
-
-// Plays batches of rounds against the clock.
-fn timed<S: Series, E: Plays<S>, H: Machine>(rt: &H, shape: Shape, leader: &mut E) -> Times
+// Plays batches of rounds against the clock, the first whatever the end is.
+fn time<S: Series, E: Plays<S>, H: Machine>(rt: &H, shape: Shape, end: u64, leader: &mut E) -> Times
     requires { IsSync H.row }
 {
     let alloc = rt.alloc();
@@ -143,13 +180,13 @@ fn timed<S: Series, E: Plays<S>, H: Machine>(rt: &H, shape: Shape, leader: &mut 
     for _ in 0..u64::MAX {
         let start = nanos_since(rt, begin)?;
         leader.play_all(rt, alloc, &mut series, shape.rounds)?;
-        let end = nanos_since(rt, begin)?;
+        let past = nanos_since(rt, begin)?;
         rounds = rounds.saturating_add(shape.rounds);
-        if WARM_UP <= start {
-            let nanos = end.saturating_sub(start) / shape.rounds.max(1);
+        if WARM_UP <= start && start < end {
+            let nanos = past.saturating_sub(start) / shape.rounds.max(1);
             times.push(nanos).map_err(Fault::from)?;
         }
-        if BATCHES <= times.len() || END < end {
+        if BATCHES <= times.len() || end <= past {
             break;
         }
     }
@@ -160,30 +197,7 @@ fn timed<S: Series, E: Plays<S>, H: Machine>(rt: &H, shape: Shape, leader: &mut 
     Ok(times)
 }
 
-// Plays uneven rounds for so many nanoseconds, from the one of this number on.
-fn soaked<S: Series, E: Plays<S>, H: Machine>(
-    rt: &H,
-    leader: &mut E,
-    first: u64,
-    share: u64,
-) -> Times
-    requires { IsSync H.row }
-{
-    let (begin, mut start, mut times) = (Instant::now(rt)?, 0u64, Vec::new(rt.alloc()));
-    for number in first..first.saturating_add(UNEVEN) {
-        check::<S, E, H>(rt, uneven(number), leader)?;
-        let end = nanos_since(rt, begin)?;
-        times.push(end.saturating_sub(start)).map_err(Fault::from)?;
-        if share <= end {
-            break;
-        }
-        start = end;
-    }
-    Ok(times)
-}
-
 /// The nanoseconds from an instant up to now.
 pub fn nanos_since(rt: &impl Clock, begin: Instant) -> Result<u64, Stop> {
-    let elapsed = begin.elapsed(rt)?;
-    Ok(u64::try_from(elapsed.as_nanos()).unwrap_or(u64::MAX))
+    Ok(u64::try_from(begin.elapsed(rt)?.as_nanos()).unwrap_or(u64::MAX))
 }
