@@ -48,7 +48,7 @@ mod soak;
 mod timing;
 
 use crate::kinds::{AddOne, Does, Nothing, Square, Stir, Task};
-use crate::nested::{AddOneToPart, InRounds};
+use crate::nested::in_nested;
 use crate::soak::soak;
 use crate::timing::{Bench, Ended, Machine, Shape, Way, in_place, in_slots, in_trays, shaped};
 use spindle::prelude::*;
@@ -92,11 +92,9 @@ where
 }
 
 // Runs `nested` in place all through, where it is asked for.
-fn in_nested<H: Machine>(bench: &Bench<H>, kind: &str) -> Ended {
+fn run_nested<H: Machine>(bench: &Bench<H>, kind: &str) -> Ended {
     if wants(bench, kind, "nested") {
-        let shape = shaped(2, 0, 20);
-        let times = in_place::<InPlace<InRounds<InPlace<AddOneToPart>>>, H>(bench, shape)?;
-        print(bench, kind, "nested", times)?;
+        print(bench, kind, "nested", in_nested(bench, shaped(2, 0, 20))?)?;
     }
     Ok(())
 }
@@ -129,9 +127,9 @@ fn run<H: Machine>(rt: &H, way: Way) -> Ended {
     in_each::<Nothing, H>(&bench, kinds, "empty", shaped(threads, 0, 100))?;
     in_each::<Stir, H>(&bench, kinds, "tiny8", stirs)?;
     in_each::<Stir, H>(&bench, &["trays"], "try8", tries)?;
-    in_nested(&bench, "place")?;
+    run_nested(&bench, "place")?;
     let pool = Pool::new(threads, Limits::new(), NoGate).with_patience(512);
-    in_nested(&Bench { rt, pool, way }, "patient")?;
+    run_nested(&Bench { rt, pool, way }, "patient")?;
     in_each::<AddOne, H>(&bench, kinds, "stencil4k", shaped(threads, 4096, 100))?;
     in_each::<AddOne, H>(&bench, kinds, "stencil256k", shaped(threads, 262144, 10))?;
     in_each::<Square, H>(&bench, kinds, "map", shaped(4 * threads, 4096, 100))

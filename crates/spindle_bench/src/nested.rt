@@ -1,10 +1,10 @@
-//! The jobs of `nested`: those that open locks of their own for a series of rounds, and those that run there.
+//! Locks in place of `nested`: their jobs open locks of their own for a series of rounds, and other jobs run there.
 ghost use Rattle.std.specs.Prelude.{◌≡◌};
 ghost use denote.Param.Send.{IsSync};
 
 use crate::kinds::add_one;
 use crate::series::{Done, Placed, Places, Plays, items};
-use crate::timing::shaped;
+use crate::timing::{Bench, Machine, Shape, Times, in_place, shaped};
 use spindle::lock::{ChunkOf, UnderPieces};
 use spindle::prelude::*;
 use std::marker::PhantomData;
@@ -16,10 +16,10 @@ const PARTS: usize = 4;
 const ROUNDS: u64 = 16;
 
 /// A part of a list. In place it is moved as one pointer, where a list is moved as three words and more.
-pub type Part = Box<[u64; 64]>;
+type Part = Box<[u64; 64]>;
 
 /// Adds one to each number of a part.
-pub struct AddOneToPart;
+struct AddOneToPart;
 
 impl Update for AddOneToPart {
     type Item = Part;
@@ -41,7 +41,7 @@ impl Placed for InPlace<AddOneToPart> {
 }
 
 /// Opens a lock over jobs of kind J, of half as many threads as its own lock has, and plays a series of so many rounds there.
-pub struct InRounds<J>(PhantomData<J>);
+struct InRounds<J>(PhantomData<J>);
 
 impl<J: Placed> Update for InRounds<J> {
     type Item = Vec<J::Item>;
@@ -81,4 +81,9 @@ impl<J: Placed> Placed for InPlace<InRounds<J>> {
         let first = number.saturating_add(size);
         items::<J>(alloc, parts, first, rounds.saturating_mul(ROUNDS))
     }
+}
+
+/// Plays in a lock in place whose jobs open locks in place. Its kind is named here alone: as a parameter it is too much for the checker.
+pub fn in_nested<H: Machine>(bench: &Bench<H>, shape: Shape) -> Times {
+    in_place::<InPlace<InRounds<InPlace<AddOneToPart>>>, H>(bench, shape)
 }

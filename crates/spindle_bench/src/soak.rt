@@ -1,12 +1,13 @@
-//! Uneven jobs by the thousand, which triple numbers, in each kind of lock and in locks that jobs open, with few threads and with 64,
-//! with the default limits and without a pause before sleep. Each answer is checked; a wrong one ends the program.
+//! Uneven jobs by the thousand in each kind of lock and in locks that jobs open, with few threads and with 64, with the default limits and
+//! without a pause before sleep. They triple numbers; those that open locks in place there add one to uneven lists. Each answer is
+//! checked; a wrong one ends the program.
 ghost use Rattle.std.specs.Prelude.{◌≡◌};
 ghost use Rattle.std.proofs.Common.{rules};
 ghost use denote.Param.Send.{IsSync};
 
 use crate::kinds::{Does, Task, stirred};
-use crate::nested::InRounds;
-use crate::series::{Input, Listed, Lists, Placed, Plays, Runs, Series};
+use crate::nested::in_nested;
+use crate::series::{Input, Listed, Lists, Plays, Runs, Series};
 use crate::timing::{
     Bench, Ended, Machine, Shape, Stop, Times, Way, in_place, in_slots, in_trays, nanos_since,
     shaped,
@@ -119,25 +120,6 @@ impl Task for Turns {
     }
 }
 
-// By itself, where a lock in place is opened in jobs of another: what `Does` does there is too much for the checker.
-impl Update for Turns {
-    type Item = u64;
-
-    type Inner = End;
-
-    ghost updated = { λ _ _. Unit {0} };
-
-    fn run<H: Threads + Wait + Sync>(_: &H, _: Global, number: u64, _: &mut JobCx<End>) -> u64 {
-        <Turns as Task>::update(number)
-    }
-}
-
-impl Placed for InPlace<Turns> {
-    fn item(alloc: Global, number: usize, size: usize, rounds: u64) -> Result<u64, Fault> {
-        <Turns as Task>::item(alloc, number, size, rounds)
-    }
-}
-
 /// Opens a lock with trays, plays the uneven round of its number there over jobs of kind J, and answers whether it went right.
 pub struct InTrays<J>(PhantomData<J>);
 
@@ -216,7 +198,7 @@ impl<J: Listed<In = u64, Out = u64>> Listed for InSlots<J> {
     }
 }
 
-// Locks whose jobs open locks over jobs of kind J. In place that is too much for the checker, so the kind is named.
+// Locks whose jobs open locks over jobs of kind J.
 fn in_inner_trays<J: Listed<In = u64, Out = u64> + Send, H: Machine>(
     bench: &Bench<H>,
     shape: Shape,
@@ -239,10 +221,6 @@ where
     in_slots::<InSlots<J>, H>(bench, shape)
 }
 
-fn in_inner_place<H: Machine>(bench: &Bench<H>, shape: Shape) -> Times {
-    in_place::<InPlace<InRounds<InPlace<Turns>>>, H>(bench, shape)
-}
-
 // Plays in a lock of this kind. What its jobs do is a parameter, as in `main.rt`.
 fn play<T: Task<In = u64, Out = u64> + Send, H: Machine>(bench: &Bench<H>, kind: &str) -> Times
 where
@@ -252,7 +230,7 @@ where
     match kind {
         "trays in trays" => in_inner_trays::<Does<T>, H>(bench, shape),
         "slots in slots" => in_inner_slots::<Does<T>, H>(bench, shape),
-        "place in place" => in_inner_place(bench, shape),
+        "place in place" => in_nested(bench, shape),
         "trays" => in_trays::<Does<T>, H>(bench, shape),
         "slots" => in_slots::<Does<T>, H>(bench, shape),
         _ => in_place::<InPlace<Does<T>>, H>(bench, shape),

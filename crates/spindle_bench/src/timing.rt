@@ -173,13 +173,12 @@ fn led<S: Series, E: Plays<S>, H: Machine>(bench: &Bench<H>, shape: Shape, leade
 fn time<S: Series, E: Plays<S>, H: Machine>(rt: &H, shape: Shape, end: u64, leader: &mut E) -> Times
     requires { IsSync H.row }
 {
-    let alloc = rt.alloc();
-    let mut series = S::new(alloc, shape)?;
-    let mut times = Vec::with_capacity(alloc, BATCHES).map_err(Fault::from)?;
+    let mut series = S::new(rt.alloc(), shape)?;
+    let mut times = Vec::with_capacity(rt.alloc(), BATCHES).map_err(Fault::from)?;
     let (begin, mut rounds) = (Instant::now(rt)?, 0u64);
     for _ in 0..u64::MAX {
         let start = nanos_since(rt, begin)?;
-        leader.play_all(rt, alloc, &mut series, shape.rounds)?;
+        leader.play_all(rt, rt.alloc(), &mut series, shape.rounds)?;
         let past = nanos_since(rt, begin)?;
         rounds = rounds.saturating_add(shape.rounds);
         if WARM_UP <= start && start < end {
@@ -190,7 +189,7 @@ fn time<S: Series, E: Plays<S>, H: Machine>(rt: &H, shape: Shape, end: u64, lead
             break;
         }
     }
-    if !series.is_right(alloc, rounds)? {
+    if !series.is_right(rt.alloc(), rounds)? {
         return Err(Stop::Wrong);
     }
     times.sort_unstable();
