@@ -5,9 +5,7 @@ ghost use denote.Param.Send.{IsSync};
 use crate::kinds::add_one;
 use crate::series::{Done, Placed, Places, Plays, items};
 use crate::timing::{Bench, Machine, Shape, Times, in_place, shaped};
-use spindle::lock::{ChunkOf, UnderPieces};
 use spindle::prelude::*;
-use std::marker::PhantomData;
 
 /// The parts of each list: a job of an inner round has one.
 const PARTS: usize = 4;
@@ -40,13 +38,13 @@ impl Placed for InPlace<AddOneToPart> {
     }
 }
 
-/// Opens a lock over jobs of kind J, of half as many threads as its own lock has, and plays a series of so many rounds there.
-struct InRounds<J>(PhantomData<J>);
+/// Opens a lock of half as many threads as its own lock has, and plays a series of so many rounds there.
+struct InRounds;
 
-impl<J: Placed> Update for InRounds<J> {
-    type Item = Vec<J::Item>;
+impl Update for InRounds {
+    type Item = Vec<Part>;
 
-    type Inner = UnderPieces<J, ChunkOf<J>>;
+    type Inner = UnderInPlace<AddOneToPart>;
 
     ghost updated = { λ _ _. Unit {0} };
 
@@ -54,13 +52,13 @@ impl<J: Placed> Update for InRounds<J> {
     fn run<H: Threads + Wait + Sync>(
         rt: &H,
         alloc: Global,
-        items: Vec<J::Item>,
-        cx: &mut JobCx<UnderPieces<J, ChunkOf<J>>>,
-    ) -> Vec<J::Item> {
+        items: Vec<Part>,
+        cx: &mut JobCx<UnderInPlace<AddOneToPart>>,
+    ) -> Vec<Part> {
         let threads = (cx.max_num_threads() / 2).max(1);
         let shape = shaped(PARTS, 0, 0);
-        let mut series = Places::<J> { shape, items };
-        let _played = LockOf::<J>::nested_with_slots_in_place(
+        let mut series = Places::<InPlace<AddOneToPart>> { shape, items };
+        let _played = LockOf::<InPlace<AddOneToPart>>::nested_with_slots_in_place(
             rt,
             alloc,
             cx,
@@ -74,16 +72,15 @@ impl<J: Placed> Update for InRounds<J> {
     }
 }
 
-impl<J: Placed> Placed for InPlace<InRounds<J>> {
+impl Placed for InPlace<InRounds> {
     // Where the lists of a shape have no numbers, each has as many parts as a round has jobs.
     fn item(alloc: Global, number: usize, size: usize, rounds: u64) -> Result<Self::Item, Fault> {
         let parts = PARTS + number.saturating_mul(size) % 6;
-        let first = number.saturating_add(size);
-        items::<J>(alloc, parts, first, rounds.saturating_mul(ROUNDS))
+        items::<InPlace<AddOneToPart>>(alloc, parts, size, rounds.saturating_mul(ROUNDS))
     }
 }
 
-/// Plays in a lock in place whose jobs open locks in place. Its kind is named here alone: as a parameter it is too much for the checker.
+/// Plays in a lock in place whose jobs open locks in place. Its kind is named here alone, since that is dear to prove.
 pub fn in_nested<H: Machine>(bench: &Bench<H>, shape: Shape) -> Times {
-    in_place::<InPlace<InRounds<InPlace<AddOneToPart>>>, H>(bench, shape)
+    in_place::<InPlace<InRounds>, H>(bench, shape)
 }

@@ -74,7 +74,7 @@ pub type Ended = Result<(), Stop>;
 /// Why the program stops early.
 #[derive(Debug, Drop, Error)]
 pub enum Stop {
-    /// THREADS says something else, or the word behind `soak`.
+    /// THREADS is no number above 0, or the word behind `soak` is none.
     #[error("how many threads, or seconds? {0}")]
     Number(#[from] ParseIntError),
     /// A lock or a round was refused.
