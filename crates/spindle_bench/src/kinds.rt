@@ -9,9 +9,6 @@ use std::marker::PhantomData;
 /// first number stands 16 bytes behind their beginning. Room that isn't used takes no memory.
 const OWN_PAGES: usize = 4194304;
 
-/// So many numbers stand between a place 16 bytes behind the beginning of a cache line and the next line.
-const BEFORE_A_LINE: usize = 6;
-
 impl Input for u64 {
     fn input(_: Global, number: usize, size: usize) -> Result<u64, Fault> {
         Ok(number.saturating_add(size) as u64)
@@ -196,7 +193,8 @@ impl Task for AddOne {
     }
 
     fn update(mut numbers: Vec<u64>) -> Vec<u64> {
-        let first = numbers.len().min(BEFORE_A_LINE);
+        // So many stand between a place 16 bytes behind the beginning of a cache line and the next line.
+        let first = numbers.len().min(6);
         let (before, lines) = numbers.as_mut_slice().split_at_mut(first);
         add_one(before);
         add_one(lines);
@@ -214,7 +212,11 @@ impl Task for AddOne {
     }
 
     fn next(alloc: Global, _: &Vec<List>, sums: Vec<Self::Out>) -> Result<Vec<List>, Fault> {
-        sums.into_iter().collect(alloc)?
+        let mut next = Vec::with_capacity(alloc, sums.len())?;
+        for list in sums {
+            next.push(list?)?;
+        }
+        Ok(next)
     }
 }
 

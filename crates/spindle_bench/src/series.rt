@@ -159,11 +159,8 @@ pub fn items<J: Placed>(
     size: usize,
     rounds: u64,
 ) -> Result<Vec<J::Item>, Fault> {
-    let mut items = Vec::new(alloc);
-    for number in 0..count {
-        items.push(J::item(alloc, number, size, rounds)?)?;
-    }
-    Ok(items)
+    let items = (0..count).map(|number| J::item(alloc, number, size, rounds));
+    items.collect(alloc)?
 }
 
 impl<'a, J: PlaysInPlace<P>, G: Gate, P> Plays<Places<J>> for SlotLeader<'a, J, G, P> {

@@ -1,6 +1,5 @@
 //! Uneven jobs by the thousand in each kind of lock and in locks that jobs open, with few threads and with 64, with the default limits and
-//! without a pause before sleep. They triple numbers; those that open locks in place there add one to uneven lists. Each answer is
-//! checked; a wrong one ends the program.
+//! without a pause before sleep. They triple numbers, or add one to uneven lists. A wrong answer ends the program.
 ghost use Rattle.std.specs.Prelude.{◌≡◌};
 ghost use Rattle.std.proofs.Common.{rules};
 ghost use denote.Param.Send.{IsSync};
@@ -32,19 +31,13 @@ const KINDS: [&str; 6] = [
 /// At most so many uneven rounds are played in a lock.
 const UNEVEN: u64 = 50;
 
-/// The slots of a lock with slots, which are fewer than the jobs of some of its rounds.
-const SLOTS: usize = 25;
-
 // The uneven shape of this number, for one round: up to fifty jobs, over fewer than forty items. Its size is any number.
 fn uneven(number: u64) -> Shape {
     let random = stirred(number);
-    Shape {
-        jobs: 1 + (random >> 50) as usize % 50,
-        items: (random >> 8) as usize % 40,
-        size: (random % 4000000000) as usize,
-        rounds: 1,
-        may_stop: false,
-    }
+    let mut shape = shaped(1 + (random >> 50) as usize % 50, 0, 1);
+    shape.items = (random >> 8) as usize % 40;
+    shape.size = (random % 4000000000) as usize;
+    shape
 }
 
 // Plays the uneven round of this number, and tells whether what came out is right.
@@ -112,11 +105,8 @@ impl Task for Turns {
     }
 
     fn item(alloc: Global, number: usize, size: usize, rounds: u64) -> Result<u64, Fault> {
-        let mut item = u64::input(alloc, number, size)?;
-        for _ in 0..rounds {
-            item = item.wrapping_mul(3);
-        }
-        Ok(item)
+        let first = u64::input(alloc, number, size)?;
+        Ok((0..rounds).fold(first, |item, _| item.wrapping_mul(3)))
     }
 }
 
@@ -226,7 +216,8 @@ fn play<T: Task<In = u64, Out = u64> + Send, H: Machine>(bench: &Bench<H>, kind:
 where
     T::Item: Send,
 {
-    let shape = shaped(SLOTS, 0, 0);
+    // The slots are fewer than the jobs of some rounds.
+    let shape = shaped(25, 0, 0);
     match kind {
         "trays in trays" => in_inner_trays::<Does<T>, H>(bench, shape),
         "slots in slots" => in_inner_slots::<Does<T>, H>(bench, shape),
