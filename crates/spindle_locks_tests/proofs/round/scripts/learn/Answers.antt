@@ -4,7 +4,7 @@ use Rattle.spindle_rounds.specs.RoundConditions.{IsFreeInside, MayClaim}
 use Rattle.spindle_rounds.proofs.RoundWords.{by_equal}
 use Rattle.spindle_rounds.proofs.RoundClients.{number_learned}
 use Rattle.spindle_rounds.proofs.RoundOnward.{may_claim}
-use Rattle.spindle_rounds_tests.proofs.round.scripts.learn.Goals as goal
+use Rattle.spindle_locks_tests.proofs.round.scripts.learn.Goals as goal
 use Rattle.spindle_rounds.specs.Words.{most_jobs}
 
 pub returns-clause-free : goal.returns-clause-free

@@ -2,7 +2,7 @@
 use Rattle.std.proofs.Common.{◌≡◌, None}
 use Rattle.spindle_rounds.specs.RoundConditions.{IsItsShare}
 use Rattle.spindle_rounds.specs.RoundViews.{Onward, SeesAsBefore}
-use Rattle.spindle_rounds_tests.proofs.round.play.spend.Given as goal
+use Rattle.spindle_locks_tests.proofs.round.play.spend.Given as goal
 
 abbrev pub invariant-loop-i : goal.invariant-loop-i
 invariant-loop-i l = record {

@@ -4,7 +4,7 @@ use Rattle.spindle_rounds.specs.declared.round.claim.Steal.TheVariants as steal
 use Rattle.spindle_rounds.specs.RoundSlots.{bare}
 use Rattle.spindle_rounds.proofs.RoundClients.{stolen, claims_again}
 use Rattle.spindle_rounds.proofs.RoundOnward.{onward_then}
-use Rattle.spindle_rounds_tests.proofs.round.play.steal.Goals as goal
+use Rattle.spindle_locks_tests.proofs.round.play.steal.Goals as goal
 
 pub finish-number-requires-clause-own : goal.finish-number-requires-clause-own
 finish-number-requires-clause-own c = (stolen bare c.args.seat.now.me c.try_steal.new.seat.me c.requires.free _ (steal.Job _ _) c.in-Job.ensures.step).2

@@ -4,8 +4,8 @@ use Rattle.spindle_rounds.specs.RoundSlots.{bare}
 use Rattle.spindle_rounds.specs.RoundViews.{Onward, stops_of}
 use Rattle.spindle_rounds.proofs.RoundClients.{share_next}
 use Rattle.spindle_rounds.proofs.RoundOnward.{onward_then}
-use Rattle.spindle_rounds_tests.proofs.round.play.spend.Goals as goal
-use Rattle.spindle_rounds_tests.proofs.round.play.spend.Goals.{in-Some, in-None}
+use Rattle.spindle_locks_tests.proofs.round.play.spend.Goals as goal
+use Rattle.spindle_locks_tests.proofs.round.play.spend.Goals.{in-Some, in-None}
 
 pub loop-i-preserved : goal.loop-i-preserved
 loop-i-preserved c = let f = c.loop-i.invariant in let v = c.args.seat.now.me.0 in let a = c.loop-i.seat.me in let b = c.next_of_share.new.seat.me in

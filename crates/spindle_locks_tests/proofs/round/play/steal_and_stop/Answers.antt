@@ -4,7 +4,7 @@ use Rattle.spindle_rounds.specs.declared.round.claim.Steal.TheVariants as steal
 use Rattle.spindle_rounds.specs.RoundConditions.{IsItsShare, MayPutBack}
 use Rattle.spindle_rounds.specs.RoundSlots.{bare}
 use Rattle.spindle_rounds.proofs.RoundClients.{stolen, stop_done, share_put}
-use Rattle.spindle_rounds_tests.proofs.round.play.steal_and_stop.Goals as goal
+use Rattle.spindle_locks_tests.proofs.round.play.steal_and_stop.Goals as goal
 
 pub stop-requires-clause-own : goal.stop-requires-clause-own
 stop-requires-clause-own g c = let a = stolen bare c.args.seat.now.me c.try_steal.new.seat.me c.requires.free _ (steal.Job _ _) c.in-Job.ensures.step in

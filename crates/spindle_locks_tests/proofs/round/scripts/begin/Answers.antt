@@ -5,7 +5,7 @@ use Rattle.spindle_rounds.specs.RoundConditions.{MayClaim}
 use Rattle.spindle_rounds.specs.RoundSlots.{bare}
 use Rattle.spindle_rounds.specs.RoundSteps.{number_or}
 use Rattle.spindle_rounds.proofs.RoundClients.{remainder_claimed}
-use Rattle.spindle_rounds_tests.proofs.round.scripts.begin.Goals as goal
+use Rattle.spindle_locks_tests.proofs.round.scripts.begin.Goals as goal
 
 pub returns-clause-own : goal.returns-clause-own
 returns-clause-own g c = let may = subst (λ s. MayClaim s.me.0) (sym c.seat.ensures.value) c.requires.free in

@@ -1,7 +1,7 @@
 -- A finish tells no more of a stop.
 use Rattle.std.proofs.Common.{ap}
 use Rattle.spindle_rounds.specs.RoundViews.{stops_of}
-use Rattle.spindle_rounds_tests.proofs.round.play.finish.Goals as goal
+use Rattle.spindle_locks_tests.proofs.round.play.finish.Goals as goal
 
 pub returns-clause-goes_on : goal.returns-clause-goes_on
 returns-clause-goes_on c = (

@@ -4,7 +4,7 @@ use Rattle.spindle_rounds.specs.RoundConditions.{MayFill}
 use Rattle.spindle_rounds.specs.RoundSlots.{bare}
 use Rattle.spindle_rounds.proofs.RoundClients.{filled_round, round_published}
 use Rattle.spindle_rounds.proofs.RoundOnward.{may_claim}
-use Rattle.spindle_rounds_tests.proofs.round.scripts.publish_two.Goals as goal
+use Rattle.spindle_locks_tests.proofs.round.scripts.publish_two.Goals as goal
 
 pub returns-clause-free : goal.returns-clause-free
 returns-clause-free c = let first = c.seat.ensures.value in let second = c.seat-2.ensures.value in

@@ -3,7 +3,7 @@ use Rattle.std.proofs.Common.{arith, ◌∙◌, true}
 use Rattle.spindle_rounds.specs.RoundSlots.{bare}
 use Rattle.spindle_rounds.proofs.RoundClients.{filled_round, round_published}
 use Rattle.spindle_rounds.proofs.RoundOnward.{may_claim}
-use Rattle.spindle_rounds_tests.proofs.round.play.lead.Goals as goal
+use Rattle.spindle_locks_tests.proofs.round.play.lead.Goals as goal
 
 pub returns-clause-free : goal.returns-clause-free
 returns-clause-free c = let v = c.args.seat.now.me.0 in let l = c.requires.leads in

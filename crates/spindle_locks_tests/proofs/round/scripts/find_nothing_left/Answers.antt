@@ -1,7 +1,7 @@
 -- Reading leaves a member where it stands.
 use Rattle.std.proofs.Common.{◌∙◌, ap, subst, sym}
 use Rattle.spindle_rounds.specs.RoundConditions.{HasSense, HasPart}
-use Rattle.spindle_rounds_tests.proofs.round.scripts.find_nothing_left.Goals as goal
+use Rattle.spindle_locks_tests.proofs.round.scripts.find_nothing_left.Goals as goal
 
 pub returns-clause-held : goal.returns-clause-held
 returns-clause-held g c = let e = c.find_nothing.ensures in let st = e.goes_on.standing ∙ ap (λ s. s.me.0.standing) c.seat.ensures.value in

@@ -7,7 +7,7 @@ use Rattle.spindle_rounds.specs.RoundSteps.{number_or}
 use Rattle.spindle_rounds.specs.RoundViews.{AtWork}
 use Rattle.spindle_rounds.proofs.RoundClients.{remainder_claimed, remainder_nothing, stolen, all_empty}
 use Rattle.spindle_rounds.proofs.RoundOnward.{onward_then}
-use Rattle.spindle_rounds_tests.proofs.round.scripts.find_nothing.Goals as goal
+use Rattle.spindle_locks_tests.proofs.round.scripts.find_nothing.Goals as goal
 
 pub try_claim_rest-requires-clause-free : goal.try_claim_rest-requires-clause-free
 try_claim_rest-requires-clause-free g c = (stolen bare c.args.seat.now.me c.try_steal.new.seat.me c.requires.free _ steal.Nothing c.in-Nothing.ensures.step).3
