@@ -11,7 +11,7 @@ ghost use Rattle.spindle.specs.SlotLeaders.{TakesLeaders, IsLeaderOf, WasLed};
 use crate::lock::slot_root::make;
 use crate::prelude::*;
 use spindle_locks::job::context::{child_slots_for, site_of};
-use spindle_locks::job::nest::{IsNest, Nest};
+use spindle_locks::job::nest::Nest;
 use spindle_locks::leader_states::leader_state::{LeaderSeats, SlotShare};
 use spindle_locks::leader_states::opens_slots::MakesSlots;
 use spindle_locks::lock::helper::join_as_leader;
@@ -178,8 +178,6 @@ impl<J: Job, A: RunsPieces<J>> TakesHelpers for NestedSlots<SlotWorkspace<J>, A>
         help_from::<_, J, SlotWorkspace<J>, H>(rt, alloc, tables, &self.workspace, spare_seats);
     }
 }
-
-impl<J: Job, A: RunsPieces<J>> IsNest for UnderPieces<J, A> {}
 
 impl<J: Job, A: RunsPieces<J>> Nest for UnderPieces<J, A> {
     type ChildSlots = Vec<ChildSlot<NestedSlots<SlotWorkspace<J>, A>>>;

@@ -77,7 +77,7 @@ impl<'a, J: OpensSlots<P>, G: Gate, P> Leads for SlotLeader<'a, J, G, P> {
 
     fn dismiss<H: Wait>(&mut self, rt: &H) {
         self.runner.signals.announce_exit();
-        J::wake(rt, &self.state);
+        J::sleep(&self.state).wake_for_news(rt);
     }
 
     fn leave<H: Wait>(self, rt: &H) {

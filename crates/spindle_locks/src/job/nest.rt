@@ -9,12 +9,9 @@ ghost use Rattle.spindle_rounds.specs.Accounts.{IsSameThread};
 use crate::prelude::*;
 use spindle_rounds::threads::signals::Signals;
 
-/// What `Nest` is implemented for: by the crate above too, whose locks with slots are nests of their own. `spindle` doesn't give it out.
-pub trait IsNest {}
-
 /// The locks that a job may open. A user names `End` or `Under<K>`, or of the crate above `UnderSlots<K>` or `UnderInPlace<M>`. The
-/// trait's calls are the library's own, and who names `spindle` alone can't implement it.
-pub trait Nest: IsNest {
+/// trait's calls are the library's own, and who names `spindle` alone can't implement it, since it doesn't give out `Signals`.
+pub trait Nest {
     /// Where a lock keeps the locks that its jobs open.
     type ChildSlots: Drop;
 
@@ -39,8 +36,6 @@ pub trait Nest: IsNest {
 
 /// No nested locks.
 pub struct End;
-
-impl IsNest for End {}
 
 impl Nest for End {
     type ChildSlots = ();

@@ -7,15 +7,16 @@ ghost use Rattle.std.specs.Arc.{arc_value};
 ghost use Rattle.spindle_rounds.specs.RoundConditions.{MayFill};
 ghost use Rattle.spindle_rounds.specs.Seating.{HasSlots};
 
-use crate::leader_states::opens_slots::{HasLeaderState, MakesSlots, OpensSlots};
+use crate::leader_states::opens_slots::{MakesSlots, OpensSlots};
 use crate::pieces::of_kind::Reuses;
 use crate::prelude::*;
-use crate::running::in_slots::{RunsPieces, SlotWorkspace};
+use crate::running::in_slots::SlotWorkspace;
 use spindle_rounds::barrier::detached_party::DetachedParty;
 use spindle_rounds::round_table::pieces::{PieceKind, PieceSlots};
 use spindle_rounds::round_table::slots::SlotContents;
 use spindle_rounds::threads::leader_member::LeaderMember;
 use spindle_rounds::threads::member::Member;
+use spindle_rounds::threads::sleep::Sleep;
 use spindle_rounds::threads::tables::Tables;
 use std::sync::Arc;
 
@@ -26,9 +27,7 @@ pub struct LeaderState<A: Reuses> {
     pub(crate) kept: Option<A::Kept>,
 }
 
-impl<J: Job, A: RunsPieces<J>> HasLeaderState<LeaderState<A>> for J {}
-
-impl<J: Job, A: RunsPieces<J>> OpensSlots<LeaderState<A>> for J {
+impl<J: Job, A: Reuses> OpensSlots<LeaderState<A>> for J {
     type Note = A::Piece;
 
     ghost view = { λ state. view_in state.member.party };
@@ -39,8 +38,8 @@ impl<J: Job, A: RunsPieces<J>> OpensSlots<LeaderState<A>> for J {
         state.member.slots()
     }
 
-    fn wake<H: Wait>(rt: &H, state: &LeaderState<A>) {
-        state.member.share.tables.sleep.wake_for_news(rt);
+    fn sleep(state: &LeaderState<A>) -> &Sleep {
+        &state.member.share.tables.sleep
     }
 
     fn leave<H: Wait>(rt: &H, state: LeaderState<A>) {
@@ -48,7 +47,7 @@ impl<J: Job, A: RunsPieces<J>> OpensSlots<LeaderState<A>> for J {
     }
 }
 
-impl<J: Job, A: RunsPieces<J>> MakesSlots<LeaderState<A>, PieceSlots<A>, SlotWorkspace<J>> for J {
+impl<J: Job, A: Reuses> MakesSlots<LeaderState<A>, PieceSlots<A>, SlotWorkspace<J>> for J {
     fn workspace(alloc: Global, threads: usize) -> Result<SlotWorkspace<J>, Fault> {
         let child_slots = <J::Inner as Nest>::make(alloc, threads)?;
         Ok(SlotWorkspace::new(child_slots))

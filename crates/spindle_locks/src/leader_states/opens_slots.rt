@@ -11,13 +11,12 @@ use crate::leader_states::leader_state::LeaderSeats;
 use crate::prelude::*;
 use spindle_rounds::round_table::pieces::PieceSlots;
 use spindle_rounds::round_table::slots::SlotContents;
-
-/// What `OpensSlots` is implemented for. `spindle` doesn't give it out.
-pub trait HasLeaderState<P> {}
+use spindle_rounds::threads::sleep::Sleep;
 
 /// The kinds of jobs whose locks with slots have a leader's state of type P. Each kind of job has one, `SlotLeaderState<J>`, which a
-/// caller leaves to the compiler; the trait's calls are the library's own, and who names `spindle` alone can't implement it.
-pub trait OpensSlots<P>: Job + HasLeaderState<P> {
+/// caller leaves to the compiler; the trait's calls are the library's own, and who names `spindle` alone can't implement it, since it
+/// doesn't give out `Sleep`.
+pub trait OpensSlots<P>: Job {
     /// What a party notes of the piece that it has begun.
     type Note;
 
@@ -33,8 +32,8 @@ pub trait OpensSlots<P>: Job + HasLeaderState<P> {
         ensures range { (1 ≤ result) × (result ≤ 4294967295) }
         ensures between { MayFill (Self.OpensSlots.view state.now) };
 
-    /// Wakes those who sleep until news comes: exit is announced.
-    fn wake<H: Wait>(rt: &H, state: &P);
+    /// Where the lock's threads sleep.
+    fn sleep(state: &P) -> &Sleep;
 
     /// Leaves the lock's barrier.
     fn leave<H: Wait>(rt: &H, state: P);

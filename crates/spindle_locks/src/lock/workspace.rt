@@ -24,12 +24,10 @@ pub struct Workspace<J: Job> {
     trays: Trays<J>,
 }
 
-/// What `Opens` is implemented for. `spindle` doesn't give it out.
-pub trait HasWorkspace<L> {}
-
 /// The kinds of jobs whose locks have a workspace of type L. Each kind of job has one, `Workspace<J>`, which a caller leaves
-/// to the compiler; the trait's calls are the library's own, and who names `spindle` alone can't implement it.
-pub trait Opens<L>: Job + HasWorkspace<L> {
+/// to the compiler; the trait's calls are the library's own, and who names `spindle` alone can't implement it, since it doesn't give
+/// out `Trays`.
+pub trait Opens<L>: Job {
     /// The workspace of a lock of so many threads.
     fn open(alloc: Global, threads: usize) -> Result<L, Fault>
         requires { 0 < threads }
@@ -44,8 +42,6 @@ pub trait Opens<L>: Job + HasWorkspace<L> {
     /// The workspace of a lock that a job opened.
     fn inner(child: &Child<Nested<Self>>) -> &L;
 }
-
-impl<J: Job> HasWorkspace<Workspace<J>> for J {}
 
 impl<J: Job> Opens<Workspace<J>> for J {
     fn open(alloc: Global, threads: usize) -> Result<Workspace<J>, Fault> {

@@ -6,7 +6,6 @@ ghost use Rattle.spindle_rounds.specs.Opening.{AreSeatsAt};
 ghost use denote.Param.Send.{IsSync};
 
 use crate::job::gate::NoGate;
-use crate::job::nest::IsNest;
 use crate::lock::helper::help;
 use crate::lock::nested::child_lease::{ChildSlot, make_child_slots, serve_child_slots};
 use crate::lock::workspace::{Opens, TakesPart, Workspace};
@@ -135,8 +134,6 @@ impl<K: Job> TakesHelpers for Nested<K> {
 pub struct Under<K> {
     kind: PhantomData<K>,
 }
-
-impl<K: Job> IsNest for Under<K> {}
 
 impl<K: Job> Nest for Under<K> {
     type ChildSlots = Vec<ChildSlot<Nested<K>>>;
