@@ -16,6 +16,7 @@ use spindle::prelude::*;
 use std::fs;
 use std::hint::spin_loop;
 use std::marker::PhantomData;
+use std::rt::Files;
 use std::time::Instant;
 
 /// The kinds of locks, each with those that its jobs open.
@@ -211,12 +212,11 @@ where
     in_slots::<InSlots<J>, H>(bench, shape)
 }
 
-// Plays in a lock of this kind. What its jobs do is a parameter, as in `main.rt`.
+// Plays in a lock of this kind, whose slots are fewer than the jobs of some rounds. What its jobs do is a parameter, as in `main.rt`.
 fn play<T: Task<In = u64, Out = u64> + Send, H: Machine>(bench: &Bench<H>, kind: &str) -> Times
 where
     T::Item: Send,
 {
-    // The slots are fewer than the jobs of some rounds.
     let shape = shaped(25, 0, 0);
     match kind {
         "trays in trays" => in_inner_trays::<Does<T>, H>(bench, shape),
@@ -229,7 +229,7 @@ where
 }
 
 /// Plays in all kinds of locks for so many seconds in all. With 0 it plays a round in each, and prints nothing.
-pub fn soak<H: Machine>(rt: &H, seconds: u64) -> Ended {
+pub fn soak<H: Machine + Files>(rt: &H, seconds: u64) -> Ended {
     let share = seconds.saturating_mul(1_000_000_000) / 36;
     for kind in KINDS {
         let mut seen = (0, 0);
@@ -271,7 +271,7 @@ fn in_pool<H: Machine>(
 }
 
 // Prints a kind's line. The system counts the memory in pages of 4 kB.
-fn print<H: Machine>(rt: &H, kind: &str, rounds: u64, worst: u64) -> Ended {
+fn print<H: Machine + Files>(rt: &H, kind: &str, rounds: u64, worst: u64) -> Ended {
     let text = fs::read_to_string(rt, "/proc/self/statm")?;
     let pages = text.as_str().split(' ').nth(1).unwrap_or("0");
     let memory = pages.parse::<u64>().unwrap_or(0).saturating_mul(4);

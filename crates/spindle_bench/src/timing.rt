@@ -8,7 +8,7 @@ use spindle::lock::Nest;
 use spindle::prelude::*;
 use std::io;
 use std::num::ParseIntError;
-use std::rt::{Clock, Env, Files};
+use std::rt::{Clock, Env};
 use std::time::Instant;
 use thiserror::Error;
 
@@ -88,10 +88,10 @@ pub enum Stop {
     Wrong,
 }
 
-/// What the program needs of its runtime.
-pub trait Machine: Runs + Clock + Env + Files + Print + Alloc<A = Global> {}
+/// What rounds need of the program's runtime.
+pub trait Machine: Runs + Clock + Env + Print + Alloc<A = Global> {}
 
-impl<H: Runs + Clock + Env + Files + Print + Alloc<A = Global>> Machine for H {}
+impl<H: Runs + Clock + Env + Print + Alloc<A = Global>> Machine for H {}
 
 /// The nanoseconds that rounds took: the mean of each batch, in order of size, or each uneven round.
 pub type Times = Result<Vec<u64>, Stop>;
