@@ -42,7 +42,7 @@ pub use spindle_locks::lock::rounds::{ChunkRounds, RunsRounds};
 pub use spindle_locks::lock::workspace::{Opens, Workspace};
 pub use spindle_locks::pieces::finished::Finished;
 pub use spindle_locks::pieces::gathering::gather;
-pub use spindle_locks::pieces::of_kind::{ChunkOf, PieceOf, Reuses};
+pub use spindle_locks::pieces::of_kind::{ChunkOf, PieceOf};
 pub use spindle_locks::pieces::report::Report;
 pub use spindle_locks::running::in_place::{PlaceLeaderState, PlaysInPlace};
 pub use spindle_locks::running::in_slots::SlotWorkspace;

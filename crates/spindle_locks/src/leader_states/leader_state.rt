@@ -8,7 +8,6 @@ ghost use Rattle.spindle_rounds.specs.RoundConditions.{MayFill};
 ghost use Rattle.spindle_rounds.specs.Seating.{HasSlots};
 
 use crate::leader_states::opens_slots::{MakesSlots, OpensSlots};
-use crate::pieces::of_kind::Reuses;
 use crate::prelude::*;
 use crate::running::in_slots::SlotWorkspace;
 use spindle_rounds::barrier::detached_party::DetachedParty;
@@ -20,40 +19,41 @@ use spindle_rounds::threads::sleep::Sleep;
 use spindle_rounds::threads::tables::Tables;
 use std::sync::Arc;
 
-/// The state of a leader whose rounds have such pieces, with what it keeps from one round to the next.
+/// The state of a leader whose rounds have pieces of kind A, with a K that it keeps from one round to the next.
 #[derive(Drop)]
-pub struct LeaderState<A: Reuses> {
+pub struct LeaderState<A: PieceKind, K> {
     pub(crate) member: SlotMember<A>,
-    pub(crate) kept: Option<A::Kept>,
+    pub(crate) kept: Option<K>,
 }
 
-impl<J: Job, A: Reuses> OpensSlots<LeaderState<A>> for J {
+impl<J: Job, A: PieceKind, K: Drop> OpensSlots<LeaderState<A, K>> for J {
     type Note = A::Piece;
 
     ghost view = { λ state. view_in state.member.party };
 
     ghost slot_count = { λ state. state.member.share.slots };
 
-    fn slots(state: &LeaderState<A>) -> usize {
+    fn slots(state: &LeaderState<A, K>) -> usize {
         state.member.slots()
     }
 
-    fn sleep(state: &LeaderState<A>) -> &Sleep {
+    fn sleep(state: &LeaderState<A, K>) -> &Sleep {
         &state.member.share.tables.sleep
     }
 
-    fn leave<H: Wait>(rt: &H, state: LeaderState<A>) {
+    fn leave<H: Wait>(rt: &H, state: LeaderState<A, K>) {
         state.member.leave(rt);
     }
 }
 
-impl<J: Job, A: Reuses> MakesSlots<LeaderState<A>, PieceSlots<A>, SlotWorkspace<J>> for J {
+impl<J: Job, A: PieceKind, K: Drop> MakesSlots<LeaderState<A, K>, PieceSlots<A>, SlotWorkspace<J>>
+    for J {
     fn workspace(alloc: Global, threads: usize) -> Result<SlotWorkspace<J>, Fault> {
         let child_slots = <J::Inner as Nest>::make(alloc, threads)?;
         Ok(SlotWorkspace::new(child_slots))
     }
 
-    fn settle(leader_seats: &mut Option<LeaderSeats<PieceSlots<A>>>) -> LeaderState<A> {
+    fn settle(leader_seats: &mut Option<LeaderSeats<PieceSlots<A>>>) -> LeaderState<A, K> {
         let Some(leader_seats) = leader_seats.take() else {
             unreachable!()
         };

@@ -4,16 +4,9 @@ ghost use Rattle.spindle_locks.specs.SlotPieces.{IsAnswerTo};
 use crate::job::Job;
 use crate::job::update::Updates;
 use crate::pieces::chunk::{Chunk, Updated};
-use crate::pieces::chunk_buffers::ChunkBuffers;
-use crate::pieces::slot_piece::{Batch, OneOr, OutputBuffers, Outputs};
+use crate::pieces::slot_piece::{Batch, OneOr, Outputs};
 use spindle_rounds::round_table::pieces::PieceKind;
 use std::marker::PhantomData;
-
-/// Pieces of whose rounds a leader keeps something for later ones.
-pub trait Reuses: PieceKind {
-    /// What it keeps.
-    type Kept: Drop;
-}
 
 /// A piece of a kind of job is answered by an output for each of its items that meets the job's relation.
 pub struct PieceOf<J: Job> {
@@ -28,10 +21,6 @@ impl<J: Job> PieceKind for PieceOf<J> {
     ghost answers = { IsAnswerTo J.meets };
 }
 
-impl<J: Job> Reuses for PieceOf<J> {
-    type Kept = OutputBuffers<J::In, J::Out>;
-}
-
 /// A piece in place is answered by what became of its items, each in its place.
 pub struct ChunkOf<J: Updates> {
     kind: PhantomData<J>,
@@ -43,8 +32,4 @@ impl<J: Updates> PieceKind for ChunkOf<J> {
     type Answer = OneOr<J::Item, Updated<J::Item>>;
 
     ghost answers = { IsAnswerTo J.updated };
-}
-
-impl<J: Updates> Reuses for ChunkOf<J> {
-    type Kept = ChunkBuffers<J::Item>;
 }

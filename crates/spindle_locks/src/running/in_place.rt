@@ -130,7 +130,7 @@ fn update_each<J: Updates, H: Threads + Wait + Sync>(
 }
 
 /// The state of a leader that plays rounds in place. It keeps room for chunks.
-pub type PlaceLeaderState<J> = LeaderState<ChunkOf<J>>;
+pub type PlaceLeaderState<J> = LeaderState<ChunkOf<J>, ChunkBuffers<<J as Updates>::Item>>;
 
 /// The kinds of jobs whose leader with a state of type P plays rounds in place.
 pub trait PlaysInPlace<P>: OpensSlots<P> + Updates {
@@ -175,11 +175,11 @@ pub trait PlaysInPlace<P>: OpensSlots<P> + Updates {
             ≡ Self.OpensSlots.slot_count state.old };
 }
 
-impl<J: Updates> PlaysInPlace<LeaderState<ChunkOf<J>>> for J {
+impl<J: Updates> PlaysInPlace<PlaceLeaderState<J>> for J {
     fn play_in_place<'a, G: Gate, H: Threads + Wait + Sync>(
         rt: &H,
         alloc: Global,
-        state: &mut LeaderState<ChunkOf<J>>,
+        state: &mut PlaceLeaderState<J>,
         runner: &mut Runner<'a, J, G>,
         jobs: usize,
         items: &mut Vec<J::Item>,
@@ -195,7 +195,7 @@ impl<J: Updates> PlaysInPlace<LeaderState<ChunkOf<J>>> for J {
     fn play_alone<'a, G: Gate, H: Threads + Wait + Sync>(
         rt: &H,
         alloc: Global,
-        state: &mut LeaderState<ChunkOf<J>>,
+        state: &mut PlaceLeaderState<J>,
         runner: &mut Runner<'a, J, G>,
         items: &mut Vec<J::Item>,
     ) -> Result<(), Fault> {

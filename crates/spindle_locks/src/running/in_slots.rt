@@ -11,7 +11,6 @@ ghost use Rattle.spindle_locks.specs.SlotRounds.{LeadsAt, PlayedPieces};
 
 use crate::leader_states::leader_state::SlotTables;
 use crate::lock::workspace::TakesPart;
-use crate::pieces::of_kind::Reuses;
 use crate::prelude::*;
 use spindle_rounds::barrier::Barrier;
 use spindle_rounds::round::claim::Claimed;
@@ -24,7 +23,7 @@ use spindle_rounds::threads::publish_and_end::{end_round, publish_held};
 use spindle_rounds::threads::tables::{MemberCount, Tables};
 
 /// Pieces that jobs of kind J run.
-pub trait RunsPieces<J: Job>: Reuses {
+pub trait RunsPieces<J: Job>: PieceKind {
     /// Runs the piece of a number, which it takes, between the two calls of the gate.
     fn run_piece<G: Gate, H: Threads + Wait + Sync>(
         rt: &H,

@@ -83,7 +83,10 @@ impl<J: Job> RunsPieces<J> for PieceOf<J> {
 }
 
 /// The state of a leader that plays rounds over lists. It keeps buffers for their outputs.
-pub type SlotLeaderState<J> = LeaderState<PieceOf<J>>;
+pub type SlotLeaderState<J> = LeaderState<
+    PieceOf<J>,
+    OutputBuffers<<J as Job>::In, <J as Job>::Out>,
+>;
 
 /// The kinds of jobs whose leader with a state of type P plays rounds over lists of items.
 pub trait PlaysPieces<P>: OpensSlots<P> {
@@ -113,11 +116,11 @@ pub trait PlaysPieces<P>: OpensSlots<P> {
             ≡ Self.OpensSlots.slot_count state.old };
 }
 
-impl<J: Job> PlaysPieces<LeaderState<PieceOf<J>>> for J {
+impl<J: Job> PlaysPieces<SlotLeaderState<J>> for J {
     fn play<'a, S: FillsSlots<J>, G: Gate, H: Threads + Wait + Sync>(
         rt: &H,
         alloc: Global,
-        state: &mut LeaderState<PieceOf<J>>,
+        state: &mut SlotLeaderState<J>,
         runner: &mut Runner<'a, J, G>,
         items: &mut S,
         outputs: &mut Vec<J::Out>,

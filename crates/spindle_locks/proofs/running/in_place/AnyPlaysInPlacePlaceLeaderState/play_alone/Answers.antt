@@ -1,6 +1,6 @@
 -- All items come back to where they were.
 use Rattle.spindle_locks.proofs.InPlace.{all_fit}
-use Rattle.spindle_locks.proofs.running.in_place.AnyPlaysInPlaceLeaderStateChunkOf.play_alone.Goals as goal
+use Rattle.spindle_locks.proofs.running.in_place.AnyPlaysInPlacePlaceLeaderState.play_alone.Goals as goal
 
 pub unload-requires : goal.unload-requires
 unload-requires g c = let moved = c.load-chunk.ensures in let old = c.args.items.now in
