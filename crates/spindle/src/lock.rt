@@ -22,7 +22,7 @@ pub use self::attempts::{Attempting, AttemptsOf, try_one};
 pub(crate) use self::folds::reduce_once;
 pub use self::folds::{Combine, Folds, Part, reduce};
 pub use self::lock_of::LockOf;
-pub use self::nested::{NestedSlots, UnderInPlace, UnderPieces, UnderSlots};
+pub use self::nested::{PieceChildSlots, UnderInPlace, UnderPieces, UnderSlots};
 pub use self::one_round::{run_one, update_one};
 pub use self::place_rounds::PlaceLeader;
 pub use self::slot_leader::SlotLeader;

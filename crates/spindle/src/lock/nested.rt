@@ -59,7 +59,7 @@ pub(crate) fn open<
     if let Some(child_slots) = child_slots_for(cx, counts) {
         let (child, leader_start) = NestedSlots::open(alloc, counts, site.sleep.idling(), slots)?;
         let request = cx.signals.ask(&*child.shared.tables);
-        if let Some(lease) = ChildLease::take(rt, child_slots, &child, request, site.sleep) {
+        if let Some(lease) = ChildLease::take(rt, &child_slots.slots, &child, request, site.sleep) {
             return Ok(lead(rt, child, leader_start, Some(lease), f));
         }
     }
@@ -179,26 +179,30 @@ impl<J: Job, A: RunsPieces<J>> TakesHelpers for NestedSlots<SlotWorkspace<J>, A>
     }
 }
 
+/// The child slots in which such locks stand.
+#[derive(Drop)]
+pub struct PieceChildSlots<W, A: PieceKind> {
+    slots: Vec<ChildSlot<NestedSlots<W, A>>>,
+}
+
 impl<J: Job, A: RunsPieces<J>> Nest for UnderPieces<J, A> {
-    type ChildSlots = Vec<ChildSlot<NestedSlots<SlotWorkspace<J>, A>>>;
+    type ChildSlots = PieceChildSlots<SlotWorkspace<J>, A>;
 
     fn child_slot_count(threads: usize) -> usize {
         threads
     }
 
-    fn make(
-        alloc: Global,
-        threads: usize,
-    ) -> Result<Vec<ChildSlot<NestedSlots<SlotWorkspace<J>, A>>>, Fault> {
-        make_child_slots(alloc, threads)
+    fn make(alloc: Global, threads: usize) -> Result<PieceChildSlots<SlotWorkspace<J>, A>, Fault> {
+        let slots = make_child_slots(alloc, threads)?;
+        Ok(PieceChildSlots { slots })
     }
 
     fn serve<H: Threads + Wait + Sync>(
         rt: &H,
         alloc: Global,
-        child_slots: &Vec<ChildSlot<NestedSlots<SlotWorkspace<J>, A>>>,
+        child_slots: &PieceChildSlots<SlotWorkspace<J>, A>,
         signals: &mut Signals<'_>,
     ) {
-        serve_child_slots(rt, alloc, child_slots, signals);
+        serve_child_slots(rt, alloc, &child_slots.slots, signals);
     }
 }
