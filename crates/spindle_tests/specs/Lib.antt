@@ -1,4 +1,2 @@
 -- The definitions that contracts of this crate cite.
 pub mod Callers
-pub mod Last
-pub mod Halves

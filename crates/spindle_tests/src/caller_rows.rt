@@ -4,13 +4,13 @@ ghost use denote.Param.Send.{IsSync};
 
 use crate::callers;
 use crate::checks::{are, is};
-use crate::leaders::Runs;
 use spindle::prelude::*;
 use spindle::with_lock;
 use spindle_locks_tests::jobs::Square;
+use std::process::Abort;
 
 // Rounds into one list, whose memory serves again.
-fn square_into<R: RunsRounds<Square>, H: Runs>(
+fn square_into<R: RunsRounds<Square>, H: Threads + Wait + Abort + Sync>(
     rt: &H,
     alloc: Global,
     leader: &mut R,
@@ -54,7 +54,11 @@ fn callers_answer_in_full(rt: HostRuntime) -> Result<(), Fault> {
     both_lists(&rt, rt.alloc(), &pool)
 }
 
-fn squares_and_sums<H: Runs>(rt: &H, alloc: Global, pool: &Pool<NoGate>) -> Result<(), Fault> {
+fn squares_and_sums<H: Threads + Wait + Abort + Sync>(
+    rt: &H,
+    alloc: Global,
+    pool: &Pool<NoGate>,
+) -> Result<(), Fault> {
     let numbers = vec![in alloc; 0, 1, 2, 3]?;
     let squares = callers::squares_without_a_lock(rt, alloc, pool, 3, numbers)?;
     are(rt, &squares, &[0, 1, 4, 9]);
@@ -64,7 +68,11 @@ fn squares_and_sums<H: Runs>(rt: &H, alloc: Global, pool: &Pool<NoGate>) -> Resu
     Ok(())
 }
 
-fn both_lists<H: Runs>(rt: &H, alloc: Global, pool: &Pool<NoGate>) -> Result<(), Fault> {
+fn both_lists<H: Threads + Wait + Abort + Sync>(
+    rt: &H,
+    alloc: Global,
+    pool: &Pool<NoGate>,
+) -> Result<(), Fault> {
     let one = vec![in alloc; 2, 3, 5]?;
     let equal = vec![in alloc; 2, 3, 5]?;
     let both = callers::outputs_twice::<Square, _, _>(rt, alloc, pool, 2, one, equal)?;

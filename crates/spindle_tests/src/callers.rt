@@ -6,7 +6,6 @@ ghost use Rattle.std.proofs.Common.{rules};
 ghost use Rattle.spindle_locks.specs.Rounds.{job_count};
 ghost use Rattle.spindle_tests.specs.Callers.{IsFunction, PublishedTwice, JobsDiffer};
 
-use crate::chunks::AddOne;
 use spindle::for_each;
 use spindle::lock::{Nest, Opens};
 use spindle::prelude::*;
@@ -41,6 +40,37 @@ pub fn squares<H: Threads + Wait + AllocGlobal + Sync>(
     ensures { IfOk result (λ squares. squares.items ≡ map (λ x. x * x) numbers.items) }
 {
     run_one::<Square>(rt, rt.alloc(), &Pool::of_machine(rt), 0, numbers)
+}
+
+/// Adds one to each element of a chunk.
+pub struct AddOne;
+
+impl Job for AddOne {
+    type In = ListRun<u32>;
+
+    type Out = Result<Vec<u64>, AllocError>;
+
+    type Inner = End;
+
+    ghost meets = { λ chunk output. IfOk output (λ sums. sums.items ≡ map (λ x. x + 1) chunk) };
+
+    ghost equal_is_same = { Prim.search rules };
+
+    fn run<H: Threads + Wait + Sync>(
+        _rt: &H,
+        alloc: Global,
+        chunk: &ListRun<u32>,
+        _cx: &mut JobCx<End>,
+    ) -> Result<Vec<u64>, AllocError> {
+        one_more(alloc, chunk.as_slice())
+    }
+}
+
+/// Each element, and one more.
+pub fn one_more(alloc: Global, chunk: &[u32]) -> Result<Vec<u64>, AllocError>
+    ensures { IfOk result (λ sums. sums.items ≡ map (λ x. x + 1) chunk.now) }
+{
+    chunk.iter().map(|x| u64::from(*x) + 1).collect(alloc)
 }
 
 /// Each number and one more, by one round over as many chunks of a shared list as there are jobs.

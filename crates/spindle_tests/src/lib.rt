@@ -1,4 +1,4 @@
-//! Tests of locks of each kind, of calls over whole lists, and of callers: these have contracts that are proved from the library's public
+//! Tests of locks of each kind, of calls outside one, and of callers: these have contracts that are proved from the library's public
 //! clauses alone. Rows have inputs with the outputs that they must give, or with what a refused allocation leaves. Most that need trays
 //! alone stand in `spindle_locks_tests`.
 //!
@@ -6,17 +6,11 @@
 #![tactic(auto)]
 
 #[cfg(test)]
-mod attempt_rows;
-#[cfg(test)]
 mod caller_rows;
 #[cfg(test)]
 mod callers;
 #[cfg(test)]
 mod checks;
-#[cfg(test)]
-mod chunks;
-#[cfg(test)]
-mod division_rows;
 #[cfg(test)]
 mod free_rows;
 #[cfg(test)]
@@ -24,21 +18,13 @@ mod in_place_rows;
 #[cfg(test)]
 mod item_rows;
 #[cfg(test)]
-mod kernel_rows;
-#[cfg(test)]
 mod laws;
-#[cfg(test)]
-mod leader_rows;
-#[cfg(test)]
-mod leaders;
 #[cfg(test)]
 mod lists;
 #[cfg(test)]
 mod marks;
 #[cfg(test)]
 mod nested;
-#[cfg(test)]
-mod pass_rows;
 #[cfg(test)]
 mod place_rows;
 #[cfg(test)]
@@ -55,5 +41,3 @@ mod sevens;
 mod square_rows;
 #[cfg(test)]
 mod staying;
-#[cfg(test)]
-mod try_rows;

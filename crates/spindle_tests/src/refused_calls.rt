@@ -1,15 +1,14 @@
-//! What a refused allocation leaves of the calls that open a lock of their own, or go over a list by chunks: no job was run, and the
-//! same call with memory answers in full.
+//! What a refused allocation leaves of a call that opens a lock of its own, and of rounds in slots: no job was run, and the same call with
+//! memory answers in full.
 //!
 //! Each of these tests ends well whichever one of its allocations is refused, so of two equal calls one answers, and a call that
 //! fails a test by its refusal takes no memory. With memory for all, they show the full answers.
 ghost use Rattle.std.specs.Prelude.{◌<◌, ◌≤◌};
 
-use crate::checks::{are, holds, is};
-use crate::chunks::{Halve, LastOdd};
+use crate::checks::{holds, is};
 use crate::sevens::{are_seven_squares, seven_items};
 use spindle::prelude::*;
-use spindle::{with_lock, with_slots};
+use spindle::with_slots;
 use spindle_locks_tests::jobs::{Calls, Counting, Square};
 
 #[test]
@@ -33,60 +32,6 @@ fn refused_call_of_one_round_has_run_no_job(rt: HostRuntime) -> Result<(), Fault
         let none = run_one::<Square>(&rt, alloc, &pool, 0, Vec::new(alloc))?;
         is(&rt, (none.capacity(), calls.since(before)), (0, (0, 0)));
     }
-    Ok(())
-}
-
-// The list of these numbers; where memory for it is refused once, it is asked for again.
-fn list_of(alloc: Global, numbers: [u32; 4]) -> Result<SharedList<u32>, Fault> {
-    match shared(alloc, numbers) {
-        Ok(list) => Ok(list),
-        Err(_) => shared(alloc, numbers),
-    }
-}
-
-fn shared(alloc: Global, numbers: [u32; 4]) -> Result<SharedList<u32>, Fault> {
-    Ok(SharedList::from_vec(alloc, Vec::from_array(alloc, numbers)?)?)
-}
-
-#[test]
-fn refused_fold_has_run_no_job(rt: HostRuntime) -> Result<(), Fault> {
-    let alloc = rt.alloc();
-    let calls = Calls::new();
-    let pool = Pool::new(4, Limits::new(), Counting { calls: &calls });
-    let list = list_of(alloc, [2, 7, 4, 6])?;
-    for _ in 0..2 {
-        let before = calls.in_all();
-        match reduce::<LastOdd>(&rt, alloc, &pool, 0, &list) {
-            Ok(total) => is(&rt, (total, calls.since(before)), (7, (4, 4))),
-            Err(_) => is(&rt, calls.since(before), (0, 0)),
-        }
-    }
-    let before = calls.in_all();
-    holds(&rt, before != (0, 0));
-    if let Ok(none) = SharedList::from_vec(alloc, Vec::new(alloc)) {
-        is(&rt, reduce::<LastOdd>(&rt, alloc, &pool, 0, &none)?, 0);
-    }
-    is(&rt, calls.since(before), (0, 0));
-    Ok(())
-}
-
-#[test]
-fn refused_round_over_chunks_is_answered_when_asked_again(rt: HostRuntime) -> Result<(), Fault> {
-    let alloc = rt.alloc();
-    let calls = Calls::new();
-    let pool = Pool::new(2, Limits::new(), Counting { calls: &calls });
-    let even = list_of(alloc, [2, 6, 4, 0])?;
-    let mut full = 0usize;
-    for _ in 0..2 {
-        let answer = with_lock::<Halve, _, _, _, _, _>(&rt, alloc, &pool, 2, |leader| {
-            leader.map_chunks(&rt, alloc, 2, &even)
-        });
-        if let Ok(Ok(Ok(halves))) = answer {
-            are(&rt, &halves, &[1, 3, 2, 0]);
-            full = full.wrapping_add(1);
-        }
-    }
-    holds(&rt, 0 < full);
     Ok(())
 }
 

@@ -5,9 +5,7 @@
 ghost use Rattle.std.specs.Prelude.{◌≡◌, ◌+◌, min};
 
 use crate::checks::{are, holds, is};
-use crate::chunks::LastOdd;
 use crate::leaders::{Led, LedBy, Runs, in_place};
-use spindle::lock::Combine;
 use spindle::prelude::*;
 use spindle_locks_tests::jobs::{Calls, Counting};
 
@@ -29,8 +27,8 @@ impl<'a> Kernel for AtMost<'a> {
     }
 }
 
-// Eleven numbers; where memory for them is refused once, it is asked for again.
-fn eleven_numbers(alloc: Global) -> Result<Vec<u32>, Fault> {
+/// Eleven numbers; where memory for them is refused once, it is asked for again.
+pub fn eleven_numbers(alloc: Global) -> Result<Vec<u32>, Fault> {
     let numbers = [3, 1, 4, 1, 5, 9, 2, 6, 5, 3, u32::MAX];
     match Vec::from_array(alloc, numbers) {
         Ok(list) => Ok(list),
@@ -160,64 +158,6 @@ fn pairs_go_as_far_as_both_lists(rt: HostRuntime) -> Result<(), Fault> {
     Ok(())
 }
 
-/// The second number of the last pair whose second isn't 0, or 0: which comes later counts.
-pub struct LastSecond;
-
-impl Combine for LastSecond {
-    ghost use Rattle.spindle_tests.specs.Last.{later, later_associative};
-    ghost use Rattle.std.proofs.Common.{refl};
-
-    type Item = (u32, u32);
-
-    type Total = u32;
-
-    ghost neutral = { 0 };
-
-    ghost of = { λ pair. pair.1 };
-
-    ghost combine = { later };
-
-    fn neutral() -> u32 {
-        0
-    }
-
-    fn of(pair: &(u32, u32)) -> u32 {
-        pair.1
-    }
-
-    fn combine(first: u32, second: u32) -> u32 {
-        if second == 0 { first } else { second }
-    }
-
-    ghost associative = { later_associative };
-
-    ghost is_neutral = { (refl, λ _ _. refl) };
-}
-
-#[test]
-fn pairs_are_combined_in_their_order(rt: HostRuntime) -> Result<(), Fault> {
-    let alloc = rt.alloc();
-    let pool = Pool::new(4, Limits::new(), NoGate);
-    let first = SharedList::from_vec(alloc, eleven_numbers(alloc)?)?;
-    let second = SharedList::from_vec(alloc, vec![in alloc; 0u32, 7, 0, 5, 0, 0]?)?;
-    for jobs in [0, 1, 3] {
-        let last = reduce_pairs::<_, _, LastSecond>(&rt, alloc, &pool, jobs, &first, &second)?;
-        is(&rt, last, 5);
-    }
-    Ok(())
-}
-
-#[test]
-fn a_fold_has_four_jobs_a_thread(rt: HostRuntime) -> Result<(), Fault> {
-    let alloc = rt.alloc();
-    let calls = Calls::new();
-    let pool = Pool::new(2, Limits::new(), Counting { calls: &calls });
-    let list = SharedList::from_vec(alloc, eleven_numbers(alloc)?)?;
-    let last = reduce::<LastOdd>(&rt, alloc, &pool, 0, &list)?;
-    is(&rt, (last, calls.in_all()), (u32::MAX, (8, 8)));
-    Ok(())
-}
-
 impl Led for UpdatesOf<Bound> {
     type Task = ();
 
@@ -234,24 +174,4 @@ impl Led for UpdatesOf<Bound> {
 #[test]
 fn a_leader_updates_a_list_again(rt: HostRuntime) -> Result<(), Fault> {
     in_place::<UpdatesOf<Bound>, _>(&rt, rt.alloc(), 5, &())
-}
-
-impl Led for TotalsOf<LastOdd> {
-    type Task = ();
-
-    type Answer = ();
-
-    fn lead<H: Runs>(rt: &H, alloc: Global, leader: &mut LedBy<Self>, _: &()) -> Result<(), Fault> {
-        let list = SharedList::from_vec(alloc, eleven_numbers(alloc)?)?;
-        let list = list.run(0, list.len())?;
-        for _ in 0..2 {
-            is(rt, leader.reduce(rt, alloc, &list)?, u32::MAX);
-        }
-        Ok(())
-    }
-}
-
-#[test]
-fn a_leader_makes_totals_again(rt: HostRuntime) -> Result<(), Fault> {
-    in_place::<TotalsOf<LastOdd>, _>(&rt, rt.alloc(), 5, &())
 }

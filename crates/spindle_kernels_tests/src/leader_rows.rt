@@ -4,8 +4,9 @@
 ghost use Rattle.std.specs.Prelude.{◌≡◌};
 
 use crate::checks::{are, holds, is};
-use crate::kernel_rows::{LastSecond, Sum};
+use crate::kernel_rows::Sum;
 use crate::leaders::{Led, LedBy, Runs, in_place};
+use crate::list_rows::LastSecond;
 use spindle::kernels::{Again, Mapping, Source};
 use spindle::prelude::*;
 
@@ -45,16 +46,25 @@ impl Led for PairTotalsOf<u32, u32, LastSecond> {
     }
 }
 
-#[test]
-fn a_leader_goes_over_pairs_again(rt: HostRuntime) -> Result<(), Fault> {
-    let alloc = rt.alloc();
+// Five pairs.
+fn five_pairs(alloc: Global) -> Result<PairRun<u32, u32>, Fault> {
     let first = SharedList::from_vec(alloc, vec![in alloc; 3, 1, 4, 1, 5, 9]?)?;
     let second = SharedList::from_vec(alloc, vec![in alloc; 100, 200, 300, 400, 500]?)?;
-    let pairs = PairRun::new(&first, &second)?;
-    let totals = in_place::<PairTotalsOf<u32, u32, LastSecond>, _>(&rt, alloc, 5, &pairs)?;
+    Ok(PairRun::new(&first, &second)?)
+}
+
+#[test]
+fn a_leader_makes_totals_of_pairs_again(rt: HostRuntime) -> Result<(), Fault> {
+    let pairs = five_pairs(rt.alloc())?;
+    let totals = in_place::<PairTotalsOf<u32, u32, LastSecond>, _>(&rt, rt.alloc(), 5, &pairs)?;
     is(&rt, totals, (500, 500));
-    let task = (Shared::new(alloc, Sum)?, pairs);
-    let (sums, pieces) = in_place::<PairMapsOf<u32, u32, Sum>, _>(&rt, alloc, 5, &task)?;
+    Ok(())
+}
+
+#[test]
+fn a_leader_maps_pairs_again(rt: HostRuntime) -> Result<(), Fault> {
+    let task = (Shared::new(rt.alloc(), Sum)?, five_pairs(rt.alloc())?);
+    let (sums, pieces) = in_place::<PairMapsOf<u32, u32, Sum>, _>(&rt, rt.alloc(), 5, &task)?;
     let wanted = [103, 201, 304, 401, 505];
     are(&rt, &sums, &wanted);
     is(&rt, pieces.len(), 5);

@@ -1,5 +1,5 @@
 //! Rows of a map that may fail at an item. No clause says that a refused call has run no job, or that memory which is there is used.
-ghost use Rattle.spindle_tests.specs.Halves.{IsHalf};
+ghost use Rattle.spindle_kernels_tests.specs.Halves.{IsHalf};
 
 use crate::checks::{are, holds, is};
 use crate::leaders::{Led, LedBy, Runs, in_place};

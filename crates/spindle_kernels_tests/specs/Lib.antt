@@ -1,0 +1,3 @@
+-- The definitions that contracts of this crate cite.
+pub mod Last
+pub mod Halves
