@@ -13,14 +13,6 @@ pub fn are<T: Debug + PartialEq>(rt: &impl Abort, found: &[T], wanted: &[T]) {
     assert_eq!(rt; found, wanted);
 }
 
-/// Fails the test in which a list isn't what is wanted, so many times over.
-pub fn repeat<T: Debug + PartialEq>(rt: &impl Abort, found: &[T], wanted: &[T], times: usize) {
-    is(rt, found.len(), wanted.len().wrapping_mul(times));
-    for round in found.chunks(wanted.len().max(1)) {
-        are(rt, round, wanted);
-    }
-}
-
 /// Fails the test in which this isn't so.
 pub fn holds(rt: &impl Abort, it: bool) {
     assert!(rt; it);
