@@ -54,22 +54,27 @@ pub(crate) fn open<
     ensures memory { OnErr result (IsErrOf result Fault.Memory) }
     ensures same { cx.new ≡ cx.old }
 {
-    let site = site_of(cx);
-    let counts = site.counts.nested(max_threads);
+    let (counts, sleep) = (counts_for(cx, max_threads), site_of(cx).sleep);
+    let (child, leader_start) = NestedSlots::open(alloc, counts, sleep.idling(), slots)?;
     if let Some(child_slots) = child_slots_for(cx, counts) {
-        let (child, leader_start) = NestedSlots::open(alloc, counts, site.sleep.idling(), slots)?;
         let request = cx.signals.ask(&*child.shared.tables);
-        if let Some(lease) = ChildLease::take(rt, &child_slots.slots, &child, request, site.sleep) {
-            return Ok(lead(rt, child, leader_start, Some(lease), f));
-        }
+        // Where none is free, the leader works alone at the same tables.
+        let lease = ChildLease::take(rt, &child_slots.slots, &child, request, sleep);
+        return Ok(lead(rt, child, leader_start, lease, f));
     }
-    let (child, leader_start) = NestedSlots::open(
-        alloc,
-        counts.alone(),
-        site.sleep.idling(),
-        slots,
-    )?;
     Ok(lead(rt, child, leader_start, None::<ChildLease<'_, ()>>, f))
+}
+
+// The threads of a lock that the job opens. Its leader is alone where there are no child slots.
+fn counts_for<N: Nest>(cx: &JobCx<'_, N>, max_threads: usize) -> ThreadCounts
+    requires some { 0 < max_threads }
+    ensures { result.most ≡ lock_threads cx.now.pool max_threads }
+{
+    let counts = site_of(cx).counts.nested(max_threads);
+    match child_slots_for(cx, counts) {
+        Some(_) => counts,
+        None => counts.alone(),
+    }
 }
 
 // Runs f with the leader of a lock that nobody leads yet, and closes the lock, if it stands in a child slot.
