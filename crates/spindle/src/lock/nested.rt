@@ -10,7 +10,7 @@ ghost use Rattle.spindle.specs.SlotLeaders.{TakesLeaders, IsLeaderOf, WasLed};
 
 use crate::lock::slot_root::make;
 use crate::prelude::*;
-use spindle_locks::job::context::{child_slots_for, site_of};
+use spindle_locks::job::context::{child_slots_for, counts_for, site_of};
 use spindle_locks::job::nest::Nest;
 use spindle_locks::leader_states::leader_state::{LeaderSeats, SlotShare};
 use spindle_locks::leader_states::opens_slots::MakesSlots;
@@ -63,18 +63,6 @@ pub(crate) fn open<
         return Ok(lead(rt, child, leader_start, lease, f));
     }
     Ok(lead(rt, child, leader_start, None::<ChildLease<'_, ()>>, f))
-}
-
-// The threads of a lock that the job opens. Its leader is alone where there are no child slots.
-fn counts_for<N: Nest>(cx: &JobCx<'_, N>, max_threads: usize) -> ThreadCounts
-    requires some { 0 < max_threads }
-    ensures { result.most ≡ lock_threads cx.now.pool max_threads }
-{
-    let counts = site_of(cx).counts.nested(max_threads);
-    match child_slots_for(cx, counts) {
-        Some(_) => counts,
-        None => counts.alone(),
-    }
 }
 
 // Runs f with the leader of a lock that nobody leads yet, and closes the lock, if it stands in a child slot.

@@ -3,6 +3,8 @@
 //! A job sees of its context what the methods tell. By the functions and `JobSignals` the crates above open locks in jobs, and `spindle`
 //! doesn't give them out.
 ghost use Rattle.std.specs.Prelude.{◌≡◌, ◌+◌, ◌<◌, ◌≤◌, IfSome};
+ghost use Rattle.spindle_rounds.specs.ThreadCounts.{lock_threads};
+ghost use Rattle.spindle_locks.specs.Locks.{nested_workers};
 
 use crate::job::nest::Nest;
 use spindle_rounds::round_table::slots::SlotContents;
@@ -53,8 +55,7 @@ impl<'a, N: Nest> Model for JobCx<'a, N> {
 impl<'a, N: Nest> JobCx<'a, N> {
     ghost use Rattle.spindle_rounds.specs.Accounts.{account_of};
     ghost use Rattle.spindle_rounds.specs.Signals.{AnnouncedRest};
-    ghost use Rattle.spindle_rounds.specs.ThreadCounts.{lock_threads};
-    ghost use Rattle.spindle_locks.specs.Locks.{RunsDirectly, context_at, knowing, nested_workers};
+    ghost use Rattle.spindle_locks.specs.Locks.{RunsDirectly, context_at, knowing};
 
     /// The context of a job that one at this site runs directly.
     pub(crate) fn within(signals: Signals<'a>, site: &JobSite<'a>) -> JobCx<'a, N>
@@ -64,19 +65,6 @@ impl<'a, N: Nest> JobCx<'a, N> {
             child_slots: None,
             signals: JobSignals { signals },
             site: site.within(),
-        }
-    }
-
-    /// The threads of a lock that the job opens. Its leader is alone where there are no child slots.
-    pub(crate) fn counts_for(&self, max_threads: usize) -> ThreadCounts
-        requires some { 0 < max_threads }
-        ensures most { result.most ≡ lock_threads self.now.pool max_threads }
-        ensures workers { result.threads ≡ nested_workers self.now.has_slots result.most }
-    {
-        let counts = self.site.counts.nested(max_threads);
-        match self.child_slots {
-            Some(_) => counts,
-            None => counts.alone(),
         }
     }
 
@@ -121,6 +109,19 @@ pub fn site_of<'a, N: Nest>(cx: &JobCx<'a, N>) -> JobSite<'a>
     ensures pool { result.counts.pool ≡ cx.now.pool }
 {
     cx.site
+}
+
+/// The threads of a lock that the job opens. Its leader is alone where there are no child slots.
+pub fn counts_for<N: Nest>(cx: &JobCx<'_, N>, max_threads: usize) -> ThreadCounts
+    requires some { 0 < max_threads }
+    ensures most { result.most ≡ lock_threads cx.now.pool max_threads }
+    ensures workers { result.threads ≡ nested_workers cx.now.has_slots result.most }
+{
+    let counts = cx.site.counts.nested(max_threads);
+    match cx.child_slots {
+        Some(_) => counts,
+        None => counts.alone(),
+    }
 }
 
 /// The child slots for a lock of so many threads that the job opens, where helpers may come to it.

@@ -10,7 +10,7 @@ ghost use Rattle.std.specs.Arc.{arc_value};
 ghost use Rattle.spindle_rounds.specs.ThreadCounts.{lock_threads};
 ghost use Rattle.spindle_rounds.specs.Opening.{AreSeatsAt};
 
-use crate::job::context::child_slots_for;
+use crate::job::context::{child_slots_for, counts_for};
 use crate::job::gate::NoGate;
 use crate::lock::helper::join_as_leader;
 use crate::lock::leader::{Leader, MOST_JOBS, numbers};
@@ -101,7 +101,7 @@ impl<'a, K: Job> JobCx<'a, Under<K>> {
         ensures memory { OnErr result (IsErrOf result Fault.Memory) }
         ensures same { self.new ≡ self.old }
     {
-        let counts = self.counts_for(max_threads);
+        let counts = counts_for(self, max_threads);
         let sleep = self.site.sleep;
         if let Some(child_slots) = child_slots_for(self, counts) {
             let (child, seats) = Child::open(alloc, counts, sleep.idling())?;

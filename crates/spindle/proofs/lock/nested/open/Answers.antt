@@ -8,10 +8,10 @@ pub returns-in-Some-clause-promise : goal.returns-in-Some-clause-promise
 unfolding WasLed
 returns-in-Some-clause-promise g c =
     let made = c.in_ok-child.ensures in let p = c.lead.ensures in
-    (p.0, p.1, (p.2.0 ∙ (ap (λ (k : ThreadCounts). k.most) made.counts ∙ c.counts_for-counts.ensures), p.2.1 ∙ made.slots), p.3)
+    (p.0, p.1, (p.2.0 ∙ (ap (λ (k : ThreadCounts). k.most) made.counts ∙ c.counts_for-counts.ensures.most), p.2.1 ∙ made.slots), p.3)
 
 pub returns-clause-promise : goal.returns-clause-promise
 unfolding WasLed
 returns-clause-promise g c =
     let made = c.in_ok-child.ensures in let p = c.lead-2.ensures in
-    (p.0, p.1, (p.2.0 ∙ (ap (λ (k : ThreadCounts). k.most) made.counts ∙ c.counts_for-counts.ensures), p.2.1 ∙ made.slots), p.3)
+    (p.0, p.1, (p.2.0 ∙ (ap (λ (k : ThreadCounts). k.most) made.counts ∙ c.counts_for-counts.ensures.most), p.2.1 ∙ made.slots), p.3)
